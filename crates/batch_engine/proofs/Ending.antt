@@ -35,7 +35,7 @@ batch_begins start bytes is = ap (λ s. script_from with_line s bytes) is
 -- The same runs where no output is told: over an output of its own.
 module _ (schema : DatabaseSchema) (world : FactSet) (header : List ℕ) {D : Type 0} {g h : _} (T : Type 0) (Disk : DiskGhosts D)
     (wrote : Type 0) (items : List BatchItem) (old new : List (DeskSeat D g h)) (before after : List ℕ) where
-  pub all_alone : (is_broken : Bool) (all : RunsAll schema world header T Disk wrote items old new is_broken before after)
+  all_alone : (is_broken : Bool) (all : RunsAll schema world header T Disk wrote items old new is_broken before after)
       → RunsAll schema world header T Disk (Unit {0}) items old new is_broken [] all.output
   all_alone is_broken all = record { output = all.output; appended = λ w. refl; runs = all.runs }
 
@@ -80,6 +80,22 @@ told_all schema world header journals policy items output old new refusals is_br
 pub all_of : {X : Type 0} (P : X → Type 0) (xs : List X) → All P xs → AllByRecursion P xs
 all_of P [] all = tt
 all_of P (x ∷ xs) all = (All-head P x xs all, all_of P xs (All-tail P x xs all))
+
+-- What the runs of items from these seats make of the journals once the disks are back: for an output of their own, where all were carried out, and else
+-- for the output that they tell of.
+pub record Finishes (schema : DatabaseSchema) (world : FactSet) (header : List ℕ) {D : Type 0} {g h : _} (T S : Type 0) (Disk : DiskGhosts D)
+    (journals : Journals) (policy : List NamedUser) (seats : List (DeskSeat D g h)) (disk' : Text → Option D) (count' : Text → ℕ) : Type 1 where
+  pub all : (wrote : Type 0) (items : List BatchItem) (new : List (DeskSeat D g h)) (is_broken : Bool) (before after : List ℕ)
+      (refusals : List (Option DeskError))
+      (ran : RunsAll schema world header T Disk wrote items seats new is_broken before after) → AreBack S Disk disk' count' new
+      → refusals ≡ map (λ (x : DeskSeat D g h). x.refusal) new
+      → AppendsAll schema world header journals policy items [] ran.output refusals is_broken
+  pub some : (wrote : Type 0) → wrote → (items : List BatchItem) (new : List (DeskSeat D g h)) (before after : List ℕ)
+      → RunsSome schema world header T Disk wrote items seats new before after → AreBack S Disk disk' count' new
+      → AppendsSome schema world header journals policy items before after
+  pub to : (wrote : Type 0) → wrote → (items : List BatchItem) (new : List (DeskSeat D g h)) (before after : List ℕ)
+      → RunsTo schema world header T Disk wrote items seats new before after → AreBack S Disk disk' count' new
+      → AppendsTo schema world header journals policy items before after
 
 module _ (schema : DatabaseSchema) (world : FactSet) (header directory : List ℕ) {D : Type 0} {g h : _} (T S : Type 0) (t : T) (s : S) (Disk : DiskGhosts D)
     (read_is_image : (d : D) → T → Disk.image d (Disk.reads d)) (only_now : (d : D) (c : List ℕ) → Disk.image_since d (Disk.moment d) c → Disk.image d c)
@@ -143,7 +159,7 @@ module _ (schema : DatabaseSchema) (world : FactSet) (header directory : List �
       (so_far_run st first mid before was runs) carried
 
   -- all items were answered
-  pub finish_all : (wrote : Type 0) → wrote → (items : List BatchItem) (new : List (DeskSeat D g h)) (is_broken : Bool) (before after : List ℕ)
+  finish_all : (wrote : Type 0) → wrote → (items : List BatchItem) (new : List (DeskSeat D g h)) (is_broken : Bool) (before after : List ℕ)
       → RunsAll schema world header T Disk wrote items seats new is_broken before after
       → AreBack S Disk disk' count' new
       → AppendsAll schema world header (journals_by Disk.reads Disk.image Disk.moment Disk.image_since directory disk disk' count count') (map named_user users)
@@ -161,7 +177,7 @@ module _ (schema : DatabaseSchema) (world : FactSet) (header directory : List �
       ) back
 
   -- the items before a restart were
-  pub finish_to : (wrote : Type 0) → wrote → (items : List BatchItem) (new : List (DeskSeat D g h)) (before after : List ℕ)
+  finish_to : (wrote : Type 0) → wrote → (items : List BatchItem) (new : List (DeskSeat D g h)) (before after : List ℕ)
       → RunsTo schema world header T Disk wrote items seats new before after
       → AreBack S Disk disk' count' new
       → AppendsTo schema world header (journals_by Disk.reads Disk.image Disk.moment Disk.image_since directory disk disk' count count') (map named_user users)
@@ -192,7 +208,7 @@ module _ (schema : DatabaseSchema) (world : FactSet) (header directory : List �
       (so_far_run st last.first last.mid output last.was_broken last.runs) last.carried)
 
   -- the first items were
-  pub finish_some : (wrote : Type 0) → wrote → (items : List BatchItem) (new : List (DeskSeat D g h)) (before after : List ℕ)
+  finish_some : (wrote : Type 0) → wrote → (items : List BatchItem) (new : List (DeskSeat D g h)) (before after : List ℕ)
       → RunsSome schema world header T Disk wrote items seats new before after
       → AreBack S Disk disk' count' new
       → AppendsSome schema world header (journals_by Disk.reads Disk.image Disk.moment Disk.image_since directory disk disk' count count')
@@ -206,3 +222,16 @@ module _ (schema : DatabaseSchema) (world : FactSet) (header directory : List �
       (limits_named schema users st.named st.of_policy limits) st.openings st.found st.opened some.front some.back items part.0 before some.output some.line
       after new
       (last_run st some.front new some.output some.line some.is_broken some.runs some.last) back part.1 some.split
+
+  pub finishes : Finishes schema world header T S Disk
+      (journals_by Disk.reads Disk.image Disk.moment Disk.image_since directory disk disk' count count') (map named_user users) seats disk' count'
+  finishes = record {
+    all = λ wrote items new is_broken before after refusals all back are.
+        subst (λ l. AppendsAll schema world header
+        (journals_by Disk.reads Disk.image Disk.moment Disk.image_since directory disk disk' count count') (map named_user users) items [] all.output l
+        is_broken) (sym are)
+        (finish_all (Unit {0}) tt items new is_broken [] all.output
+        (all_alone schema world header T Disk wrote items seats new before after is_broken all) back);
+    some = finish_some;
+    to = finish_to;
+  }

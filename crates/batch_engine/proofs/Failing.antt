@@ -20,7 +20,7 @@ use Rattle.user_desk.specs.declared.standing.Standing.{Standing}
 use Rattle.user_desk.specs.declared.standing.Standing.TheVariants.{Open, Closed, Sealed}
 use Rattle.desk_counter.specs.declared.item.Fixed.{Fixed}
 use Rattle.desk_counter.specs.Lives.{IsAskOf}
-use Rattle.desk_crew.specs.Crew.{seat_user, seat_journal, seat_disk, seat_kept, seat_standing, seat_state, seat_broke, IsToldAt, IsReopened, AreReopened, Tells}
+use Rattle.desk_crew.specs.Crew.{seat_user, seat_journal, seat_disk, seat_standing, seat_state, seat_broke, IsToldAt, IsReopened, AreReopened, Tells}
 use Rattle.desk_crew.specs.Crew.{nobody, here, further}
 use Rattle.desk_crew.specs.Shelved.{AreLater}
 use Rattle.desk_crew.specs.Seats.{DeskSeat}

@@ -1,26 +1,27 @@
 -- Batches are calls of which each goes on with what the one before left.
-use Rattle.std.proofs.Common.{◌≡◌, ◌⊎◌, inl, inr, ℕ, Bool, true, false, List, [], ◌∷◌, ◌++◌, map, refl, sym, ap, subst, ◌∙◌}
-use Rattle.std.specs.Prelude.{Option, Some, is_some, find, bytes_eq, if◌then◌else◌}
+use Rattle.std.proofs.Common.{◌≡◌, ◌⊎◌, inl, inr, ℕ, ◌≤◌, Bool, true, false, List, [], ◌∷◌, map, refl, sym, ap, subst, ◌∙◌}
+use Rattle.std.specs.Prelude.{Option, Some, IfSome, is_some, find, bytes_eq, if◌then◌else◌}
 use Rattle.std.specs.List.{list_any, AllByRecursion}
 use Rattle.std.specs.Cmp.Lexicographic.{same_text}
 use Rattle.cqe_base.specs.Schema.{Text, DatabaseSchema}
 use Rattle.cqe_base.specs.Facts.{FactSet}
 use Rattle.cqe_base.specs.History.{UserProfile}
 use Rattle.cqe_base.specs.Run
-use Rattle.cqe_base.specs.Run.{UserState, standing_open, opening, final_history}
-use Rattle.cqe_base.specs.Transcript.{NamedUser, ScriptEvent, own_events, state_after}
+use Rattle.cqe_base.specs.Run.{Event, UserState, standing_open, opening, after_events, final_history}
+use Rattle.cqe_base.specs.Transcript.{NamedUser, ScriptEvent, own_events}
+use Rattle.cqe_base.proofs.Scripts.{runs_stay_legal}
 use Rattle.user_desk.specs.Lives.{Holds, shown}
-use Rattle.batch_engine.proofs.Along.{goes_on}
 use Rattle.user_desk.specs.Causes.{Opens}
-use Rattle.user_desk.specs.Joining.{Call, IsCallOver}
-use Rattle.user_desk.specs.declared.standing.DeskError.{DeskError}
+use Rattle.user_desk.specs.Joining.{Call, IsCallOver, IsSpanOver, AreOneRun}
 use Rattle.user_desk.proofs.Joining.{calls_join}
 use Rattle.desk_crew.specs.Openings.{OpensWith}
 use Rattle.desk_crew.specs.Shelved.{Journals}
-use Rattle.batch_engine.specs.Batch.{ServesUser, AppendsAll, unopened, with_opening}
+use Rattle.batch_engine.specs.Batch.{ServesUser, AnswersBatch, unopened}
 use Rattle.batch_engine.specs.BatchLines.{BatchItem}
 use Rattle.batch_engine.specs.Lives.{is_opened}
-use Rattle.batch_engine.specs.Joining.{call_of, IsNamed, IsAnsweredTo, BatchesAreCalls, BatchesAreSpans, CutBatchesAreCalls, BatchesJoin}
+use Rattle.batch_engine.specs.Joining.{call_of, cut_call_of, cut_span_of, BatchesAreCalls, BatchesAreSpans, IsCutBatch, CutBatchesAreCalls}
+use Rattle.batch_engine.specs.Joining.{IsNamed, script_of, IsOpenedTo, IsAnsweredTo, IsCutRun, BatchesJoin, CutBatchesJoin}
+use Rattle.batch_engine.proofs.Along.{goes_on}
 
 -- what holds a state holds its entries and the one in flight at any standing
 held_anyhow : (schema : DatabaseSchema) (world : FactSet) (user : UserProfile) (header c : List ℕ) (state : UserState)
@@ -100,66 +101,133 @@ pub batches_are_calls : (journals : Journals) → BatchesAreCalls journals
 batches_are_calls journals schema world header users script user serves held left at =
     is_call schema world header journals users script user serves held left at
 
-pub batches_are_spans : (journals : Journals) → BatchesAreSpans journals
+-- a call over bytes, by the state behind its events, is a part of the history over them
+part_of : (schema : DatabaseSchema) (world : FactSet) (header bytes : List ℕ) (user : NamedUser) (events : List Event) (left : List ℕ)
+    → Opens schema world user.profile header user.opened bytes
+    → Holds schema world user.profile header (after_events schema world user.profile (opening schema world user.profile user.opened) events) left
+    → IsSpanOver schema world user.profile header bytes (cut_span_of schema world user events left)
 unfolding final_history
-batches_are_spans journals schema world header users script user serves held left at =
-    let end = state_after schema world user script in
+part_of schema world header bytes user events left opens holds =
+    let start = opening schema world user.profile user.opened in
     record {
-      opens = opens_at schema world header journals users script user serves held;
-      goes_on = goes_on schema world user.profile (opening schema world user.profile user.opened) (own_events user.name script);
-      legal = serves.legal;
-      holds = held_anyhow schema world user.profile header left end (serves.stands held left at);
+      opens = opens;
+      goes_on = goes_on schema world user.profile start events;
+      legal = runs_stay_legal schema world user.profile user.opened events opens.legal;
+      holds = held_anyhow schema world user.profile header left (after_events schema world user.profile start events) holds;
     }
+
+pub batches_are_spans : (journals : Journals) → BatchesAreSpans journals
+batches_are_spans journals schema world header users script user serves held left at =
+    part_of schema world header (journals.bytes user.name) user (own_events user.name script) left
+    (opens_at schema world header journals users script user serves held) (serves.stands held left at)
 
 pub cut_batches_are_calls : (journals : Journals) → CutBatchesAreCalls journals
 cut_batches_are_calls journals schema world header users script user serves held left at =
     let amid = serves.moments.behind held left at in
+    let opens = opens_at schema world header journals users script user serves held in
     record {
       front = amid.more;
       rest = amid.further;
       split = amid.split;
-      over = record { opens = opens_at schema world header journals users script user serves held; replied = refl; holds = amid.holds };
+      over = record { opens = opens; replied = refl; holds = amid.holds };
+      part = part_of schema world header (journals.bytes user.name) user amid.more left opens amid.holds;
     }
 
--- a batch that was answered, as a call over what the journal of the user's name read
-record Over (schema : DatabaseSchema) (world : FactSet) (header : List ℕ) (journals : Journals) (name : Text) (user : NamedUser) (call : Call) : Type 0 where
-  opens : Opens schema world user.profile header user.opened (journals.bytes name)
-  over : IsCallOver schema world user.profile header (journals.bytes name) call
+-- a batch that was answered, to the user of a name
+module _ (schema : DatabaseSchema) (world : FactSet) (header : List ℕ) (policy : List NamedUser) (journals : Journals) (items : List BatchItem)
+    (written : List ℕ) (answers : AnswersBatch schema world header journals policy items written) (name : Text) (user : NamedUser)
+    (is : IsOpenedTo schema world header policy journals answers name user) where
+  abbrev script : List ScriptEvent
+  script = script_of schema world header policy journals answers
 
-answered_over : (schema : DatabaseSchema) (world : FactSet) (header : List ℕ) (policy : List NamedUser) (journals : Journals) (items : List BatchItem)
-    (old new : List ℕ) (refusals : List (Option DeskError)) (is_broken : Bool)
-    (all : AppendsAll schema world header journals policy items old new refusals is_broken) (name : Text) (left : List ℕ) (user : NamedUser) (call : Call)
-    → IsAnsweredTo schema world header policy journals all name left user call → Over schema world header journals name user call
-answered_over schema world header policy journals items old new refusals is_broken all name left user call is =
-    let script = with_opening all.answers.found all.answers.opened all.answers.events in
-    let users = all.answers.users in
-    let serves : ServesUser schema world header journals users script user =
-    found_of (ServesUser schema world header journals users script) name users user all.answers.each_user is.named in
-    let named : user.name ≡ name = found_name name users user is.named in
-    let over : IsCallOver schema world user.profile header (journals.bytes user.name) (call_of schema world users script user left) =
-    is_call schema world header journals users script user serves is.held left (subst (λ n. journals.image n left) (sym named) is.leaves) in
-    record {
-      opens = subst (λ n. Opens schema world user.profile header user.opened (journals.bytes n)) named
-          (opens_at schema world header journals users script user serves is.held);
-      over = subst (λ (k : Call). IsCallOver schema world user.profile header (journals.bytes name) k) (sym is.call_is)
-          (subst (λ n. IsCallOver schema world user.profile header (journals.bytes n) (call_of schema world users script user left)) named over);
-    }
+  serves_him : ServesUser schema world header journals answers.users script user
+  serves_him = found_of (ServesUser schema world header journals answers.users script) name answers.users user answers.each_user is.named
+
+  named_so : user.name ≡ name
+  named_so = found_name name answers.users user is.named
+
+  opens_his : Opens schema world user.profile header user.opened (journals.bytes name)
+  opens_his = subst (λ n. Opens schema world user.profile header user.opened (journals.bytes n)) named_so
+      (opens_at schema world header journals answers.users script user serves_him is.held)
+
+  -- it is a call over what his journal read
+  call_over : (left : List ℕ) → journals.image name left
+      → IsCallOver schema world user.profile header (journals.bytes name) (call_of schema world answers.users script user left)
+  call_over left at = subst (λ n. IsCallOver schema world user.profile header (journals.bytes n) (call_of schema world answers.users script user left)) named_so
+      (is_call schema world header journals answers.users script user serves_him is.held left (subst (λ n. journals.image n left) (sym named_so) at))
+
+  -- since the call began a crash could leave what it could before, or left it behind the opening
+  along : (begun : ℕ) (left : List ℕ) → journals.began name ≡ Some begun → journals.since name begun left
+      → journals.image_before name left ⊎ journals.since user.name serves_him.moments.opening left
+  along begun left began at = by (known.1 left at)
+    where
+      Since : Option ℕ → Type 0
+      Since start = IfSome start (λ t. (t ≤ serves_him.moments.opening)
+          × ((c : List ℕ) → journals.since name t c → journals.image_before name c ⊎ journals.since name serves_him.moments.opening c))
+
+      known : Since (Some begun)
+      known = subst Since began (subst (λ n. IfSome (journals.began n) (λ t. (t ≤ serves_him.moments.opening)
+          × ((c : List ℕ) → journals.since n t c → journals.image_before n c ⊎ journals.since n serves_him.moments.opening c))) named_so
+          serves_him.moments.before)
+
+      by : journals.image_before name left ⊎ journals.since name serves_him.moments.opening left
+          → journals.image_before name left ⊎ journals.since user.name serves_him.moments.opening left
+      by (inl old) = inl old
+      by (inr since) = inr (subst (λ n. journals.since n serves_him.moments.opening left) (sym named_so) since)
+
+  -- it is a call with some first of his events, where a crash cut it
+  cut_at : (left : List ℕ) → journals.since user.name serves_him.moments.opening left → IsCutBatch journals schema world header script user left
+  cut_at left at = cut_batches_are_calls journals schema world header answers.users script user serves_him is.held left at
+
+-- two batches that were answered over the journals of one policy
+module _ (schema : DatabaseSchema) (world : FactSet) (header : List ℕ) (policy : List NamedUser) (journals journals' : Journals)
+    (items items' : List BatchItem) (written written' : List ℕ) (one : AnswersBatch schema world header journals policy items written)
+    (two : AnswersBatch schema world header journals' policy items' written') (name : Text) (left : List ℕ) (first second : NamedUser) (call' : Call)
+    (is : IsOpenedTo schema world header policy journals one name first)
+    (is' : IsAnsweredTo schema world header policy journals' two name left second call') where
+  -- the second is a call over what his journal read as it began
+  second_over : IsCallOver schema world first.profile header (journals'.bytes name) call'
+  second_over =
+      let profile : second.profile ≡ first.profile =
+      same_profile name one.users two.users first second (one.of_policy ∙ sym two.of_policy) is.named is'.opened.named in
+      subst (λ (k : Call). IsCallOver schema world first.profile header (journals'.bytes name) k) (sym is'.call_is)
+      (subst (λ p. IsCallOver schema world p header (journals'.bytes name)
+      (call_of schema world two.users (script_of schema world header policy journals' two) second left)) profile
+      (call_over schema world header policy journals' items' written' two name second is'.opened left is'.leaves))
+
+  -- so both are one run, where the first left what it began with
+  run_of : (call : Call) → call.left ≡ journals'.bytes name → IsCallOver schema world first.profile header (journals.bytes name) call
+      → AreOneRun schema world first.profile header (journals.bytes name) first.opened (call ∷ call' ∷ [])
+  run_of call leaves over =
+      calls_join schema world first.profile header (journals.bytes name) first.opened (call ∷ call' ∷ [])
+      (opens_his schema world header policy journals items written one name first is)
+      (over, (subst (λ b. IsCallOver schema world first.profile header b call') (sym leaves) second_over, tt))
+
+  cut_run : journals.image_before name (journals'.bytes name)
+      ⊎ journals.since first.name (serves_him schema world header policy journals items written one name first is).moments.opening (journals'.bytes name)
+      → journals.image_before name (journals'.bytes name) ⊎ IsCutRun schema world header policy journals one name (journals'.bytes name) first call'
+  cut_run (inl old) = inl old
+  cut_run (inr since) =
+      let cut = cut_at schema world header policy journals items written one name first is (journals'.bytes name) since in
+      inr (record {
+        front = cut.front;
+        rest = cut.rest;
+        split = cut.split;
+        run = run_of (cut_call_of schema world first cut.front (journals'.bytes name)) refl
+            (subst (λ n. IsCallOver schema world first.profile header (journals.bytes n) (cut_call_of schema world first cut.front (journals'.bytes name)))
+            (named_so schema world header policy journals items written one name first is) cut.over);
+      })
 
 pub batches_join : (schema : DatabaseSchema) (world : FactSet) (header : List ℕ) (policy : List NamedUser) (journals journals' : Journals)
     → BatchesJoin schema world header policy journals journals'
-batches_join schema world header policy journals journals' items items' old new old' new' refusals refusals' is_broken is_broken' one two name left first second
-    call call' is is' =
-    let at : Over schema world header journals name first call =
-    answered_over schema world header policy journals items old new refusals is_broken one name (journals'.bytes name) first call is in
-    let at' : Over schema world header journals' name second call' =
-    answered_over schema world header policy journals' items' old' new' refusals' is_broken' two name left second call' is' in
-    let profile : second.profile ≡ first.profile =
-    same_profile name one.answers.users two.answers.users first second (one.answers.of_policy ∙ sym two.answers.of_policy) is.named is'.named in
-    calls_join schema world first.profile header (journals.bytes name) first.opened (call ∷ call' ∷ []) at.opens (
-      at.over,
-      (
-        subst (λ b. IsCallOver schema world first.profile header b call') (sym (ap (λ (k : Call). k.left) is.call_is))
-            (subst (λ p. IsCallOver schema world p header (journals'.bytes name) call') profile at'.over),
-        tt,
-      ),
-    )
+batches_join schema world header policy journals journals' items items' written written' one two name left first second call call' is is' =
+    run_of schema world header policy journals journals' items items' written written' one two name left first second call' is.opened is' call
+    (ap (λ (k : Call). k.left) is.call_is)
+    (subst (λ (k : Call). IsCallOver schema world first.profile header (journals.bytes name) k) (sym is.call_is)
+    (call_over schema world header policy journals items written one name first is.opened (journals'.bytes name) is.leaves))
+
+pub cut_batches_join : (schema : DatabaseSchema) (world : FactSet) (header : List ℕ) (policy : List NamedUser) (journals journals' : Journals)
+    → CutBatchesJoin schema world header policy journals journals'
+cut_batches_join schema world header policy journals journals' items items' written written' one two name left first second call' cut is' =
+    cut_run schema world header policy journals journals' items items' written written' one two name left first second call' cut.opened is'
+    (along schema world header policy journals items written one name first cut.opened cut.begun (journals'.bytes name) cut.began cut.leaves)

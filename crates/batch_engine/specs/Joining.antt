@@ -1,15 +1,14 @@
 -- Batches over the same files, of which each begins with what the one before left.
-use Rattle.std.specs.Prelude.{◌≡◌, ℕ, Bool, true, List, [], ◌∷◌, ◌++◌, Option, Some, find, bytes_eq}
+use Rattle.std.specs.Prelude.{◌≡◌, ◌⊎◌, ℕ, true, List, [], ◌∷◌, ◌++◌, Some, find, bytes_eq}
 use Rattle.std.specs.List.{list_any}
 use Rattle.cqe_base.specs.Schema.{Text, DatabaseSchema}
 use Rattle.cqe_base.specs.Facts.{FactSet}
-use Rattle.cqe_base.specs.Run.{Event, UserState, replies}
+use Rattle.cqe_base.specs.Run.{Event, UserState, opening, after_events, replies}
 use Rattle.cqe_base.specs.Transcript.{NamedUser, ScriptEvent, own_events, own_replies, transcript}
 use Rattle.cqe_base.specs.Transcript.{state_after}
 use Rattle.user_desk.specs.Joining.{Call, IsCallOver, AreOneRun, Span, IsSpanOver}
-use Rattle.user_desk.specs.declared.standing.DeskError.{DeskError}
 use Rattle.desk_crew.specs.Shelved.{Journals}
-use Rattle.batch_engine.specs.Batch.{ServesUser, AppendsAll, with_opening}
+use Rattle.batch_engine.specs.Batch.{ServesUser, AnswersBatch, with_opening}
 use Rattle.batch_engine.specs.BatchLines.{BatchItem}
 use Rattle.batch_engine.specs.Lives.{is_opened}
 
@@ -41,6 +40,11 @@ cut_call_of schema world user front left = record {
   left = left;
 }
 
+-- the same as a part of his history, by the state behind these of his events
+abbrev pub cut_span_of : DatabaseSchema → FactSet → NamedUser → List Event → List ℕ → Span
+cut_span_of schema world user front left = span_of (after_events schema world user.profile
+    (opening schema world user.profile user.opened) front) user left
+
 module _ (journals : Journals) where
   -- Where an opening of his journal held, a batch is a call over what his journal read as it began,
   -- whatever a crash leaves of it as the batch ends.
@@ -66,7 +70,7 @@ module _ (journals : Journals) where
       (span_of (state_after schema world user script) user left)
 
   -- A batch was cut at a moment at which a crash could leave these bytes: it is a call with some of
-  -- his events, the first.
+  -- his events, the first, and a part of his history.
   pub record IsCutBatch (schema : DatabaseSchema) (world : FactSet) (header : List ℕ)
       (script : List ScriptEvent) (user : NamedUser) (left : List ℕ) : Type 0 where
     pub front : List Event
@@ -74,6 +78,8 @@ module _ (journals : Journals) where
     pub split : own_events user.name script ≡ front ++ rest
     pub over : IsCallOver schema world user.profile header (journals.bytes user.name)
         (cut_call_of schema world user front left)
+    pub part : IsSpanOver schema world user.profile header (journals.bytes user.name)
+        (cut_span_of schema world user front left)
 
   -- so it is at each moment since his journal was first opened
   abbrev pub CutBatchesAreCalls : Type 0
@@ -91,28 +97,62 @@ IsNamed name users user = find (λ u. bytes_eq u.name name) users ≡ Some user
 
 module _ (schema : DatabaseSchema) (world : FactSet) (header : List ℕ)
     (policy : List NamedUser) where
-  -- what a batch that was answered is to the user of a name in whose script an opening of his
-  -- journal held, and to whom a crash left these bytes
-  pub record IsAnsweredTo (journals : Journals) {items : List BatchItem} {old new : List ℕ}
-      {refusals : List (Option DeskError)} {is_broken : Bool}
-      (all : AppendsAll schema world header journals policy items old new refusals is_broken)
-      (name : Text) (left : List ℕ) (user : NamedUser) (call : Call) : Type 0 where
-    pub named : IsNamed name all.answers.users user
-    pub held : list_any is_opened (own_events user.name
-        (with_opening all.answers.found all.answers.opened all.answers.events)) ≡ true
-    pub leaves : journals.image name left
-    pub call_is : call ≡ call_of schema world all.answers.users
-        (with_opening all.answers.found all.answers.opened all.answers.events) user left
+  module _ (journals : Journals) {items : List BatchItem} {written : List ℕ}
+      (answers : AnswersBatch schema world header journals policy items written) where
+    -- the script of a batch that was answered, or of those of its items that were
+    abbrev pub script_of : List ScriptEvent
+    script_of = with_opening answers.found answers.opened answers.events
 
-  -- Two batches of one policy were answered, the second over what a crash left as the first ended.
-  -- All that both told a user are the replies of one run, whose history is legal and hides.
+    -- who has this name in it, and an opening of his journal held
+    pub record IsOpenedTo (name : Text) (user : NamedUser) : Type 0 where
+      pub named : IsNamed name answers.users user
+      pub held : list_any is_opened (own_events user.name script_of) ≡ true
+
+    -- what the batch is to him, where a crash left him these bytes as it ended
+    pub record IsAnsweredTo (name : Text) (left : List ℕ) (user : NamedUser) (call : Call)
+        : Type 0 where
+      pub opened : IsOpenedTo name user
+      pub leaves : journals.image name left
+      pub call_is : call ≡ call_of schema world answers.users script_of user left
+
+    -- a crash at a moment of the batch could leave him these bytes
+    pub record IsCutFor (name : Text) (left : List ℕ) (user : NamedUser) : Type 0 where
+      pub opened : IsOpenedTo name user
+      pub begun : ℕ
+      pub began : journals.began name ≡ Some begun
+      pub leaves : journals.since name begun left
+
+    -- the batch, cut behind some first of his events, and one more call are one run
+    pub record IsCutRun (name : Text) (left : List ℕ) (user : NamedUser) (next : Call)
+        : Type 0 where
+      pub front : List Event
+      pub rest : List Event
+      pub split : own_events user.name script_of ≡ front ++ rest
+      pub run : AreOneRun schema world user.profile header (journals.bytes name) user.opened
+          (cut_call_of schema world user front left ∷ next ∷ [])
+
+  -- Two batches of one policy were answered, whole or in part, the second over what a crash left as
+  -- the first ended. To a user they are one run.
   abbrev pub BatchesJoin : Journals → Journals → Type 0
   BatchesJoin journals journals' =
-      (items items' : List BatchItem) (old new old' new' : List ℕ)
-      (refusals refusals' : List (Option DeskError)) (is_broken is_broken' : Bool)
-      (one : AppendsAll schema world header journals policy items old new refusals is_broken)
-      (two : AppendsAll schema world header journals' policy items' old' new' refusals' is_broken')
+      (items items' : List BatchItem) (written written' : List ℕ)
+      (one : AnswersBatch schema world header journals policy items written)
+      (two : AnswersBatch schema world header journals' policy items' written')
       (name : Text) (left : List ℕ) (first second : NamedUser) (call call' : Call)
       → IsAnsweredTo journals one name (journals'.bytes name) first call
       → IsAnsweredTo journals' two name left second call'
-      → AreOneRun schema world first.profile header first.opened (call ∷ call' ∷ [])
+      → AreOneRun schema world first.profile header (journals.bytes name) first.opened
+      (call ∷ call' ∷ [])
+
+  -- So they are where the second began with what a crash left at a moment of the first, unless that
+  -- is what it could leave as the first began.
+  abbrev pub CutBatchesJoin : Journals → Journals → Type 0
+  CutBatchesJoin journals journals' =
+      (items items' : List BatchItem) (written written' : List ℕ)
+      (one : AnswersBatch schema world header journals policy items written)
+      (two : AnswersBatch schema world header journals' policy items' written')
+      (name : Text) (left : List ℕ) (first second : NamedUser) (call' : Call)
+      → IsCutFor journals one name (journals'.bytes name) first
+      → IsAnsweredTo journals' two name left second call'
+      → journals.image_before name (journals'.bytes name)
+      ⊎ IsCutRun journals one name (journals'.bytes name) first call'

@@ -5,15 +5,16 @@ ghost use Rattle.cqe_base.specs.Transcript.{NamedUser};
 ghost use Rattle.std.specs.Prelude.{List, ℕ};
 ghost use Rattle.desk_crew.specs.Shelved.{journals_on};
 ghost use Rattle.batch_engine.specs.Joining.{BatchesAreCalls, BatchesAreSpans, BatchesJoin};
-ghost use Rattle.batch_engine.specs.Joining.{CutBatchesAreCalls};
+ghost use Rattle.batch_engine.specs.Joining.{CutBatchesAreCalls, CutBatchesJoin};
 
 use outside::Shelf;
 
 /// Of two batches, by what their shelves held before and behind each. Where an opening of a user's
 /// journal held, a batch is a call to him over what his journal read as it began, whatever a crash
 /// leaves as it ends; and a batch that a crash cut at any moment since is one with some first of
-/// his events. So by `user_desk::laws::law_lives_join` any list of batches and crashes is one run;
-/// two that were answered are said to be one here.
+/// his events. Each is a part of his one history, too. So by `user_desk::laws::law_lives_join` any
+/// list of batches and crashes is one run. Of two that were answered, to the end or until a write
+/// failed or memory was wanting, it is said here, with a crash behind the first or in its midst.
 pub fn law_batches_join<F: Shelf>(before: &F, behind: &F, later_before: &F, later_behind: &F)
     ensures calls { (directory : Text) → BatchesAreCalls
         (journals_on F.Shelf F.D.Disk directory before.now behind.now) }
@@ -23,6 +24,10 @@ pub fn law_batches_join<F: Shelf>(before: &F, behind: &F, later_before: &F, late
         (journals_on F.Shelf F.D.Disk directory before.now behind.now) }
     ensures joined { (directory : Text) (schema : DatabaseSchema) (world : FactSet)
         (header : List ℕ) (policy : List NamedUser) → BatchesJoin schema world header policy
+        (journals_on F.Shelf F.D.Disk directory before.now behind.now)
+        (journals_on F.Shelf F.D.Disk directory later_before.now later_behind.now) }
+    ensures cut_joined { (directory : Text) (schema : DatabaseSchema) (world : FactSet)
+        (header : List ℕ) (policy : List NamedUser) → CutBatchesJoin schema world header policy
         (journals_on F.Shelf F.D.Disk directory before.now behind.now)
         (journals_on F.Shelf F.D.Disk directory later_before.now later_behind.now) }
 {}

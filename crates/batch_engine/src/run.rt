@@ -26,7 +26,6 @@ ghost use Rattle.batch_engine.specs.Batch.{EndsBatch, LeavesJournals, IsUnopened
 ghost use Rattle.batch_engine.specs.declared.run.BatchEnd.{BatchEnd};
 
 use crate::batch::{Batch, BatchAsk, BatchItem};
-use case_engine::line_reply;
 use cqe_base::laws::{law_legal_grows, law_private, law_runs_legal, law_scripts_hide};
 use cqe_base::text::ScriptError;
 use desk_counter::{Owned, TicketedDesk};
@@ -42,7 +41,7 @@ use std::alloc::Global;
 use std::sync::Wait;
 use user_desk::DeskError;
 use user_desk::laws::law_openings;
-use user_log::Reply;
+use user_log::{Reply, line_reply};
 
 /// How a batch ends.
 #[derive(Debug, Drop)]

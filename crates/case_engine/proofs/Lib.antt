@@ -8,6 +8,5 @@ pub mod Replying
 pub mod Admitting
 pub mod Telling
 pub mod Ending
-pub mod TwoDigits
 pub mod Beginning
 pub mod Parting

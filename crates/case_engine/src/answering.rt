@@ -4,8 +4,6 @@ ghost use Rattle.std.specs.Prelude.{◌≡◌, ◌≤◌, true, IfOk, length, ma
 ghost use Rattle.std.specs.Prelude.{vec_len};
 ghost use Rattle.std.specs.List.{list_all};
 ghost use Rattle.outside.specs.Faults.{Rose};
-ghost use Rattle.cqe_base.specs.Transcript.{reply_text};
-ghost use Rattle.line_protocol.specs.Replies.{text_of};
 ghost use Rattle.user_log.specs.Replies.{reply_of};
 ghost use Rattle.user_log.specs.UserLogs.{kept_schema, kept_world, kept_user, kept_history};
 ghost use Rattle.user_log.specs.UserLogs.{IsOfSame};
@@ -26,29 +24,10 @@ use cqe_base::world::World;
 use line_protocol::write_reply;
 use outside::{Failed, Sink};
 use std::alloc::{AllocError, Global};
-use user_log::{Reply, UserLog};
-
-/// A reply in the words of the line protocol.
-pub fn line_reply(reply: Reply) -> line_protocol::Reply
-    ensures { text_of result ≡ reply_text (reply_of reply) }
-{
-    match reply {
-        Reply::Mark(mark) => line_protocol::Reply::Mark(mark),
-        Reply::Syntax(error) => line_protocol::Reply::Syntax {
-            kind: error.kind,
-            place: error.place,
-        },
-        Reply::Size => line_protocol::Reply::Code(21),
-        Reply::Full => line_protocol::Reply::Code(22),
-        Reply::Closed => line_protocol::Reply::Code(24),
-        Reply::Broken => line_protocol::Reply::Code(40),
-        Reply::Sealed => line_protocol::Reply::Code(41),
-        Reply::Memory => line_protocol::Reply::Code(50),
-    }
-}
+use user_log::{Reply, UserLog, line_reply};
 
 /// The reply to one text: by the user's log where he is admitted, else that he isn't.
-pub fn told(alloc: Global, log: &mut UserLog<'_>, is_open: bool, text: &str) -> Reply
+fn told(alloc: Global, log: &mut UserLog<'_>, is_open: bool, text: &str) -> Reply
     requires { length text.now ≤ 4096 }
     ensures same { IsOfSame log.old log.new }
     ensures told { IsTold is_open (kept_schema log.old) (kept_world log.old) (kept_user log.old)
@@ -62,7 +41,7 @@ pub fn told(alloc: Global, log: &mut UserLog<'_>, is_open: bool, text: &str) -> 
 }
 
 /// Whether a user is admitted in a database.
-pub fn is_admitted(
+fn is_admitted(
     alloc: Global,
     schema: &Schema,
     facts: &World,

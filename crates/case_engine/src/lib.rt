@@ -15,6 +15,5 @@ mod parts;
 mod script;
 mod statement;
 
-pub use answering::{is_admitted, line_reply, told};
 pub use case::{CaseEnd, run_case};
 pub use statement::Statement;

@@ -2,8 +2,8 @@
 use Rattle.std.proofs.Common.{◌≡◌, ℕ, zero, suc, ◌-◌, ◌<◌, ◌≤◌, Bool, true, false, cond, leb, ltb, eqb, List, [], ◌∷◌, ◌++◌, length, get_or, set, take}
 use Rattle.std.proofs.Common.{drop, Option, Some, None, refl, sym, ap, ◌∙◌, subst, inl, inr, ⊎_elim, arith, append-nil}
 use Rattle.std.specs.Prelude.{IfSome, IfNone}
-use Rattle.std.specs.List.{AllByRecursion, list_all}
-use Rattle.std.proofs.lemmas.Bool.{both_ways, cases_eq, cases_lt, false_from_ne_true, or_cases, or_left, or_right, and_parts, lt-ltb, ltb-true, eqb-true}
+use Rattle.std.specs.List.{AllByRecursion}
+use Rattle.std.proofs.lemmas.Bool.{both_ways, cases_eq, cases_lt, false_from_ne_true, or_cases, or_left, or_right, lt-ltb, ltb-true, eqb-true}
 use Rattle.std.proofs.lemmas.List.{get_or-set_same, get_or-set_other, get_or_append_left, get_or_past, get_or-take, length-take-le}
 use Rattle.std.proofs.lemmas.List.Folds.{list_any-append}
 use Rattle.cqe_base.specs.Literal.{Literal, opposite, same_literal, has_literal, ClausesBelow}
@@ -183,14 +183,6 @@ module _ (count : ℕ) where
           → AllByRecursion Q (cond b (w ∷ watches_below count ws) (watches_below count ws))
       step true e rest = (f w (ltb-true w.clause count e) h.0, rest)
       step false e rest = rest
-
--- a list of which all watches are of the first clauses
-pub kept_whole : (count : ℕ) (watches : List Watch) → list_all (λ w. ltb w.clause count) watches ≡ true → watches ≡ watches_below count watches
-kept_whole count [] e = refl
-kept_whole count (w ∷ watches) e =
-    let parts : (ltb w.clause count ≡ true) × (list_all (λ v. ltb v.clause count) watches ≡ true) = and_parts _ _ e in
-    ap (λ rest. w ∷ rest) (kept_whole count watches parts.1)
-    ∙ sym (ap (λ b. cond b (w ∷ watches_below count watches) (watches_below count watches)) parts.0)
 
 module _ (n : ℕ) (t oldest : List Assigned) (cs : List (List Literal)) (lists lists' : List (List Watch)) (pairs : List Pair) (units : List ℕ)
     (falsified : Option ℕ) (g : Literal) (count : ℕ) (before : IsWatching n t cs lists pairs units falsified g []) (within : count ≤ length cs)

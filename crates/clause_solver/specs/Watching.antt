@@ -165,19 +165,31 @@ abbrev pub StaysBelow : ℕ → (old new : List (List Watch)) → ℕ → Type 0
 StaysBelow count old new k =
     slice_index_or new k [] ≡ watches_below count (slice_index_or old k [])
 
--- or all of them stay
-abbrev pub StaysOrBelow : ℕ → (old new : List (List Watch)) → ℕ → Type 0
-StaysOrBelow count old new k =
-    (slice_index_or new k [] ≡ slice_index_or old k []) ⊎ StaysBelow count old new k
+-- how many watches in a list are of clauses from this number on
+abbrev pub times_later : ℕ → List Watch → ℕ
+times_later count [] = 0
+times_later count (w ∷ watches) = one_if (not (nat_lt w.clause count)) + times_later count watches
 
--- The clauses from this number on leave the lists of the literals that they watch. No list loses
--- a watch of another clause.
-pub record HaveLeft (count : ℕ) (pairs : List Pair) (old new : List (List Watch)) : Type 0 where
-  pub first : (i : ℕ) → count ≤ i → i < length pairs
-      → StaysBelow count old new (code_of (slice_index_or pairs i no_pair).first)
-  pub second : (i : ℕ) → count ≤ i → i < length pairs
-      → StaysBelow count old new (code_of (slice_index_or pairs i no_pair).second)
-  pub others : (k : ℕ) → StaysOrBelow count old new k
+-- the watch at this place of a list is of a clause from this number on
+pub record IsLater (count : ℕ) (watches : List Watch) (place : ℕ) : Type 0 where
+  pub within : place < length watches
+  pub later : (w : Watch) → count ≤ (slice_index_or watches place w).clause
+
+-- A list loses so many watches of clauses from this number on, or all of them where they are fewer.
+-- It loses no other.
+pub record LosesLater (count lost : ℕ) (old new : List Watch) : Type 0 where
+  pub below : watches_below count new ≡ watches_below count old
+  pub fewer : (left : ℕ) → times_later count old ≤ lost + left → times_later count new ≤ left
+
+-- how many of the literals that some clauses watch are this one
+abbrev pub times_watched_by : List Pair → Literal → ℕ
+times_watched_by [] l = 0
+times_watched_by (pair ∷ pairs) l = times_watched pair l + times_watched_by pairs l
+
+-- the list of each literal loses so many watches of clauses from this number on
+abbrev pub HaveLeft : ℕ → (Literal → ℕ) → (old new : List (List Watch)) → Type 0
+HaveLeft count lost old new = (l : Literal) → LosesLater count (lost l)
+    (slice_index_or old (code_of l) []) (slice_index_or new (code_of l) [])
 
 -- a clause watches this literal and that other one
 abbrev pub WatchesBeside : Pair → Literal → Literal → Type 0

@@ -1,7 +1,7 @@
 //! Two watched literals of each clause, and the clauses that became unit or falsified since the
 //! last decision.
 
-ghost use Rattle.std.specs.List.{find, list_all};
+ghost use Rattle.std.specs.List.{find};
 ghost use Rattle.std.specs.List.Sorted.{IsPermutation};
 ghost use Rattle.cqe_base.specs.Literal.{Literal, variable_of, same_literal, ClauseBelow};
 ghost use Rattle.cqe_base.specs.Literal.{ClausesBelow};
@@ -10,13 +10,13 @@ ghost use Rattle.clause_store.specs.Codes.{code_of};
 ghost use Rattle.clause_solver.specs.Watching.{IsWatching, IsWatched, HaveSameLiterals};
 ghost use Rattle.clause_solver.specs.Watching.{WatchesBeside, kept_with, no_pair, lowest};
 ghost use Rattle.clause_solver.specs.Watching.{is_caught, has_number, IsLeast, DropsLeast};
-ghost use Rattle.clause_solver.specs.Watching.{IsOpenOf, AreClosed, AllFalseBut, watches_below};
-ghost use Rattle.clause_solver.specs.Watching.{StaysBelow, StaysOrBelow, HaveLeft};
+ghost use Rattle.clause_solver.specs.Watching.{IsOpenOf, AreClosed, AllFalseBut, one_if};
+ghost use Rattle.clause_solver.specs.Watching.{times_later, times_watched, times_watched_by};
+ghost use Rattle.clause_solver.specs.Watching.{IsLater, LosesLater, HaveLeft};
 ghost use Rattle.clause_solver.specs.WatchesInside.{AreWatches, lists_of, units_of};
 ghost use Rattle.clause_solver.specs.WatchesInside.{AreWatchedUnder, KeepsWatched};
 ghost use Rattle.std.specs.Prelude.{true, false, not, ◌&&◌, ◌||◌, ◌==◌, List, None, map, replicate};
 ghost use Rattle.std.specs.Prelude.{take, drop, slice_set, slice_index_or, ◌≡◌, ℕ, ◌<◌, ◌≤◌, ◌+◌};
-ghost use Rattle.std.specs.Prelude.{nat_lt};
 ghost use Rattle.std.specs.Prelude.{◌*◌, ◌^◌, [], ◌∷◌, ◌++◌, length, IfOk, IfSome, IfNone};
 
 use crate::assignment::Assignment;
@@ -432,60 +432,60 @@ fn sort_clause(sorted: &mut Vec<Lit>, clause: &[Lit]) -> Result<(), AllocError>
 /// The clauses from this number on leave the lists of the literals that they watch. No other list
 /// is looked at.
 fn leave(lists: &mut Vec<Vec<Watch>>, pairs: &Vec<Pair>, clauses: usize)
-    ensures left { HaveLeft clauses pairs.now.items (map (λ v. v.items) lists.old.items)
-        (map (λ v. v.items) lists.new.items) }
+    ensures left { HaveLeft clauses (times_watched_by (drop clauses pairs.now.items))
+        (map (λ v. v.items) lists.old.items) (map (λ v. v.items) lists.new.items) }
     ensures length { length lists.new.items ≡ length lists.old.items }
 {
     for i in clauses..pairs.len() {
-        keep_pair_below(lists, &pairs[i], clauses);
+        leave_pair(lists, &pairs[i], clauses);
     }
 }
 
-/// Of the watches of two literals those of the first clauses, so many, stay.
-fn keep_pair_below(lists: &mut Vec<Vec<Watch>>, pair: &Pair, clauses: usize)
-    ensures first { StaysBelow clauses (map (λ v. v.items) lists.old.items)
-        (map (λ v. v.items) lists.new.items) (code_of pair.now.first) }
-    ensures second { StaysBelow clauses (map (λ v. v.items) lists.old.items)
-        (map (λ v. v.items) lists.new.items) (code_of pair.now.second) }
-    ensures others { (k : ℕ) → StaysOrBelow clauses (map (λ v. v.items) lists.old.items)
-        (map (λ v. v.items) lists.new.items) k }
+/// One clause from this number on leaves the lists of the two literals that it watches. Which one
+/// it is doesn't matter, since all of them leave.
+fn leave_pair(lists: &mut Vec<Vec<Watch>>, pair: &Pair, clauses: usize)
+    ensures left { HaveLeft clauses (times_watched pair.now)
+        (map (λ v. v.items) lists.old.items) (map (λ v. v.items) lists.new.items) }
     ensures length { length lists.new.items ≡ length lists.old.items }
 {
-    keep_literal_below(lists, pair.first, clauses);
-    keep_literal_below(lists, pair.second, clauses);
+    leave_literal(lists, pair.first, clauses);
+    leave_literal(lists, pair.second, clauses);
 }
 
 /// The same of one literal, which may have no list.
-fn keep_literal_below(lists: &mut Vec<Vec<Watch>>, literal: Lit, clauses: usize)
-    ensures here { StaysBelow clauses (map (λ v. v.items) lists.old.items)
-        (map (λ v. v.items) lists.new.items) (code_of literal) }
-    ensures others { (k : ℕ) → StaysOrBelow clauses (map (λ v. v.items) lists.old.items)
-        (map (λ v. v.items) lists.new.items) k }
+fn leave_literal(lists: &mut Vec<Vec<Watch>>, literal: Lit, clauses: usize)
+    ensures left { HaveLeft clauses (λ l. one_if (same_literal literal l))
+        (map (λ v. v.items) lists.old.items) (map (λ v. v.items) lists.new.items) }
     ensures length { length lists.new.items ≡ length lists.old.items }
 {
     let place = code(literal);
     if place >= lists.len() {
         return;
     }
-    keep_list_below(&mut lists[place], clauses);
+    leave_list(&mut lists[place], clauses);
 }
 
-/// Of the watches in a list those of the first clauses, so many, stay.
-fn keep_list_below(list: &mut Vec<Watch>, clauses: usize)
-    ensures { list.new.items ≡ watches_below clauses list.old.items }
+/// Of the watches of the clauses from this number on the last one leaves a list.
+fn leave_list(list: &mut Vec<Watch>, clauses: usize)
+    ensures { LosesLater clauses 1 list.old.items list.new.items }
 {
-    // Most lists have nothing to lose, and to look is cheaper than to move.
-    if is_below(list, clauses) {
-        return;
+    if let Some(place) = last_later(list, clauses) {
+        let _watch = list.remove(place);
     }
-    list.retain(|w| (w.clause as usize) < clauses);
 }
 
-/// Whether all watches of a list are of the first clauses, so many.
-fn is_below(list: &[Watch], clauses: usize) -> bool
-    ensures { result ≡ list_all (λ w. nat_lt w.clause clauses) list.now }
+/// Where the last watch of a clause from this number on stands, which is mostly the end.
+fn last_later(list: &[Watch], clauses: usize) -> Option<usize>
+    ensures some { IfSome result (IsLater clauses list.now) }
+    ensures none { IfNone result (times_later clauses list.now ≡ 0) }
 {
-    list.iter().all(|w| (w.clause as usize) < clauses)
+    for i in 0..list.len() {
+        let place = list.len() - 1 - i;
+        if list[place].clause as usize >= clauses {
+            return Some(place);
+        }
+    }
+    None
 }
 
 /// So many lists: those at the end go, or empty ones are put there.

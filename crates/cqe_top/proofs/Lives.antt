@@ -1,79 +1,296 @@
--- Two calls of `batch` over the same files are one run for each user.
-use Rattle.std.proofs.Common.{◌≡◌, ℕ, Bool, List, [], ◌∷◌, sym, ap, subst, ◌∙◌}
-use Rattle.std.specs.Prelude.{Option, Some, Ok, Vec}
+-- Calls over the same journals are one run, and parts of one history, for each user.
+use Rattle.std.proofs.Common.{◌≡◌, ◌⊎◌, inl, inr, ℕ, ◌≤◌, Bool, true, false, not, ◌&&◌, List, [], ◌∷◌, map, refl, sym, ap, subst, ◌∙◌}
+use Rattle.std.specs.Prelude.{Option, Some, None, IfSome, Vec, string_bytes}
+use Rattle.std.specs.List.{list_any, AllByRecursion}
 use Rattle.std.specs.declared.alloc.Global.{Global}
+use Rattle.outside.specs.Shelf.{bytes_on, image_on}
+use Rattle.outside.specs.declared.disk.Disk.{Ghosts as DiskGhosts}
+use Rattle.outside.specs.declared.shelf.Shelf.{Ghosts as ShelfGhosts}
 use Rattle.cqe_base.specs.Facts.{FactSet}
+use Rattle.cqe_base.specs.History.{profile_of}
 use Rattle.cqe_base.specs.Schema.{Text}
+use Rattle.cqe_base.specs.Transcript.{NamedUser, ScriptEvent, own_events, state_after}
 use Rattle.cqe_base.specs.declared.user.User.{User}
+use Rattle.user_desk.specs.Joining.{Span, IsSpanOver}
+use Rattle.user_desk.specs.Standings.{is_sealed}
 use Rattle.user_desk.specs.declared.standing.DeskError.{DeskError}
-use Rattle.batch_engine.specs.Batch.{AppendsAll}
-use Rattle.batch_engine.specs.BatchLines.{BatchItem, batch_of}
+use Rattle.desk_crew.specs.Shelved.{Journals, KeepsJournals}
+use Rattle.batch_engine.specs.Batch.{ServesUser, AnswersBatch, LeavesJournals, unopened, with_opening}
+use Rattle.batch_engine.specs.BatchLines.{BatchItem}
+use Rattle.batch_engine.specs.Joining as batch
+use Rattle.batch_engine.specs.Lives.{is_ask, is_opened}
+use Rattle.batch_engine.specs.declared.run.BatchEnd.{BatchEnd}
 use Rattle.batch_engine.specs.declared.run.BatchEnd.TheVariants as batch_end
-use Rattle.batch_engine.proofs.Joining.{batches_join}
-use Rattle.command_words.specs.Readings.{Reading, FileNames, reading_of, runs_batch}
-use Rattle.policy_files.specs.Policies.{PolicyValue}
+use Rattle.batch_engine.proofs.Joining.{batches_are_spans, cut_batches_are_calls, batches_join, cut_batches_join}
+use Rattle.command_words.specs.Readings.{Reading, FileNames, reading_of, runs_case, runs_init, runs_batch, runs_audit, runs_selfrun, runs_serve}
+use Rattle.log_journal.specs.Names.{journal_name}
+use Rattle.policy_files.specs.Memory.{policy_user_of}
+use Rattle.policy_files.specs.Policies.{PolicyUser, PolicyValue}
+use Rattle.serve_engine.specs.Joining as serve
+use Rattle.serve_engine.specs.Served.{Member}
+use Rattle.serve_engine.specs.Serving as serving
+use Rattle.serve_engine.specs.Serving.{HasServed, HaveServed, LeavesHistories}
+use Rattle.serve_engine.specs.declared.run.ServeEnd.{ServeEnd}
+use Rattle.serve_engine.specs.declared.run.ServeEnd.TheVariants as serve_end
+use Rattle.serve_engine.proofs.Joining.{servings_are_spans, cut_servings_are_spans}
 use Rattle.cqe_top.specs.declared.end.CommandEnd.{CommandEnd}
 use Rattle.cqe_top.specs.declared.end.CommandEnd.TheVariants as end
-use Rattle.cqe_top.specs.Batch.{BatchEnds, RunsBatch, OfBatch}
-use Rattle.cqe_top.specs.Files.{both, said_on, SayOn, journals_of, new_users}
-use Rattle.cqe_top.specs.Lives.{TellsAll, AreJoined, BatchCallsJoin}
+use Rattle.cqe_top.specs.Audit.{AuditEnds, OfAudit}
+use Rattle.cqe_top.specs.Batch.{BatchEnds, RunsBatch, OfBatch, AnswersOverFiles}
+use Rattle.cqe_top.specs.Files.{both, said_on, SayOn, journals_of, new_user, new_users}
+use Rattle.cqe_top.specs.Lives.{TellsAll, IsEndOf, BatchCallsJoin, IsLeft, LeavesPart, LeavesParts, UsesJournals, CallsAreParts}
 use Rattle.cqe_top.specs.Promise.{Promise, OfReading}
-use Rattle.cqe_top.specs.Scene.{Scene, Output}
+use Rattle.cqe_top.specs.Scene.{Scene, ShelfScene, Input, Output, LinksScene, SameDisks, shelf_of, scene_of}
+use Rattle.cqe_top.specs.Serve.{ServeEnds, OfServe, ServesOverFiles}
 
--- a script was answered over the files
-record IsAnsweredOver (s : Scene) (files : FileNames) (refusals : List (Option DeskError)) (is_broken : Bool) (policy : PolicyValue) (world : FactSet)
-    (header : List ℕ) : Type 0 where
-  items : List BatchItem
-  script : batch_of s.input.left ≡ Ok items
-  all : AppendsAll policy.schema world header (journals_of s.shelf files) (new_users policy) items s.output.written s.output.written' refusals is_broken
+-- what files say, they say once
+said_once : (P : PolicyValue → FactSet → List ℕ → Type 0) (policy policy' : PolicyValue) (world world' : FactSet) (header header' : List ℕ)
+    → both policy' world' header' ≡ both policy world header → P policy' world' header' → P policy world header
+said_once P policy policy' world world' header header' same is =
+    let p : policy' ≡ policy = cc in
+    let w : world' ≡ world = cc in
+    let h : header' ≡ header = cc in
+    subst (λ q. P q world header) p (subst (λ x. P policy' x header) w (subst (λ k. P policy' world' k) h is))
 
-answered_over : (words : List Text) (s : Scene) (complaints : Output) (status : ℕ) (files : FileNames) (users : Vec User Global)
-    (refusals : Vec (Option DeskError) Global) (is_broken : Bool) (one : Promise words s complaints status) → reading_of words ≡ Some (runs_batch files)
-    → one.end ≡ end.Batch users (batch_end.Done refusals is_broken) → TellsAll s → SayOn s.shelf files (IsAnsweredOver s files refusals.items is_broken)
-answered_over words s complaints status files users refusals is_broken one read ends tells =
+-- ---- two batches
+
+answered_over : (words : List Text) (s : Scene) (complaints : Output) (status : ℕ) (files : FileNames) (users : Vec User Global) (engine_end : BatchEnd)
+    (one : Promise words s complaints status) → reading_of words ≡ Some (runs_batch files) → one.end ≡ end.Batch users engine_end → TellsAll s
+    → SayOn s.shelf files (λ policy world header. IsEndOf s files policy world header engine_end)
+answered_over words s complaints status files users engine_end one read ends tells =
     let of_batch : OfBatch s files one.end = subst (λ r. OfReading s r one.end) read one.command in
-    let runs : RunsBatch s.shelf s.input s.output files users (batch_end.Done refusals is_broken) =
+    let runs : RunsBatch s.shelf s.input s.output files users engine_end =
     subst (λ (e : CommandEnd). BatchEnds s.shelf s.input s.output files e) ends of_batch.ends in
     let over = runs.over_files tells.0 in
-    let answers = over.4.answers tells.1 tells.2 in
-    (over.0, over.1, over.2, over.3, record { items = answers.1; script = answers.2; all = answers.3 })
-
-module _ (s' : Scene) (files : FileNames) (refusals' : List (Option DeskError)) (is_broken' : Bool) where
-  -- what the files say, they say once
-  as_said : (policy policy' : PolicyValue) (world world' : FactSet) (header header' : List ℕ) → both policy' world' header' ≡ both policy world header
-      → IsAnsweredOver s' files refusals' is_broken' policy' world' header' → IsAnsweredOver s' files refusals' is_broken' policy world header
-  as_said policy policy' world world' header header' same over =
-      let p : policy' ≡ policy = cc in
-      let w : world' ≡ world = cc in
-      let h : header' ≡ header = cc in
-      subst (λ q. IsAnsweredOver s' files refusals' is_broken' q world header) p
-      (subst (λ x. IsAnsweredOver s' files refusals' is_broken' policy' x header) w
-      (subst (λ k. IsAnsweredOver s' files refusals' is_broken' policy' world' k) h over))
+    (over.0, over.1, over.2, over.3, over.4.answers tells.1 tells.2)
 
 pub calls_join : (s : Scene) (complaints : Output) (s' : Scene) (complaints' : Output) → BatchCallsJoin s complaints s' complaints'
-calls_join s complaints s' complaints' words words' status status' files users users' refusals refusals' is_broken is_broken' one two read read' ends ends'
-    tells tells' same =
-    let at : SayOn s.shelf files (IsAnsweredOver s files refusals.items is_broken) =
-    answered_over words s complaints status files users refusals is_broken one read ends tells in
-    let at' : SayOn s'.shelf files (IsAnsweredOver s' files refusals'.items is_broken') =
-    answered_over words' s' complaints' status' files users' refusals' is_broken' two read' ends' tells' in
-    let first = at.4 in
-    let second : IsAnsweredOver s' files refusals'.items is_broken' at.0 at.1 at.2 =
-    as_said s' files refusals'.items is_broken' at.0 at'.0 at.1 at'.1 at.2 at'.2 (sym at'.3 ∙ same ∙ at.3) at'.4 in (
+calls_join s complaints s' complaints' words words' status status' files users users' engine_end engine_end' one two read read' ends ends' tells tells' same =
+    let at = answered_over words s complaints status files users engine_end one read ends tells in
+    let at' = answered_over words' s' complaints' status' files users' engine_end' two read' ends' tells' in (
       at.0,
       at.1,
       at.2,
       at.3,
       record {
-        items = first.items;
-        items' = second.items;
-        script = first.script;
-        script' = second.script;
-        one = first.all;
-        two = second.all;
-        joined = λ name left user user' call call'.
-            batches_join at.0.schema at.1 at.2 (new_users at.0) (journals_of s.shelf files) (journals_of s'.shelf files) first.items second.items
-            s.output.written s.output.written' s'.output.written s'.output.written' refusals.items refusals'.items is_broken is_broken' first.all second.all
-            name left user user' call call';
+        one = at.4;
+        two = said_once (λ policy world header. IsEndOf s' files policy world header engine_end') at.0 at'.0 at.1 at'.1 at.2 at'.2
+            (sym at'.3 ∙ same ∙ at.3) at'.4;
+        joined = batches_join at.0.schema at.1 at.2 (new_users at.0) (journals_of s.shelf files) (journals_of s'.shelf files);
+        cut = cut_batches_join at.0.schema at.1 at.2 (new_users at.0) (journals_of s.shelf files) (journals_of s'.shelf files);
       },
     )
+
+-- ---- calls of several kinds
+
+-- what holds of each holds of what each is led to, and the other way
+all_of : {X : Type 0} (P Q : X → Type 0) → ((x : X) → P x → Q x) → (xs : List X) → AllByRecursion P xs → AllByRecursion Q xs
+all_of P Q f [] all = tt
+all_of P Q f (x ∷ xs) (is, all) = (f x is, all_of P Q f xs all)
+
+mapped : {A B : Type 0} (f : A → B) (Q : B → Type 0) (xs : List A) → AllByRecursion (λ x. Q (f x)) xs → AllByRecursion Q (map f xs)
+mapped f Q [] all = tt
+mapped f Q (x ∷ xs) (is, all) = (is, mapped f Q xs all)
+
+unmapped : {A B : Type 0} (f : A → B) (Q : B → Type 0) (xs : List A) → AllByRecursion Q (map f xs) → AllByRecursion (λ x. Q (f x)) xs
+unmapped f Q [] all = tt
+unmapped f Q (x ∷ xs) (is, all) = (is, unmapped f Q xs all)
+
+module _ (journals : Journals) (policy : PolicyValue) (world : FactSet) (header : List ℕ) where
+  -- whatever a crash leaves of the journal of a user is a part of his history, or nothing new
+  abbrev OfUser : PolicyUser → Type 0
+  OfUser user = (left : List ℕ) → IsLeft journals user.name left → LeavesPart journals policy world header user left
+
+  -- the same of a user whose journal was opened
+  abbrev OfNamed : NamedUser → Type 0
+  OfNamed user = OfUser (record { name = user.name; profile = user.profile; token = None })
+
+  -- the moments of a call, by that at which it began
+  abbrev Since : Text → ℕ → Option ℕ → Type 0
+  Since name opening start = IfSome start (λ begun. (begun ≤ opening)
+      × ((c : List ℕ) → journals.since name begun c → journals.image_before name c ⊎ journals.since name opening c))
+
+  module _ (users : List NamedUser) (script : List ScriptEvent) (user : NamedUser)
+      (serves : ServesUser policy.schema world header journals users script user) where
+    ended : (held : Bool) → list_any is_opened (own_events user.name script) ≡ held → (left : List ℕ) → journals.image user.name left
+        → LeavesPart journals policy world header (record { name = user.name; profile = user.profile; token = None }) left
+    ended true held left at =
+        inr (
+          batch.span_of (state_after policy.schema world user script) user left,
+          refl,
+          batches_are_spans journals policy.schema world header users script user serves held left at,
+        )
+    ended false none left at = inl ((serves.kept (ap (λ b. b && list_any is_ask (own_events user.name script)) none)).1 left at)
+
+    amid : (held : Bool) → list_any is_opened (own_events user.name script) ≡ held → (left : List ℕ)
+        → journals.image_before user.name left ⊎ journals.since user.name serves.moments.opening left
+        → LeavesPart journals policy world header (record { name = user.name; profile = user.profile; token = None }) left
+    amid held is left (inl old) = inl old
+    amid true held left (inr since) =
+        let cut = cut_batches_are_calls journals policy.schema world header users script user serves held left since in
+        inr (batch.cut_span_of policy.schema world user cut.front left, refl, cut.part)
+    amid false none left (inr since) = inl (serves.moments.never none left since)
+
+    batch_of_user : OfNamed user
+    batch_of_user left (inl at) = ended (list_any is_opened (own_events user.name script)) refl left at
+    batch_of_user left (inr (begun, began, since)) =
+        let known : Since user.name serves.moments.opening (Some begun) = subst (Since user.name serves.moments.opening) began serves.moments.before in
+        amid (list_any is_opened (own_events user.name script)) refl left (known.1 left since)
+
+  batch_parts : (items : List BatchItem) (written : List ℕ) → AnswersBatch policy.schema world header journals (new_users policy) items written
+      → LeavesParts journals policy world header
+  batch_parts items written answers =
+      let script = with_opening answers.found answers.opened answers.events in
+      let each : AllByRecursion OfNamed answers.users =
+      all_of (ServesUser policy.schema world header journals answers.users script) OfNamed (batch_of_user answers.users script) answers.users
+      answers.each_user in
+      inr (unmapped new_user OfNamed policy.users
+      (subst (AllByRecursion OfNamed) answers.of_policy (mapped unopened OfNamed answers.users each)))
+
+  -- what each end of a batch leaves
+  batch_leaves : (e : BatchEnd) → LeavesJournals policy.schema world header journals (new_users policy) e → LeavesParts journals policy world header
+  batch_leaves (batch_end.Done refusals is_broken) (items, written, all) = batch_parts items all.written all.answers
+  batch_leaves (batch_end.Script refusal) kept = inl kept
+  batch_leaves batch_end.ReadFault kept = inl kept
+  batch_leaves batch_end.WriteFault (items, written, some) = batch_parts some.front _ some.answers
+  batch_leaves batch_end.ShelfFault kept = inl kept
+  batch_leaves batch_end.Memory (inl kept) = inl kept
+  batch_leaves batch_end.Memory (inr (items, written, to)) = batch_parts to.front _ to.answers
+
+  module _ (user : User) (member : Member) (refusal : Option DeskError)
+      (served : HasServed policy.schema world header journals user member refusal) where
+    as_his : (span : Span) → IsSpanOver policy.schema world member.profile header (journals.bytes (string_bytes user.name)) span
+        → IsSpanOver policy.schema world (profile_of user) header (journals.bytes (string_bytes user.name)) span
+    as_his span over = subst (λ p. IsSpanOver policy.schema world p header (journals.bytes (string_bytes user.name)) span) served.profile_is over
+
+    serving_ended : (sealed : Bool) → is_sealed served.standing ≡ sealed → (left : List ℕ) → journals.image (string_bytes user.name) left
+        → LeavesPart journals policy world header (policy_user_of user) left
+    serving_ended true sealed left at = inl ((served.kept (inl sealed)).1 left at)
+    serving_ended false unsealed left at =
+        inr (
+          serve.span_of member left,
+          refl,
+          as_his (serve.span_of member left)
+              (servings_are_spans journals policy.schema world header user member refusal served unsealed left at),
+        )
+
+    serving_amid : (sealed : Bool) → is_sealed served.standing ≡ sealed → (left : List ℕ)
+        → journals.image_before (string_bytes user.name) left ⊎ journals.since (string_bytes user.name) served.moments.opening left
+        → LeavesPart journals policy world header (policy_user_of user) left
+    serving_amid sealed is left (inl old) = inl old
+    serving_amid true sealed left (inr since) = inl (served.moments.never (ap not sealed) left since)
+    serving_amid false unsealed left (inr since) =
+        let cut = cut_servings_are_spans journals policy.schema world header user member refusal served unsealed left since in
+        inr (serve.cut_span_of member cut.entries left, refl, as_his (serve.cut_span_of member cut.entries left) cut.over)
+
+    serving_of_user : OfUser (policy_user_of user)
+    serving_of_user left (inl at) = serving_ended (is_sealed served.standing) refl left at
+    serving_of_user left (inr (begun, began, since)) =
+        let known : Since (string_bytes user.name) served.moments.opening (Some begun) =
+        subst (Since (string_bytes user.name) served.moments.opening) began served.moments.before in
+        serving_amid (is_sealed served.standing) refl left (known.1 left since)
+
+  each_served : (users : List User) (members : List Member) (refusals : List (Option DeskError))
+      → HaveServed policy.schema world header journals users members refusals → AllByRecursion (λ user. OfUser (policy_user_of user)) users
+  each_served [] members refusals have = tt
+  each_served (user ∷ users) [] refusals have = absurd have
+  each_served (user ∷ users) (member ∷ members) [] have = absurd have
+  each_served (user ∷ users) (member ∷ members) (refusal ∷ refusals) (served, have) =
+      (serving_of_user user member refusal served, each_served users members refusals have)
+
+  serving_parts : (users : List User) (refusals : List (Option DeskError)) (is_broken : Bool) → map policy_user_of users ≡ policy.users
+      → LeavesHistories policy.schema world header journals users refusals is_broken → LeavesParts journals policy world header
+  serving_parts users refusals is_broken same leaves =
+      inr (subst (AllByRecursion OfUser) same (mapped policy_user_of OfUser users (each_served users leaves.members refusals leaves.each_user)))
+
+  -- what each end of a serving leaves
+  serving_leaves : (users : List User) (e : ServeEnd) → map policy_user_of users ≡ policy.users
+      → serving.LeavesJournals policy.schema world header journals users e → LeavesParts journals policy world header
+  serving_leaves users (serve_end.Done refusals is_broken) same leaves = serving_parts users refusals.items is_broken same leaves
+  serving_leaves users serve_end.LinksFault same (inl kept) = inl kept
+  serving_leaves users serve_end.LinksFault same (inr (refusals, is_broken, leaves)) = serving_parts users refusals is_broken same leaves
+  serving_leaves users serve_end.ShelfFault same kept = inl kept
+  serving_leaves users serve_end.Memory same (inl kept) = inl kept
+  serving_leaves users serve_end.Memory same (inr (refusals, is_broken, leaves)) = serving_parts users refusals is_broken same leaves
+
+-- where no disk was touched, all journals are kept
+kept_disks : (shelf : ShelfScene) (files : FileNames) → SameDisks shelf → KeepsJournals (journals_of shelf files)
+kept_disks shelf files same name = (
+  ap (bytes_on shelf.Disk.reads) (same.0 (journal_name files.directory name)),
+  λ c at. subst (λ d. image_on shelf.Disk.image d c) (same.0 (journal_name files.directory name)) at,
+)
+
+module _ {F D : Type 0} (Shelf : ShelfGhosts F D) (Disk : DiskGhosts D) (old new : F) (input : Input) (output : Output) (links : LinksScene)
+    (files : FileNames) (policy : PolicyValue) (world : FactSet) (header : List ℕ) where
+  abbrev shelf : ShelfScene
+  shelf = shelf_of Shelf Disk old new
+
+  abbrev Parts : Type 0
+  Parts = LeavesParts (journals_of shelf files) policy world header
+
+  same_disks : new ≡ old → SameDisks shelf
+  same_disks same = (λ name. ap (λ f. Shelf.disk f name) same, λ name. ap (λ f. Shelf.disk_faults f name) same)
+
+  module _ (tells : shelf.tells) (said : said_on shelf files ≡ both policy world header) where
+    of_batch : (e : CommandEnd) → BatchEnds shelf input output files e → Parts
+    of_batch (end.Batch users engine_end) runs =
+        let over = runs.over_files tells in
+        let answers : AnswersOverFiles shelf input output files users engine_end policy world header =
+        said_once (AnswersOverFiles shelf input output files users engine_end) policy over.0 world over.1 header over.2 (sym over.3 ∙ said) over.4 in
+        batch_leaves (journals_of shelf files) policy world header engine_end answers.journals
+    of_batch (end.Files why) runs = inl (kept_disks shelf files runs.0.disks)
+    of_batch end.Memory runs = inl (kept_disks shelf files (same_disks runs.0))
+    of_batch end.Usage runs = absurd runs
+    of_batch (end.Case case) runs = absurd runs
+    of_batch (end.Init users init) runs = absurd runs
+    of_batch end.Nobody runs = absurd runs
+    of_batch (end.Audit name audit) runs = absurd runs
+    of_batch (end.Selfrun run) runs = absurd runs
+    of_batch (end.Serve users served) runs = absurd runs
+
+    of_audit : (user : Text) (json : Bool) (e : CommandEnd) → AuditEnds shelf output files user json e → Parts
+    of_audit user json (end.Audit name engine_end) runs =
+        inl (λ name. (runs.bytes tells (journal_name files.directory name), λ c. runs.images tells (journal_name files.directory name) c))
+    of_audit user json end.Nobody finds = inl (kept_disks shelf files finds.disks)
+    of_audit user json (end.Files why) runs = inl (kept_disks shelf files runs.0.disks)
+    of_audit user json end.Memory runs = inl (kept_disks shelf files (same_disks runs.0))
+    of_audit user json end.Usage runs = absurd runs
+    of_audit user json (end.Case case) runs = absurd runs
+    of_audit user json (end.Init users init) runs = absurd runs
+    of_audit user json (end.Batch users batched) runs = absurd runs
+    of_audit user json (end.Selfrun run) runs = absurd runs
+    of_audit user json (end.Serve users served) runs = absurd runs
+
+    of_serve : (address : Text) (workers limit : ℕ) (e : CommandEnd) → ServeEnds shelf links files address workers limit e → Parts
+    of_serve address workers limit (end.Serve users engine_end) runs =
+        let over = runs.over_files tells in
+        let serves : ServesOverFiles shelf links files address workers limit users engine_end policy world header =
+        said_once (ServesOverFiles shelf links files address workers limit users engine_end) policy over.0 world over.1 header over.2
+        (sym over.3 ∙ said) over.4 in
+        serving_leaves (journals_of shelf files) policy world header users.items engine_end serves.of_policy serves.journals
+    of_serve address workers limit (end.Files why) runs = inl (kept_disks shelf files runs.0.disks)
+    of_serve address workers limit end.Memory runs = inl (kept_disks shelf files (same_disks runs.0))
+    of_serve address workers limit end.Usage runs = absurd runs
+    of_serve address workers limit (end.Case case) runs = absurd runs
+    of_serve address workers limit (end.Init users init) runs = absurd runs
+    of_serve address workers limit (end.Batch users batched) runs = absurd runs
+    of_serve address workers limit end.Nobody runs = absurd runs
+    of_serve address workers limit (end.Audit name audit) runs = absurd runs
+    of_serve address workers limit (end.Selfrun run) runs = absurd runs
+
+    of_reading : (r : Option Reading) (e : CommandEnd) → OfReading (scene_of shelf input output links) r e → UsesJournals files r → Parts
+    of_reading (Some (runs_batch its)) e of same =
+        of_batch e (subst (λ (f : FileNames). OfBatch (scene_of shelf input output links) f e) same of).ends
+    of_reading (Some (runs_audit its user json)) e of same =
+        of_audit user json e (subst (λ (f : FileNames). OfAudit (scene_of shelf input output links) f user json e) same of).ends
+    of_reading (Some (runs_serve its address workers limit)) e of same =
+        of_serve address workers limit e (subst (λ (f : FileNames). OfServe (scene_of shelf input output links) f address workers limit e) same of).ends
+    of_reading None e of uses = absurd uses
+    of_reading (Some runs_case) e of uses = absurd uses
+    of_reading (Some (runs_init its)) e of uses = absurd uses
+    of_reading (Some (runs_selfrun seed users asks)) e of uses = absurd uses
+
+pub calls_are_parts : {F D : Type 0} (Shelf : ShelfGhosts F D) (Disk : DiskGhosts D) (old new : F) (input : Input) (output : Output) (links : LinksScene)
+    (complaints : Output) → CallsAreParts (scene_of (shelf_of Shelf Disk old new) input output links) complaints
+calls_are_parts Shelf Disk old new input output links complaints words status files policy world header one uses tells said =
+    of_reading Shelf Disk old new input output links files policy world header tells said (reading_of words) one.end one.command uses

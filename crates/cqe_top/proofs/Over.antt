@@ -58,11 +58,11 @@ module _ {F D : Type 0} (Shelf : ShelfGhosts F D) (Disk : DiskGhosts D) (old mid
 
     -- the making of journals ended so, by the disks and the counts of a change
     abbrev Ended : List ℕ → Policy → Change D → InitEnd → Type 0
-    Ended header policy change made = EndsInit Shelf.tells Disk.reads Disk.image header files.directory (names_of (policy_value_of policy).users) change made
+    Ended header policy change made = EndsInit Shelf.tells Disk header files.directory (names_of (policy_value_of policy).users) change made
 
     pub init_over : (header : List ℕ) (policy : Policy) (users : List User) (made : InitEnd) → users ≡ policy.users.items → Shelf.faults old ≤ Shelf.faults mid
-        → EndsInit Shelf.tells Disk.reads Disk.image header files.directory (init.user_names users) (change_on (shelf_of Shelf Disk mid new)) made
-        → EndsInit Shelf.tells Disk.reads Disk.image header files.directory (names_of (policy_value_of policy).users)
+        → EndsInit Shelf.tells Disk header files.directory (init.user_names users) (change_on (shelf_of Shelf Disk mid new)) made
+        → EndsInit Shelf.tells Disk header files.directory (names_of (policy_value_of policy).users)
         (change_on (shelf_of Shelf Disk old new)) made
     init_over header policy users made are later ended =
         earlier made (subst (λ c. Ended header policy c made) (λ i. record {
@@ -72,7 +72,7 @@ module _ {F D : Type 0} (Shelf : ShelfGhosts F D) (Disk : DiskGhosts D) (old mid
           now = Shelf.disk_faults new;
           shelf_before = Shelf.faults mid;
           shelf_now = Shelf.faults new;
-        }) (subst (λ names. EndsInit Shelf.tells Disk.reads Disk.image header files.directory names (change_on (shelf_of Shelf Disk mid new)) made)
+        }) (subst (λ names. EndsInit Shelf.tells Disk header files.directory names (change_on (shelf_of Shelf Disk mid new)) made)
         (ap init.user_names are ∙ names_are policy.users.items) ended))
       where
         rose : Rose (Shelf.faults mid) (Shelf.faults new) → Rose (Shelf.faults old) (Shelf.faults new)
@@ -144,22 +144,22 @@ is_within [] number name at = let clash : None ≡ Some name = at in absurd cc
 is_within (user ∷ users) zero name at = omega arith
 is_within (user ∷ users) (suc number) name at = let less : number < length users = is_within users number name at in omega (arith, less)
 
-pub one_of : {D : Type 0} (told : Type 0) (reads : D → List ℕ) (image : D → List ℕ → Type 0) (header directory : List ℕ) (users others : List User)
+pub one_of : {D : Type 0} (told : Type 0) (Disk : DiskGhosts D) (header directory : List ℕ) (users others : List User)
     (change : Change D) (made : InitEnd)
-    → users ≡ others → EndsInit told reads image header directory (init.user_names users) change made → NamesOneOf others made
-one_of told reads image header directory users others change (init_end.Refused user why) are ended =
+    → users ≡ others → EndsInit told Disk header directory (init.user_names users) change made → NamesOneOf others made
+one_of told Disk header directory users others change (init_end.Refused user why) are ended =
     subst (λ us. user < length us) are (is_within users user ended.name ended.is)
-one_of told reads image header directory users others change init_end.Done are ended = tt
-one_of told reads image header directory users others change init_end.DiskFault are ended = tt
-one_of told reads image header directory users others change init_end.ShelfFault are ended = tt
-one_of told reads image header directory users others change init_end.Memory are ended = tt
+one_of told Disk header directory users others change init_end.Done are ended = tt
+one_of told Disk header directory users others change init_end.DiskFault are ended = tt
+one_of told Disk header directory users others change init_end.ShelfFault are ended = tt
+one_of told Disk header directory users others change init_end.Memory are ended = tt
 
 -- the making of journals stops for a fault only where the count rose
-pub init_caused : {D : Type 0} (told : Type 0) (reads : D → List ℕ) (image : D → List ℕ → Type 0) (header directory : List ℕ) (names : List Text)
+pub init_caused : {D : Type 0} (told : Type 0) (Disk : DiskGhosts D) (header directory : List ℕ) (names : List Text)
     (change : Change D) (made : InitEnd)
-    → EndsInit told reads image header directory names change made
+    → EndsInit told Disk header directory names change made
     → (made ≡ init_end.ShelfFault → Rose change.shelf_before change.shelf_now) × (made ≡ init_end.DiskFault → SomeRose change.before change.now)
-init_caused told reads image header directory names change made ended = (
-  λ is. (subst (λ m. EndsInit told reads image header directory names change m) is ended).1.reason,
-  λ is. let stops = subst (λ m. EndsInit told reads image header directory names change m) is ended in (journal_name directory stops.1.name, stops.1.reason),
+init_caused told Disk header directory names change made ended = (
+  λ is. (subst (λ m. EndsInit told Disk header directory names change m) is ended).1.reason,
+  λ is. let stops = subst (λ m. EndsInit told Disk header directory names change m) is ended in (journal_name directory stops.1.name, stops.1.reason),
 )

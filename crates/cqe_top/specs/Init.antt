@@ -40,7 +40,7 @@ module _ (shelf : ShelfScene) (files : FileNames) where
   pub record Makes (users : Vec User Global) (end : InitEnd) (policy : PolicyValue)
       (world : FactSet) (header : List ℕ) : Type 0 where
     pub of_policy : AreUsersOf users policy
-    pub makes : EndsInit shelf.tells shelf.Disk.reads shelf.Disk.image header files.directory
+    pub makes : EndsInit shelf.tells shelf.Disk header files.directory
         (names_of policy.users) (change_on shelf) end
 
   -- it ran over files that were read

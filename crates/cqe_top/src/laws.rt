@@ -1,5 +1,5 @@
-//! A law of calls. The function computes nothing: its clause is the law.
-ghost use Rattle.cqe_top.specs.Lives.{BatchCallsJoin};
+//! Laws of calls. Each function computes nothing: its clause is the law.
+ghost use Rattle.cqe_top.specs.Lives.{BatchCallsJoin, CallsAreParts};
 ghost use Rattle.cqe_top.specs.Scene.{input_of, links_of, output_of, scene_of, shelf_of};
 
 use outside::{Links, Shelf, Sink, Source};
@@ -19,9 +19,9 @@ pub struct Seen<'a, F, S, K, E, L> {
 }
 
 /// Two calls of `batch` over the same files, of which the second began with what a crash left as
-/// the first ended, are one run for each user: by what `top` promises of both, all that they told
-/// him are its replies, and its history is legal and hides. By `user_desk::laws::law_lives_join` so
-/// are more of them.
+/// the first ended, or at a moment of it, are one run for each user: by what `top` promises of
+/// both, whatever their ends, what they told him are its replies, and its history is legal and
+/// hides. By `user_desk::laws::law_lives_join` so are more of them.
 pub fn law_calls_join<F: Shelf, S: Source, K: Sink, E: Sink, L: Links>(
     first: &Seen<'_, F, S, K, E, L>,
     second: &Seen<'_, F, S, K, E, L>,
@@ -37,4 +37,19 @@ pub fn law_calls_join<F: Shelf, S: Source, K: Sink, E: Sink, L: Links>(
         (output_of K.Sink second.now.sink.now second.now.sink_behind.now)
         (links_of L.Links second.now.links.now second.now.links_behind.now))
         (output_of E.Sink second.now.complaints.now second.now.complaints_behind.now) }
+{}
+
+/// A call of `batch`, `serve` or `audit` is to each user a part of his one history, by what `top`
+/// promises of it, whatever its end and whatever a crash leaves of his journal as it ends or at a
+/// moment of it; or it leaves nothing new. By `user_desk::laws::law_lives_join` any such calls, of
+/// which each began with what the one before left, make one history, which is legal and hides.
+pub fn law_calls_are_parts<F: Shelf, S: Source, K: Sink, E: Sink, L: Links>(
+    call: &Seen<'_, F, S, K, E, L>,
+)
+    ensures { CallsAreParts
+        (scene_of (shelf_of F.Shelf F.D.Disk call.now.shelf.now call.now.shelf_behind.now)
+        (input_of S.Source call.now.source.now call.now.source_behind.now)
+        (output_of K.Sink call.now.sink.now call.now.sink_behind.now)
+        (links_of L.Links call.now.links.now call.now.links_behind.now))
+        (output_of E.Sink call.now.complaints.now call.now.complaints_behind.now) }
 {}

@@ -1,7 +1,8 @@
 -- What an ask tells of a pass.
-use Rattle.std.proofs.Common.{◌≡◌, ℕ, ◌≤◌, [], ◌∷◌, ◌++◌, refl, sym, ap, ◌∙◌, subst, inl, inr, append_assoc}
-use Rattle.std.specs.Prelude.{Option, Some, None, is_some}
+use Rattle.std.proofs.Common.{◌≡◌, ℕ, ◌+◌, ◌-◌, ◌≤◌, eqb, cond, List, [], ◌∷◌, ◌++◌, refl, sym, ap, ◌∙◌, subst, inl, inr, append_assoc, arith}
+use Rattle.std.specs.Prelude.{Option, Some, None, is_some, option_to_list}
 use Rattle.std.proofs.lemmas.List.{append-nil}
+use Rattle.std.proofs.lemmas.List.Sums.{sum_by-append}
 use Rattle.cqe_base.specs.declared.user.Mark as base
 use Rattle.cqe_base.specs.Schema.{Text}
 use Rattle.cqe_base.specs.Formula.{Formula}
@@ -21,7 +22,7 @@ use Rattle.desk_counter.specs.declared.item.Fixed.{Fixed}
 use Rattle.desk_counter.specs.Items.{history_of, kept_pair, kept_pairs, flying, has_broke}
 use Rattle.desk_counter.specs.Desks.{state_shown}
 use Rattle.desk_counter.specs.Asks.{entry_for, NoMark, Adds, answered, broke, coded, wanted, IsServing, AnswersWith, Asked, all_but_last, pairs_behind, IsReply}
-use Rattle.desk_counter.specs.Asks.{TellsEntry, TellsMark, AddsNoEntry}
+use Rattle.desk_counter.specs.Asks.{TellsEntry, TellsMark, AddsNoEntry, Looked}
 
 -- ---- pairs with one more
 
@@ -46,6 +47,13 @@ without_last : {D : Type 0} (fixed : Fixed D) (pairs : Entries TurnItem) (p : �
 without_last fixed [] p = refl
 without_last fixed (q ∷ []) p = refl
 without_last fixed (q ∷ r ∷ pairs) p = ap (λ ps. q ∷ ps) (without_last fixed (r ∷ pairs) p)
+
+-- a ticket that isn't among some isn't among the first of them
+none_before : (x : ℕ) (first more all : List ℕ) → all ≡ first ++ more → count_of x all ≡ 0 → count_of x first ≡ 0
+none_before x first more all is none =
+    let sum : count_of x (first ++ more) ≡ count_of x first + count_of x more = sum_by-append (λ (y : ℕ). cond (eqb y x) 1 0) first more in
+    let same = ap (count_of x) is in
+    omega (arith, sum, same, none)
 
 module _ {D : Type 0} (fixed : Fixed D) where
   behind_code : (reply : Reply) (pairs : Entries TurnItem) → NoMark reply → pairs_behind fixed reply pairs ≡ pairs
@@ -152,28 +160,69 @@ module _ {D : Type 0} (fixed : Fixed D) where
 
   -- ---- a turn
 
-  -- what a turn did with a pass
-  pub asked_in_turn : {old new : Pass TurnItem (Fixed D)} {text : Text} {reply : Reply} {inside : View TurnItem (Fixed D)} (ticket : ℕ)
+  -- what a turn did with a pass, behind a look in a first turn
+  pub asked_in_turn : {old mid new : Pass TurnItem (Fixed D)} {text : Text} {reply : Reply} {inside : View TurnItem (Fixed D)} (ticket : ℕ)
       (found after own_before : Entries TurnItem)
-      → inside ≡ turn_view (view_of old) ticket found → IsPrefix (seen old) found → (shares old ≡ 65 → found ≡ seen old)
-      → ((x : ℕ) → ticket ≤ x → count_of x (tickets old) ≡ 0) → own_before ≡ mine old
+      → Looked old mid → inside ≡ turn_view (view_of mid) ticket found → IsPrefix (seen mid) found → (shares mid ≡ 65 → found ≡ seen mid)
+      → ((x : ℕ) → ticket ≤ x → count_of x (tickets mid) ≡ 0) → own_before ≡ mine mid
       → view_of new ≡ outside_view inside after → AddsAlike inside.seen after own_before (mine new) → Adds fixed ticket text found after reply
       → Asked fixed old new text reply
-  asked_in_turn {old =
-      old} {new = new} {text = text} {reply = reply} {inside = inside} ticket found after own_before entered later whole fresh own left alike adds =
+  asked_in_turn {old = old} {mid = mid} {new = new} {text = text} {reply = reply} {inside = inside} ticket found after own_before looked entered later whole
+      fresh own left alike adds =
       let saw : seen new ≡ after = ap (λ (v : View TurnItem (Fixed D)). v.seen) left in
       let began : inside.seen ≡ found = ap (λ (v : View TurnItem (Fixed D)). v.seen) entered in
+      let one : tickets new ≡ tickets mid ++ ticket ∷ [] =
+      ap (λ (v : View TurnItem (Fixed D)). v.drawn) left ∙ ap (λ (v : View TurnItem (Fixed D)). v.drawn) entered in
       record {
         ticket = ticket;
+        looked = looked.looked;
         found = found;
-        later = later;
-        whole = whole;
-        fresh = fresh;
+        later = prefix_on (seen old) (seen mid) found looked.later later;
+        whole = λ all. whole (looked.same_shares ∙ all) ∙ looked.whole all;
+        fresh = λ x low. none_before x (tickets old) (option_to_list looked.looked) (tickets mid) looked.drew (fresh x low);
         adds = subst (λ ps. Adds fixed ticket text found ps reply) (sym saw) adds;
         own = subst (λ ps. AddsAlike found ps (mine old) (mine new)) (sym saw)
-            (subst (λ ps. AddsAlike found after ps (mine new)) own (subst (λ ps. AddsAlike ps after own_before (mine new)) began alike));
-        drew = ap (λ (v : View TurnItem (Fixed D)). v.drawn) left ∙ ap (λ (v : View TurnItem (Fixed D)). v.drawn) entered;
+            (subst (λ ps. AddsAlike found after ps (mine new)) (own ∙ looked.own) (subst (λ ps. AddsAlike ps after own_before (mine new)) began alike));
+        drew = one ∙ ap (λ ts. ts ++ ticket ∷ []) looked.drew;
       }
+
+  -- ---- a look in a first turn
+
+  -- no turn
+  pub looked_not : (pass : Pass TurnItem (Fixed D)) → Looked pass pass
+  looked_not pass = record {
+    looked = None;
+    drew = sym (append-nil (tickets pass));
+    later = ([], sym (append-nil (seen pass)));
+    whole = λ all. refl;
+    own = refl;
+    same_shares = refl;
+  }
+
+  -- a turn that adds nothing
+  pub looked_in_turn : {old new : Pass TurnItem (Fixed D)} {inside : View TurnItem (Fixed D)} (ticket : ℕ) (found after own_before : Entries TurnItem)
+      → inside ≡ turn_view (view_of old) ticket found → IsPrefix (seen old) found → (shares old ≡ 65 → found ≡ seen old) → own_before ≡ mine old
+      → view_of new ≡ outside_view inside after → AddsAlike inside.seen after own_before (mine new) → after ≡ found → Looked old new
+  looked_in_turn {old = old} {new = new} {inside = inside} ticket found after own_before entered later whole own left alike same =
+      let saw : seen new ≡ found = ap (λ (v : View TurnItem (Fixed D)). v.seen) left ∙ same in
+      let began : inside.seen ≡ found = ap (λ (v : View TurnItem (Fixed D)). v.seen) entered in
+      record {
+        looked = Some ticket;
+        drew = ap (λ (v : View TurnItem (Fixed D)). v.drawn) left ∙ ap (λ (v : View TurnItem (Fixed D)). v.drawn) entered;
+        later = subst (λ ps. IsPrefix (seen old) ps) (sym saw) later;
+        whole = λ all. saw ∙ whole all;
+        own = alike.none (same ∙ sym began) ∙ own;
+        same_shares = ap (λ (v : View TurnItem (Fixed D)). v.shares) left ∙ ap (λ (v : View TurnItem (Fixed D)). v.shares) entered;
+      }
+
+  -- the turns and the shares behind a turn
+  pub turns_used : (old new inside : View TurnItem (Fixed D)) (ticket : ℕ) (found after : Entries TurnItem)
+      → inside ≡ turn_view old ticket found → new ≡ outside_view inside after
+      → (new.shares ≡ old.shares) × (new.turns ≡ old.turns - 1)
+  turns_used old new inside ticket found after entered left = (
+    ap (λ (v : View TurnItem (Fixed D)). v.shares) left ∙ ap (λ (v : View TurnItem (Fixed D)). v.shares) entered,
+    ap (λ (v : View TurnItem (Fixed D)). v.turns) left ∙ ap (λ (v : View TurnItem (Fixed D)). v.turns) entered,
+  )
 
   -- what a turn adds is at most one pair with its ticket
   pub adds_at_most_one : {ticket ticket' : ℕ} {text : Text} {found after : Entries TurnItem} {reply : Reply} (inside : View TurnItem (Fixed D))

@@ -5,10 +5,10 @@ use denote.Param.Send.{IsSend, IsSync, sendable}
 use Rattle.std.proofs.Crossing.{crosses}
 use Rattle.outside.specs.declared.disk.Disk as disk
 pub use Rattle.user_log.proofs.Crossing.{user_sync}
-use Rattle.user_log.proofs.Crossing.{sentence_send, log_send}
+use Rattle.user_log.proofs.Crossing.{sentence_send, log_send, examiner_sync}
 use Rattle.log_journal.proofs.header.Header.TheSendSync as header
 use Rattle.user_desk.proofs.standing.Standing.TheSendSync as standing
-use Rattle.user_desk.proofs.medium.Medium.TheSendSync as medium
+use Rattle.user_desk.proofs.store.Medium.TheSendSync as medium
 use Rattle.user_desk.specs.contracts.store.Store as Store
 use Rattle.user_desk.specs.contracts.desk.Desk as Desk
 use Rattle.turnstile.specs.declared.steps.Recorded as recorded
@@ -29,4 +29,4 @@ module _ (D : RattleType) (g : disk.Ghosts D.Denot) (s : IsSend D) where
 
 module _ (w : NamedLft) (V I F : RattleType) (o : owned.Ghosts V.Denot I.Denot F.Denot) (r : recorded.Ghosts V.Denot I.Denot F.Denot) where
   pub counter_sync : IsSend V → IsSync (CounterOf.the_row w V I F o r)
-  counter_sync s = search (sendable, turnstile.the_field_sync, user_sync) depth 30
+  counter_sync s = search (sendable, turnstile.the_field_sync, examiner_sync) depth 30

@@ -1,6 +1,7 @@
 pub mod Settling
 pub mod Pairs
 pub mod Asking
+mod Examining
 pub mod DeskSettles
 pub mod Closing
 pub mod Crossing

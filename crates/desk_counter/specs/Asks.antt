@@ -1,5 +1,6 @@
 -- What an ask answers, and what it adds.
-use Rattle.std.specs.Prelude.{◌≡◌, ◌⊎◌, ℕ, ◌≤◌, [], ◌∷◌, ◌++◌, length, None, Ok}
+use Rattle.std.specs.Prelude.{◌≡◌, ◌⊎◌, ℕ, ◌≤◌, [], ◌∷◌, ◌++◌, length, Option, None, Ok}
+use Rattle.std.specs.Prelude.{option_to_list}
 use Rattle.cqe_base.specs.declared.user.Mark as base
 use Rattle.cqe_base.specs.Schema.{Text}
 use Rattle.cqe_base.specs.Formula.{Formula}
@@ -10,6 +11,8 @@ use Rattle.turnstile.specs.declared.pass.Pass.{Pass}
 use Rattle.turnstile.specs.History.{Entries, IsPrefix, AddsAlike, count_of}
 use Rattle.turnstile.specs.Passes.{seen, mine, shares, tickets}
 use Rattle.user_log.specs.Asked.{IsAnswer}
+use Rattle.user_log.specs.Examining.{IsExamined}
+use Rattle.user_log.specs.declared.examiner.Examined.{Examined}
 use Rattle.user_log.specs.Replies.{reply_of}
 use Rattle.user_log.specs.declared.reply.Reply.{Reply}
 use Rattle.user_log.specs.declared.reply.Reply.TheVariants.{Mark, Broken, Memory}
@@ -29,7 +32,23 @@ abbrev pub NoMark : Reply → Type 0
 NoMark (Mark mark) = ⊥
 NoMark _ = Unit {0}
 
+-- What a first turn, if one is made, does with a pass: it may have seen more, with none of its own
+-- among that, and adds nothing.
+pub record Looked {D : Type 0} (old new : Pass TurnItem (Fixed D)) : Type 0 where
+  pub looked : Option ℕ
+  pub drew : tickets new ≡ tickets old ++ option_to_list looked
+  pub later : IsPrefix (seen old) (seen new)
+  pub whole : shares old ≡ 65 → seen new ≡ seen old
+  pub own : mine new ≡ mine old
+  pub same_shares : shares new ≡ shares old
+
 module _ {D : Type 0} (fixed : Fixed D) where
+  -- a text was examined before these pairs or behind a beginning of them, and so it was for all
+  -- that begin with them
+  abbrev pub IsExaminedBehind : Entries TurnItem → Text → Examined → Type 0
+  IsExaminedBehind pairs text examined = (later : Entries TurnItem) → IsPrefix pairs later
+      → IsExamined fixed.schema fixed.user (history_of later) text examined
+
   -- the desk that has these pairs serves its user, and no append failed
   abbrev pub IsServing : Entries TurnItem → Type 0
   IsServing pairs = (standing_of fixed.standing ≡ standing_open) × (flying pairs ≡ None)
@@ -57,16 +76,18 @@ module _ {D : Type 0} (fixed : Fixed D) where
 
   -- What an ask does with a pass: it found pairs that begin with all that the pass had seen, and
   -- are all of that where the pass has all shares; what it added, with a ticket that is new to the
-  -- pass, was then seen, and is the pass's own.
+  -- pass, was then seen, and is the pass's own. It may have drawn a ticket more before, for a turn
+  -- that added nothing.
   pub record Asked (old new : Pass TurnItem (Fixed D)) (text : Text) (reply : Reply) : Type 0 where
     pub ticket : ℕ
+    pub looked : Option ℕ
     pub found : Entries TurnItem
     pub later : IsPrefix (seen old) found
     pub whole : shares old ≡ 65 → found ≡ seen old
     pub fresh : (x : ℕ) → ticket ≤ x → count_of x (tickets old) ≡ 0
     pub adds : Adds ticket text found (seen new) reply
     pub own : AddsAlike found (seen new) (mine old) (mine new)
-    pub drew : tickets new ≡ tickets old ++ ticket ∷ []
+    pub drew : tickets new ≡ tickets old ++ option_to_list looked ++ ticket ∷ []
 
   -- the pairs without the last one
   abbrev pub all_but_last : Entries TurnItem → Entries TurnItem

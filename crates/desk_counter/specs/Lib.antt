@@ -9,3 +9,4 @@ pub mod Counters
 pub mod Shared
 pub mod Lives
 pub mod Sole
+pub mod Closed

@@ -1,28 +1,36 @@
 //! A desk that threads share, and its calls.
 ghost use Rattle.std.specs.Prelude.{◌≡◌};
-ghost use Rattle.cqe_base.specs.History.{profile_of};
 ghost use Rattle.std.specs.Coded.{Coded-set};
+ghost use Rattle.entailment.specs.ViewCode.{schema_code};
 ghost use Rattle.turnstile.specs.Passes.{first_value};
+ghost use Rattle.user_log.specs.Examiners.{examiner_schema, examiner_user};
 ghost use Rattle.desk_counter.specs.Codes.{profile_code};
 
 use crate::item::{Fixed, TurnItem};
 use crate::ticketed_desk::{Owned, TicketedDesk};
+use cqe_base::laws::law_logs;
 use cqe_base::user::User;
+use entailment::{GroundSentence, View};
 use outside::{Disk, Gate, Point};
 use std::alloc::Global;
 use std::sync::Wait;
 use turnstile::{Pass, PassError, Turnstile};
 use user_desk::Desk;
-use user_log::Reply;
+use user_log::{Examined, Examiner, Reply};
 
-/// A value that threads share, with the user whose it is. It stands for a `Counter` wherever a
-/// thread is to take it, since it says nothing of the value's type.
+/// A turnstile has so many shares.
+const ALL_SHARES: u64 = 65;
+
+/// A value that threads share, with what examines the texts of the user whose it is. It stands for
+/// a `Counter` wherever a thread is to take it, since it says nothing of the value's type.
 #[derive(Drop)]
 pub struct CounterOf<'w, V: Owned> {
     turnstile: Turnstile<V>,
-    user: &'w User,
-    ghost owned: { profile_of user.now
+    examiner: Examiner<'w>,
+    ghost owned: { examiner_user examiner
         ≡ V.owner (first_value turnstile) } by { Coded-set profile_code _ _ },
+    ghost schemed: { examiner_schema examiner
+        ≡ V.schema (first_value turnstile) } by { Coded-set schema_code _ _ },
 }
 
 /// A user's desk that threads share.
@@ -34,27 +42,30 @@ pub type DeskPass<D> = Pass<TurnItem, Fixed<D>>;
 impl<'w, D: Disk> CounterOf<'w, TicketedDesk<'w, D>> {
     ghost use Rattle.std.specs.Prelude.{◌⊎◌, ℕ, ◌^◌, ◌+◌, ◌*◌, ◌≤◌, ◌<◌, ◌↔◌, IsTrue, true, false};
     ghost use Rattle.std.specs.Prelude.{List, [], ◌++◌, length, option_to_list, None, IfOk, IfErr};
-    ghost use Rattle.std.specs.Prelude.{OnOk};
+    ghost use Rattle.std.specs.Prelude.{OnOk, IfSome};
     ghost use Rattle.outside.specs.Disk.{Elapses};
     ghost use Rattle.outside.specs.Faults.{Rose};
     ghost use Rattle.cqe_base.specs.Censor.{IsLegal};
+    ghost use Rattle.cqe_base.specs.History.{profile_of};
     ghost use Rattle.cqe_base.specs.Limits.{KeepsSizes};
+    ghost use Rattle.entailment.specs.GroundSentences.{sentence_of};
+    ghost use Rattle.user_log.specs.Examining.{IsLent};
     ghost use Rattle.turnstile.specs.declared.pass.PassError.TheVariants.{TooMany};
     ghost use Rattle.turnstile.specs.History.{IsPrefix, IsOpening, Interleaves, IsRising};
     ghost use Rattle.turnstile.specs.History.{entries_with, turn_entries, count_of};
     ghost use Rattle.turnstile.specs.Views.{remaining_view, split_off_view, view_of_both};
     ghost use Rattle.turnstile.specs.Views.{DrewEachOnce};
     ghost use Rattle.turnstile.specs.Passes.{view_of, seen, tickets, mine, shares, turns};
-    ghost use Rattle.user_desk.specs.Causes.{OpensWithin};
-    ghost use Rattle.user_desk.specs.Entries.{StandsFor, IsNoLonger};
-    ghost use Rattle.user_desk.specs.Lives.{Holds};
-    ghost use Rattle.user_desk.specs.Standings.{is_open, is_sealed};
+    ghost use Rattle.user_desk.specs.Entries.{StandsFor};
+    ghost use Rattle.user_desk.specs.Standings.{is_sealed};
     ghost use Rattle.user_desk.specs.Desks.{desk_history, desk_disk, entry_in_flight};
     ghost use Rattle.desk_counter.specs.Items.{history_of, flying, has_broke, BrokeIsLast};
-    ghost use Rattle.desk_counter.specs.Items.{items_of, items_with, is_broke_last};
-    ghost use Rattle.desk_counter.specs.Desks.{fixed_of, state_shown};
+    ghost use Rattle.desk_counter.specs.Items.{is_broke_last};
+    ghost use Rattle.desk_counter.specs.Desks.{fixed_of};
     ghost use Rattle.desk_counter.specs.Asks.{NoMark, Asked, IsReply, TellsMark, AddsNoEntry};
+    ghost use Rattle.desk_counter.specs.Asks.{Looked, IsExaminedBehind};
     ghost use Rattle.desk_counter.specs.Counters.{kept_by, first_pairs, IsPassOf};
+    ghost use Rattle.desk_counter.specs.Closed.{IsClosed};
 
     /// Puts a desk under a counter. The pass has all 65 shares and 65 * 2^57 turns, and has seen
     /// the desk's entries, with ticket 0. For want of memory the desk comes back.
@@ -74,9 +85,18 @@ impl<'w, D: Disk> CounterOf<'w, TicketedDesk<'w, D>> {
         ensures err { IfErr result (λ same. same ≡ desk.entry) }
     {
         let value = TicketedDesk::new(alloc, desk)?;
-        let user = value.user();
+        let examiner = match value.examiner(alloc) {
+            Ok(examiner) => examiner,
+            Err(_) => return Err(value.into_desk()),
+        };
         match Turnstile::new(alloc, value) {
-            Ok((turnstile, pass)) => Ok((CounterOf { turnstile, user }, pass)),
+            Ok((turnstile, pass)) => Ok((
+                CounterOf {
+                    turnstile,
+                    examiner,
+                },
+                pass,
+            )),
             Err(value) => Err(value.into_desk()),
         }
     }
@@ -85,7 +105,7 @@ impl<'w, D: Disk> CounterOf<'w, TicketedDesk<'w, D>> {
     pub fn user(&self) -> &'w User
         ensures { profile_of result.now ≡ (kept_by self.now).user }
     {
-        self.user
+        self.examiner.user()
     }
 
     /// Splits off a pass with one share and 2^57 turns, which has seen as much. It takes no memory.
@@ -127,9 +147,11 @@ impl<'w, D: Disk> CounterOf<'w, TicketedDesk<'w, D>> {
         self.turnstile.meet(pass, other);
     }
 
-    /// Asks a text, in one turn: waits for it, settles the text by the entries of all asks before,
-    /// and leaves. The gate is passed once the text was examined, still in the turn, and once the
-    /// turn has ended.
+    /// Asks a text, in two turns. In the first one it takes a view of the log. Between both it
+    /// examines the text after that view. In the second one it settles the text by the entries of
+    /// all asks before, with what was found where the log is still the same, and else with what it
+    /// finds then. A pass that has all shares makes the second turn alone, and so does an ask of
+    /// which nothing is to be examined. The gate is passed between both turns and after the second.
     pub fn ask<R: Wait, G: Gate>(
         &self,
         rt: &R,
@@ -166,14 +188,67 @@ impl<'w, D: Disk> CounterOf<'w, TicketedDesk<'w, D>> {
             (history_of (seen pass.new)) }
         ensures last { BrokeIsLast (seen pass.new) }
     {
+        let examined = self.examined(rt, alloc, pass, text);
+        gate.pass(self.user().name.as_str(), Point::Examined);
         let mut turn = self.turnstile.enter(rt, pass);
         let ticket = turn.ticket();
-        let reply = turn.value.settle(alloc, ticket, text);
+        let reply = turn.value.settle(alloc, ticket, text, examined);
         turn.value.known();
-        gate.pass(self.user.name.as_str(), Point::Examined);
         self.turnstile.leave(pass, turn);
-        gate.pass(self.user.name.as_str(), Point::Settled);
+        gate.pass(self.user().name.as_str(), Point::Settled);
         reply
+    }
+
+    /// What is found of a text after the log as it stands in a first turn. There is nothing where
+    /// the pass has all shares, the text is no query that is to be examined, or memory is wanting.
+    fn examined<R: Wait>(
+        &self,
+        rt: &R,
+        alloc: Global,
+        pass: &mut DeskPass<D>,
+        text: &str,
+    ) -> Option<Examined<'w>>
+        requires pass { IsPassOf pass.old self.now }
+        requires turns { 1 ≤ turns pass.old }
+        requires short { length text.now ≤ 4096 }
+        ensures pass { IsPassOf pass.new self.now }
+        ensures used { turns pass.old ≤ turns pass.new + 1 }
+        ensures looked { Looked pass.old pass.new }
+        ensures examined { IfSome result
+            (IsExaminedBehind (kept_by self.now) (seen pass.new) text.now) }
+    {
+        law_logs();
+        if pass.shares() == ALL_SHARES {
+            return None;
+        }
+        let query = self.examiner.read(alloc, text)?;
+        let view = self.lend(rt, alloc, pass, text, &query)?;
+        self.examiner.examine(alloc, view, query)
+    }
+
+    /// A first turn: takes a view of the log, after which the query of a text is to be examined.
+    fn lend<R: Wait>(
+        &self,
+        rt: &R,
+        alloc: Global,
+        pass: &mut DeskPass<D>,
+        text: &str,
+        query: &GroundSentence,
+    ) -> Option<View<'w>>
+        requires pass { IsPassOf pass.old self.now }
+        requires turns { 1 ≤ turns pass.old }
+        requires short { length text.now ≤ 4096 }
+        ensures pass { IsPassOf pass.new self.now }
+        ensures used { turns pass.old ≤ turns pass.new + 1 }
+        ensures looked { Looked pass.old pass.new }
+        ensures lent { IfSome result
+            (IsLent (kept_by self.now).schema (kept_by self.now).user
+            (history_of (seen pass.new)) (sentence_of query.now)) }
+    {
+        let mut turn = self.turnstile.enter(rt, pass);
+        let view = turn.value.lend(alloc, text, query);
+        self.turnstile.leave(pass, turn);
+        view
     }
 
     /// Takes the desk out, with the pass that has all shares. Its entries have no tickets any more,
@@ -188,53 +263,20 @@ impl<'w, D: Disk> CounterOf<'w, TicketedDesk<'w, D>> {
 
         // They are the pairs that the desk was put under the counter with, and behind them the
         // pass's own: so an append failed where one had failed before, or one of the pass's own.
-        ensures added { seen pass ≡ first_pairs self.entry ++ mine pass }
-        ensures items { items_of (seen pass)
-            ≡ items_with (history_of (seen pass)) (flying (seen pass)) }
+        // What was seen is a legal history within the limits, and what became of its disk since the
+        // desk's opening.
+        ensures closed { IsClosed D.tells D.Disk (kept_by self.entry) (first_pairs self.entry)
+            (mine pass) (seen pass) (desk_disk result) }
         ensures drew { DrewEachOnce (view_of pass) }
-
-        // What was seen is a legal history within the limits, and each crash leaves just that;
-        // where an append failed, that or one entry more, and the disk's count of faults rose since
-        // the desk's opening; where none did, the disk has grown for the entries alone. Only a user
-        // who is served has any.
-        ensures legal { IsLegal (kept_by self.entry).schema (kept_by self.entry).world
-            (kept_by self.entry).user
-            (history_of (seen pass)) }
         ensures sizes { KeepsSizes (kept_by self.entry).schema (kept_by self.entry).user
             (history_of (seen pass)) }
-        ensures idle { is_open (kept_by self.entry).standing ≡ false
-            → (history_of (seen pass) ≡ []) × (flying (seen pass) ≡ None) }
+
+        // Where no append failed, each crash leaves just that history.
         ensures whole { D.tells → is_sealed (kept_by self.entry).standing ≡ false
             → has_broke (seen pass) ≡ false
             → (c : List ℕ) → D.image (desk_disk result) c
             → StandsFor (kept_by self.entry).schema (kept_by self.entry).header
             (history_of (seen pass)) c }
-        ensures images { D.tells → is_sealed (kept_by self.entry).standing ≡ false → (c : List ℕ)
-            → D.image (desk_disk result) c
-            → Holds (kept_by self.entry).schema (kept_by self.entry).world (kept_by self.entry).user
-            (kept_by self.entry).header (state_shown (kept_by self.entry) (seen pass)) c }
-        ensures cause { has_broke (seen pass) ≡ true
-            → Rose (D.faults (kept_by self.entry).disk) (D.faults (desk_disk result)) }
-        ensures size { D.tells → has_broke (seen pass) ≡ false
-            → IsNoLonger (D.reads (kept_by self.entry).disk) (history_of (seen pass))
-            (D.reads (desk_disk result)) }
-        ensures count { D.faults (kept_by self.entry).disk ≤ D.faults (desk_disk result) }
-
-        // Since the opening each image opens a desk with a beginning of it that has all entries at
-        // the opening; and where the journal was refused, or nothing was appended, the disk is as
-        // it was.
-        ensures since { D.tells → is_sealed (kept_by self.entry).standing ≡ false → (c : List ℕ)
-            → D.image_since (desk_disk result) (D.moment (kept_by self.entry).disk) c
-            → OpensWithin (kept_by self.entry).schema (kept_by self.entry).world
-            (kept_by self.entry).user (kept_by self.entry).header
-            (length (kept_by self.entry).opening)
-            (history_of (seen pass) ++ option_to_list (flying (seen pass))) c }
-        ensures refused { is_sealed (kept_by self.entry).standing ≡ true
-            → desk_disk result ≡ (kept_by self.entry).disk }
-        ensures still { length (history_of (seen pass)) ≡ length (kept_by self.entry).opening
-            → flying (seen pass) ≡ None → desk_disk result ≡ (kept_by self.entry).disk }
-        ensures time { Elapses (D.moment (kept_by self.entry).disk) (D.moment (desk_disk result))
-            (D.image_since (kept_by self.entry).disk) (D.image_since (desk_disk result)) }
     {
         let desk = self.turnstile.close(pass).into_desk();
         desk.known();

@@ -32,24 +32,17 @@ pub struct SoleOf<'w, V: Owned> {
 pub type SoleCounter<'w, D> = SoleOf<'w, TicketedDesk<'w, D>>;
 
 impl<'w, D: Disk> SoleOf<'w, TicketedDesk<'w, D>> {
-    ghost use Rattle.std.specs.Prelude.{true, false, List, ℕ, ◌^◌, ◌++◌, [], None};
-    ghost use Rattle.std.specs.Prelude.{option_to_list};
-    ghost use Rattle.outside.specs.Disk.{Elapses};
-    ghost use Rattle.outside.specs.Faults.{Rose};
+    ghost use Rattle.std.specs.Prelude.{◌^◌, []};
     ghost use Rattle.cqe_base.specs.Run.{UserState};
     ghost use Rattle.user_log.specs.Replies.{reply_of};
-    ghost use Rattle.user_desk.specs.Causes.{OpensWithin};
-    ghost use Rattle.user_desk.specs.Entries.{IsNoLonger};
-    ghost use Rattle.user_desk.specs.Lives.{Holds};
-    ghost use Rattle.cqe_base.specs.Censor.{IsLegal};
-    ghost use Rattle.user_desk.specs.Standings.{is_open, is_sealed};
     ghost use Rattle.user_desk.specs.Desks.{desk_history, desk_disk, entry_in_flight};
-    ghost use Rattle.desk_counter.specs.Items.{history_of, flying, has_broke, items_of, items_with};
+    ghost use Rattle.desk_counter.specs.Items.{history_of, flying};
     ghost use Rattle.desk_counter.specs.Desks.{fixed_of};
     ghost use Rattle.desk_counter.specs.Lives.{IsAskOf};
+    ghost use Rattle.desk_counter.specs.Closed.{IsClosed};
     ghost use Rattle.desk_counter.specs.Counters.{first_pairs, IsPassOf};
     ghost use Rattle.desk_counter.specs.Sole.{counter_in, pass_in, kept_in, pairs_of_sole};
-    ghost use Rattle.desk_counter.specs.Sole.{sole_state, IsSoleIn, IsAsOpened};
+    ghost use Rattle.desk_counter.specs.Sole.{IsSoleIn};
 
     /// Puts a desk under a counter. For want of memory the desk comes back.
     pub fn new(alloc: Global, desk: Desk<'w, D>) -> Result<SoleCounter<'w, D>, Desk<'w, D>>
@@ -125,47 +118,10 @@ impl<'w, D: Disk> SoleOf<'w, TicketedDesk<'w, D>> {
         ensures in_flight { entry_in_flight result ≡ flying (pairs_of_sole self.entry) }
 
         // Its pairs are those that it was put under the counter with, and then those that its pass
-        // has of its own; the entry in flight is the only one whose append failed.
-        ensures added { pairs_of_sole self.entry
-            ≡ first_pairs (counter_in self.entry) ++ mine (pass_in self.entry) }
-        ensures items { items_of (pairs_of_sole self.entry)
-            ≡ items_with (history_of (pairs_of_sole self.entry))
-            (flying (pairs_of_sole self.entry)) }
-
-        // Its history is legal, and only a user who is served has any; and what became of its disk
-        // since the opening.
-        ensures legal { IsLegal (kept_in self.entry).schema (kept_in self.entry).world
-            (kept_in self.entry).user
-            (history_of (pairs_of_sole self.entry)) }
-        ensures idle { is_open (kept_in self.entry).standing ≡ false
-            → (history_of (pairs_of_sole self.entry) ≡ [])
-            × (flying (pairs_of_sole self.entry) ≡ None) }
-        ensures images { D.tells → is_sealed (kept_in self.entry).standing ≡ false → (c : List ℕ)
-            → D.image (desk_disk result) c
-            → Holds (kept_in self.entry).schema (kept_in self.entry).world (kept_in self.entry).user
-            (kept_in self.entry).header (sole_state self.entry) c }
-        ensures count { D.faults (kept_in self.entry).disk ≤ D.faults (desk_disk result) }
-        ensures cause { has_broke (pairs_of_sole self.entry) ≡ true
-            → Rose (D.faults (kept_in self.entry).disk) (D.faults (desk_disk result)) }
-        ensures size { D.tells → has_broke (pairs_of_sole self.entry) ≡ false
-            → IsNoLonger (D.reads (kept_in self.entry).disk)
-            (history_of (pairs_of_sole self.entry)) (D.reads (desk_disk result)) }
-        ensures refused { is_sealed (kept_in self.entry).standing ≡ true
-            → desk_disk result ≡ (kept_in self.entry).disk }
-        ensures still { IsAsOpened (kept_in self.entry) (pairs_of_sole self.entry)
-            → desk_disk result ≡ (kept_in self.entry).disk }
-
-        // Since the opening each image opens a desk with a beginning of it, with the entry in
-        // flight, that has all entries at the opening.
-        ensures since { D.tells → is_sealed (kept_in self.entry).standing ≡ false → (c : List ℕ)
-            → D.image_since (desk_disk result) (D.moment (kept_in self.entry).disk) c
-            → OpensWithin (kept_in self.entry).schema (kept_in self.entry).world
-            (kept_in self.entry).user (kept_in self.entry).header
-            (length (kept_in self.entry).opening)
-            (history_of (pairs_of_sole self.entry)
-            ++ option_to_list (flying (pairs_of_sole self.entry))) c }
-        ensures time { Elapses (D.moment (kept_in self.entry).disk) (D.moment (desk_disk result))
-            (D.image_since (kept_in self.entry).disk) (D.image_since (desk_disk result)) }
+        // has of its own; and what became of its disk since the opening.
+        ensures closed { IsClosed D.tells D.Disk (kept_in self.entry)
+            (first_pairs (counter_in self.entry)) (mine (pass_in self.entry))
+            (pairs_of_sole self.entry) (desk_disk result) }
     {
         self.counter.close(self.pass)
     }

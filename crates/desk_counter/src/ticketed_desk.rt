@@ -1,21 +1,24 @@
 //! A desk whose entries have tickets.
 ghost use Rattle.std.specs.Prelude.{◌≡◌, length, replicate, IfOk};
+ghost use Rattle.cqe_base.specs.Schema.{DatabaseSchema};
 ghost use Rattle.cqe_base.specs.History.{UserProfile};
-ghost use Rattle.user_desk.specs.Desks.{desk_user, desk_history, entry_in_flight};
+ghost use Rattle.user_desk.specs.Desks.{desk_schema, desk_user, desk_history, entry_in_flight};
 ghost use Rattle.desk_counter.specs.Items.{pairs_of};
 ghost use Rattle.desk_counter.specs.Desks.{fixed_of};
 
 use crate::item::{Fixed, TurnItem};
-use cqe_base::user::User;
+use entailment::{GroundSentence, View};
 use outside::Disk;
 use std::alloc::{AllocError, Global};
 use turnstile::Recorded;
 use user_desk::Desk;
-use user_log::Reply;
+use user_log::{Examined, Examiner, Reply};
 
 /// A value under a turnstile that belongs to a user.
 pub trait Owned: Recorded {
     ghost owner: { Self → UserProfile };
+
+    ghost schema: { Self → DatabaseSchema };
     // What no turn changes, as the turnstile has it.
     ghost kept: { Self → Self.Fixed };
 }
@@ -44,12 +47,16 @@ impl<'w, D: Disk> Recorded for TicketedDesk<'w, D> {
 impl<'w, D: Disk> Owned for TicketedDesk<'w, D> {
     ghost owner = { λ d. desk_user d.desk };
 
+    ghost schema = { λ d. desk_schema d.desk };
+
     ghost kept = { λ d. fixed_of d.desk };
 }
 
 impl<'w, D: Disk> TicketedDesk<'w, D> {
-    ghost use Rattle.std.specs.Prelude.{◌≤◌, ◌↔◌, IsTrue, IfErr};
-    ghost use Rattle.cqe_base.specs.History.{profile_of};
+    ghost use Rattle.std.specs.Prelude.{◌≤◌, ◌↔◌, IsTrue, IfErr, IfSome};
+    ghost use Rattle.entailment.specs.GroundSentences.{sentence_of};
+    ghost use Rattle.user_log.specs.Examiners.{examiner_schema, examiner_user};
+    ghost use Rattle.user_log.specs.Examining.{IsExamined, IsLent};
     ghost use Rattle.cqe_base.specs.Censor.{IsLegal};
     ghost use Rattle.cqe_base.specs.Limits.{KeepsSizes};
     ghost use Rattle.turnstile.specs.History.{IsOpening};
@@ -85,11 +92,14 @@ impl<'w, D: Disk> TicketedDesk<'w, D> {
         desk
     }
 
-    /// The desk's user.
-    pub(crate) fn user(&self) -> &'w User
-        ensures { profile_of result.now ≡ (fixed_in self.now).user }
+    /// What examines the user's texts outside of a turn.
+    pub(crate) fn examiner(&self, alloc: Global) -> Result<Examiner<'w>, AllocError>
+        ensures schema { IfOk result (λ examiner.
+            examiner_schema examiner ≡ (fixed_in self.now).schema) }
+        ensures user { IfOk result (λ examiner.
+            examiner_user examiner ≡ (fixed_in self.now).user) }
     {
-        self.desk.user()
+        self.desk.examiner(alloc)
     }
 
     /// What is known of the pairs: their entries are legal and within the limits, and an entry in
@@ -105,9 +115,37 @@ impl<'w, D: Disk> TicketedDesk<'w, D> {
         self.desk.known();
     }
 
-    /// Settles a text in the turn of this ticket.
-    pub(crate) fn settle(&mut self, alloc: Global, ticket: u64, text: &str) -> Reply
+    /// A view of the log, after which the query of a text can be examined outside of a turn. There
+    /// is none where a code answers the text, or memory is wanting.
+    pub(crate) fn lend(
+        &mut self,
+        alloc: Global,
+        text: &str,
+        query: &GroundSentence,
+    ) -> Option<View<'w>>
         requires { length text.now ≤ 4096 }
+        ensures fixed { fixed_in self.new ≡ fixed_in self.old }
+        ensures pairs { pairs_in self.new ≡ pairs_in self.old }
+        ensures lent { IfSome result
+            (IsLent (fixed_in self.old).schema (fixed_in self.old).user
+            (history_of (pairs_in self.old)) (sentence_of query.now)) }
+    {
+        self.desk.lend(alloc, text, query)
+    }
+
+    /// Settles a text in the turn of this ticket, with what was found of it before, if that was
+    /// done.
+    pub(crate) fn settle(
+        &mut self,
+        alloc: Global,
+        ticket: u64,
+        text: &str,
+        examined: Option<Examined<'w>>,
+    ) -> Reply
+        requires short { length text.now ≤ 4096 }
+        requires examined { IfSome examined
+            (IsExamined (fixed_in self.old).schema (fixed_in self.old).user
+            (history_of (pairs_in self.old)) text.now) }
         ensures fixed { fixed_in self.new ≡ fixed_in self.old }
         ensures adds { Adds (fixed_in self.old) ticket text.now (pairs_in self.old)
             (pairs_in self.new) result }
@@ -120,7 +158,7 @@ impl<'w, D: Disk> TicketedDesk<'w, D> {
         if self.tickets.reserve(1).is_err() {
             return Reply::Memory;
         }
-        let reply = self.desk.settle(alloc, text);
+        let reply = self.desk.settle(alloc, text, examined);
         self.desk.known();
         match reply {
             Reply::Mark(_) => self.tickets.push_reserved(ticket),

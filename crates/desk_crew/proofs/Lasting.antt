@@ -1,5 +1,5 @@
 -- What a crash could leave of a journal at each moment of a call.
-use Rattle.std.proofs.Common.{◌≡◌, ◌⊎◌, inl, inr, ⊎_elim, ℕ, ◌≤◌, Bool, true, false, List, ◌++◌, length, take, refl, sym, ap, subst, arith}
+use Rattle.std.proofs.Common.{◌≡◌, ◌⊎◌, inl, inr, ⊎_elim, ℕ, ◌≤◌, Bool, true, false, List, ◌++◌, length, refl, sym, ap, subst, arith}
 use Rattle.std.proofs.Common.{length-append}
 use Rattle.std.specs.Prelude.{Option, Some, None, option_map, option_to_list, IfSome, not}
 use Rattle.std.proofs.lemmas.List.{take_all, take_at}

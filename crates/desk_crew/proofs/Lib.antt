@@ -6,3 +6,4 @@ pub mod Asking
 pub mod Seated
 pub mod Rising
 pub mod Lasting
+pub mod Giving

@@ -19,7 +19,9 @@ use Rattle.desk_crew.specs.Crew.{named_user, seat_user, seat_journal, seat_disk,
 use Rattle.desk_crew.specs.Shelved.{journals, IsBack, AreBack, AreLater, IsSeatOf, AreSeatsOf}
 use Rattle.desk_crew.specs.Seats.{DeskSeat}
 use Rattle.cqe_base.proofs.Lists.{text_is}
-use Rattle.desk_crew.proofs.Shelving.{Parts, parts, among-append, among_none_first, among_none_second, journals-append}
+use Rattle.desk_crew.specs.Registered.{HaveOwnNames, registered_journals}
+use Rattle.desk_crew.proofs.Giving.{CanGive, AreGiven, Same, IsRefused, AreUnopened, AllReturned}
+use Rattle.desk_crew.proofs.Shelving.{Parts, parts, among-append, among_none_first, among_none_second, journals-append, later_on, beside_one}
 
 abbrev pub names : List User → List Text
 names users = map (λ user. user.name) (map named_user users)
@@ -56,11 +58,6 @@ first_distinct users i distinct =
 pub length-journals : {D : Type 0} {g h : _} (seats : List (DeskSeat D g h)) → length (journals seats) ≡ length seats
 length-journals [] = refl
 length-journals (s ∷ seats) = ap (λ n. suc n) (length-journals seats)
-
--- what stands under a name reads as before, and no crash leaves anything new of it
-abbrev pub Same : {D : Type 0} → (D → List ℕ) → (D → List ℕ → Type 0) → (Text → Option D) → (Text → Option D) → Text → Type 0
-Same reads image old new name =
-    (bytes_on reads (new name) ≡ bytes_on reads (old name)) × ((c : List ℕ) → image_on image (new name) c → image_on image (old name) c)
 
 module _ (directory : Text) where
   journal_among : JournalsDiffer → (ns : List Text) (name : Text) → is_among (map (journal_name directory) ns) (journal_name directory name) ≡ is_among ns name
@@ -312,3 +309,109 @@ module _ (directory : Text) where
         by : (b : Bool) → is_among (journals seats) name ≡ b → Same Disk.reads Disk.image disk0 disk' name
         by true among = among_same t disk' count' name users seats are back among
         by false none = others name none
+
+-- ---- where the next journal is refused
+
+module _ {directory : Text} {schema : DatabaseSchema} {world : FactSet} {header : List ℕ} {D : Type 0} {g h : _} {told disk_told : Type 0} {Disk : DiskGhosts D}
+    {disk0 : Text → Option D} {count0 : Text → ℕ} (differ : JournalsDiffer) {users : List User} (distinct : has_duplicate (names users) ≡ false) {i : ℕ}
+    {user : User} (low : i < length users) (is : user ≡ get_or users i user) {seats : List (DeskSeat D g h)} {disk : Text → Option D} {is_out : Text → Bool}
+    {count : Text → ℕ} (so_far : Opened directory schema world header told disk_told Disk disk0 count0 users i seats disk is_out count)
+    {disk' : Text → Option D} {is_out' : Text → Bool} {count' : Text → ℕ}
+    (refused : IsRefused told Disk (journal_name directory (string_bytes user.name)) disk disk' is_out is_out' count count') where
+  -- those that are open can be given back
+  pub refused_can : CanGive Disk seats is_out' count'
+  refused_can =
+      let none = next_none directory schema world header told disk_told Disk disk0 count0 differ users distinct i user low is seats disk is_out count so_far in
+      record {
+        distinct = seats_distinct directory schema world header told disk_told Disk disk0 count0 differ (take i users) seats so_far.are
+            (first_distinct users i distinct);
+        out = λ name among. refused.out name ∙ so_far.out name ∙ among;
+        later = later_on told Disk count count' seats
+            (beside_one (journal_name directory (string_bytes user.name)) (journals seats) count count' none refused.counts)
+            (seats_later directory schema world header told disk_told Disk disk0 count0 count (take i users) seats so_far.counts so_far.are);
+      }
+
+  -- and then all disks are as they were
+  pub refused_back : {disk'' : Text → Option D} {is_out'' : Text → Bool} {count'' : Text → ℕ}
+      → AreGiven told Disk seats disk' disk'' is_out' is_out'' count' count''
+      → AreUnopened told Disk (registered_journals directory users) disk0 disk'' is_out'' count0 count''
+  refused_back {disk''} {is_out''} {count''} given = record {
+    inside = none_out directory schema world header told disk_told Disk disk0 count0 seats is_out' is_out''
+        (λ name. refused.out name ∙ so_far.out name) given.inside given.others_out;
+    same = λ t.
+        all_same directory schema world header told disk_told Disk disk0 count0 t (take i users) seats so_far.are disk'' count'' given.back
+        (λ name none. (
+          ap (bytes_on Disk.reads) (given.disks name none) ∙ refused.bytes t name ∙ ap (bytes_on Disk.reads) (so_far.disks name none),
+          λ crash left. subst (λ d. image_on Disk.image d crash) (so_far.disks name none)
+              (refused.images t name crash (subst (λ d. image_on Disk.image d crash) (given.disks name none) left)),
+        ));
+    disks = λ name none.
+        let apart = no_journal directory schema world header told disk_told Disk disk0 count0 differ users distinct i user low is seats disk is_out count
+        so_far name none in
+        given.disks name apart.0 ∙ refused.disks name apart.1 ∙ so_far.disks name apart.0;
+    counts = λ name.
+        let first = so_far.counts name in
+        let second = refused.fell name in
+        let third = none_fell directory schema world header told disk_told Disk disk0 count0 count' count'' seats refused_can.later disk'' given.back
+        given.counts name in
+        omega (arith, first, second, third);
+  }
+
+-- ---- the seats of all users
+
+-- behind an opening of all journals, which changed no count
+pub record AllSeated (directory : Text) (schema : DatabaseSchema) (world : FactSet) (header : List ℕ) {D : Type 0} {g h : _} (told disk_told : Type 0)
+    (Disk : DiskGhosts D) (users : List User) (seats : List (DeskSeat D g h)) (disk disk' : Text → Option D) (is_out' : Text → Bool)
+    (count count' : Text → ℕ) : Type 0 where
+  pub are : AreSeatsOf told Disk disk_told schema world header directory disk count users seats
+  pub journals_are : journals seats ≡ registered_journals directory users
+  pub distinct : has_duplicate (journals seats) ≡ false
+  pub served : AllByRecursion (IsSeatServed schema world header) seats
+  pub many : length seats ≡ length users
+  pub out : AreOut (journals seats) is_out'
+  pub first : AreLater Disk.faults count seats
+  pub later : AreLater Disk.faults count' seats
+  pub disks : SameBeside (registered_journals directory users) disk disk'
+  pub counts : SameNames count count'
+
+pub all_seated : (directory : Text) (schema : DatabaseSchema) (world : FactSet) (header : List ℕ) {D : Type 0} {g h : _} (told disk_told : Type 0)
+    (Disk : DiskGhosts D) (users : List User) (seats : List (DeskSeat D g h)) (disk disk' : Text → Option D) (is_out' : Text → Bool) (count count' : Text → ℕ)
+    → JournalsDiffer → HaveOwnNames users → AreSeatsOf told Disk disk_told schema world header directory disk count users seats
+    → AreOut (journals seats) is_out' → SameBeside (registered_journals directory users) disk disk' → SameNames count count'
+    → AllSeated directory schema world header told disk_told Disk users seats disk disk' is_out' count count'
+all_seated directory schema world header told disk_told Disk users seats disk disk' is_out' count count' differ distinct are out disks counts = record {
+  are = are;
+  journals_are = seat_journals directory schema world header told disk_told Disk disk count users seats are;
+  distinct = seats_distinct directory schema world header told disk_told Disk disk count differ users seats are distinct;
+  served = seats_served directory schema world header told disk_told Disk disk count users seats are;
+  many = same_length directory schema world header told disk_told Disk disk count users seats are;
+  out = out;
+  first = seats_later directory schema world header told disk_told Disk disk count count users seats (λ name. refl) are;
+  later = seats_later directory schema world header told disk_told Disk disk count count' users seats counts are;
+  disks = disks;
+  counts = counts;
+}
+
+module _ {directory : Text} {schema : DatabaseSchema} {world : FactSet} {header : List ℕ} {D : Type 0} {g h : _} {told disk_told : Type 0} {Disk : DiskGhosts D}
+    {users : List User} {seats : List (DeskSeat D g h)} {disk disk' : Text → Option D} {is_out' : Text → Bool} {count count' : Text → ℕ}
+    (seated : AllSeated directory schema world header told disk_told Disk users seats disk disk' is_out' count count') (news : List (DeskSeat D g h))
+    (same : journals news ≡ journals seats) (later : AreLater Disk.faults count' news) where
+  -- seats that took the place of these can be given back
+  pub seats_can : CanGive Disk news is_out' count'
+  seats_can = record {
+    distinct = ap has_duplicate same ∙ seated.distinct;
+    out = λ name among. seated.out name ∙ ap (λ ns. is_among ns name) (sym same) ∙ among;
+    later = later;
+  }
+
+  -- and once they were, the shelf is whole
+  pub all_returned : {disk'' : Text → Option D} {is_out'' : Text → Bool} {count'' : Text → ℕ}
+      → AreGiven told Disk news disk' disk'' is_out' is_out'' count' count''
+      → AllReturned (registered_journals directory users) disk disk'' is_out'' count count''
+  all_returned {disk''} {is_out''} {count''} given = record {
+    disks = λ name none. given.disks name (ap (λ ns. is_among ns name) (same ∙ seated.journals_are) ∙ none) ∙ seated.disks name none;
+    inside = none_out directory schema world header told disk_told Disk disk count news is_out' is_out''
+        (subst (λ ns. AreOut ns is_out') (sym same) seated.out) given.inside given.others_out;
+    counts = λ name. subst (λ n. n ≤ count'' name) (seated.counts name)
+        (none_fell directory schema world header told disk_told Disk disk count count' count'' news later disk'' given.back given.counts name);
+  }

@@ -1,8 +1,8 @@
 -- Desks that are closed and opened again, and their disks where memory was wanting.
 use Rattle.std.proofs.Common.{◌≡◌, ℕ, ◌≤◌, Bool, true, false, List, [], ◌∷◌, ◌++◌, refl, sym, ap, subst, ◌∙◌, append_assoc, append-nil, arith}
-use Rattle.std.specs.Prelude.{Option, Some, ◌||◌, bytes_eq}
+use Rattle.std.specs.Prelude.{Option, ◌||◌, bytes_eq}
 use Rattle.std.specs.Cmp.Lexicographic.{same_text}
-use Rattle.outside.specs.Shelf.{SameOthers, is_among, SameBeside, AllOut, AllIn}
+use Rattle.outside.specs.Shelf.{SameOthers, is_among, SameBeside}
 use Rattle.outside.specs.declared.disk.Disk.{Ghosts as DiskGhosts}
 use Rattle.cqe_base.specs.Schema.{Text, DatabaseSchema, has_duplicate}
 use Rattle.cqe_base.specs.Facts.{FactSet}
@@ -13,6 +13,7 @@ use Rattle.desk_crew.specs.Seats.{DeskSeat}
 use Rattle.cqe_base.proofs.Lists.{text_is}
 use Rattle.desk_crew.proofs.Shelving.{Parts, parts, among-append, journals-append, back-append, back_on, later-first, later-second, later_on, left_on}
 use Rattle.desk_crew.proofs.Shelving.{among_first, among_second, among_none_first, among_none_second, beside_one}
+use Rattle.desk_crew.proofs.Giving.{CanGive, AreGiven, IsGiven}
 
 module _ (schema : DatabaseSchema) (world : FactSet) (header : List ℕ) {D : Type 0} {g h : _} (told shelf_told : Type 0) (Disk : DiskGhosts D) where
   -- these seats were closed and opened again, and those are still to be
@@ -106,11 +107,15 @@ module _ (schema : DatabaseSchema) (world : FactSet) (header : List ℕ) {D : Ty
     back_before tells disk count olds news are.1 back.1,
   )
 
-  -- ---- memory was wanting at one seat
+-- ---- memory was wanting at one seat
 
-  module _ (all seats rest reopened : List (DeskSeat D g h)) (seat : DeskSeat D g h) (is : seats ≡ seat ∷ rest) (half : Halfway all seats reopened)
-      (disk0 : Text → Option D) (out0 : Text → Bool) (count0 : Text → ℕ) (distinct : has_duplicate (journals all) ≡ false) (out : AllOut (journals all) out0)
-      (later : AreLater Disk.faults count0 all) where
+module _ {schema : DatabaseSchema} {world : FactSet} {header : List ℕ} {D : Type 0} {g h : _} {told shelf_told : Type 0} {Disk : DiskGhosts D} where
+  module _ {all seats rest reopened : List (DeskSeat D g h)} {seat : DeskSeat D g h} (is : seats ≡ seat ∷ rest)
+      (half : Halfway schema world header told shelf_told Disk all seats reopened)
+      {out0 : Text → Bool} {count0 : Text → ℕ} (can : CanGive Disk all out0 count0) where
+    same : journals reopened ≡ journals half.done
+    same = same_journals schema world header told shelf_told Disk half.done reopened half.are
+
     abbrev here : Text
     here = seat_journal seat
 
@@ -118,7 +123,7 @@ module _ (schema : DatabaseSchema) (world : FactSet) (header : List ℕ) {D : Ty
     names = ap journals (half.split ∙ ap (λ l. half.done ++ l) is) ∙ journals-append half.done (seat ∷ rest)
 
     two : Parts (journals half.done) (here ∷ journals rest)
-    two = parts (journals half.done) (here ∷ journals rest) (ap has_duplicate (sym names) ∙ distinct)
+    two = parts (journals half.done) (here ∷ journals rest) (ap has_duplicate (sym names) ∙ can.distinct)
 
     among_all : (name : Text) → is_among (journals half.done ++ (here ∷ journals rest)) name ≡ true → is_among (journals all) name ≡ true
     among_all name is = ap (λ ns. is_among ns name) names ∙ is
@@ -130,10 +135,10 @@ module _ (schema : DatabaseSchema) (world : FactSet) (header : List ℕ) {D : Ty
     among_rest name is = among_second (here ∷ []) (journals rest) name is
 
     all_later : AreLater Disk.faults count0 (half.done ++ (seat ∷ rest))
-    all_later = subst (AreLater Disk.faults count0) (half.split ∙ ap (λ l. half.done ++ l) is) later
+    all_later = subst (AreLater Disk.faults count0) (half.split ∙ ap (λ l. half.done ++ l) is) can.later
 
     pub fail_out : out0 here ≡ true
-    fail_out = out here (among_all here (among_second (journals half.done) (here ∷ journals rest) here among_here))
+    fail_out = can.out here (among_all here (among_second (journals half.done) (here ∷ journals rest) here among_here))
 
     pub fail_later : count0 here ≤ Disk.faults (seat_disk seat)
     fail_later = (later-second shelf_told Disk count0 half.done (seat ∷ rest) all_later).0
@@ -141,29 +146,25 @@ module _ (schema : DatabaseSchema) (world : FactSet) (header : List ℕ) {D : Ty
     here_apart : is_among (journals rest) here ≡ false
     here_apart = or_first _ _ two.second
 
-    module _ (returned : D) (disk1 : Text → Option D) (out1 : Text → Bool) (count1 : Text → ℕ) (one : Text) (named : one ≡ here) (tells : shelf_told → told)
-        (left : IsLeftBy told Disk seat.desk returned)
-        (held1 : shelf_told → disk1 one ≡ Some returned) (disks1 : SameOthers one disk0 disk1) (in1 : out1 one ≡ false) (outs1 : SameOthers one out0 out1)
-        (counted1 : count1 one ≡ Disk.faults returned) (counts1 : SameOthers one count0 count1) where
+    module _ {returned : D} {disk0 disk1 : Text → Option D} {out1 : Text → Bool} {count1 : Text → ℕ} {one : Text} (named : one ≡ here)
+        (tells : shelf_told → told) (left : IsLeftBy told Disk seat.desk returned)
+        (first : IsGiven shelf_told Disk one returned disk0 disk1 out0 out1 count0 count1) where
       one_apart : is_among (journals rest) one ≡ false
       one_apart = ap (is_among (journals rest)) named ∙ here_apart
 
-      pub rest_distinct : has_duplicate (journals rest) ≡ false
-      rest_distinct = or_second _ _ two.second
+      -- the seats behind it can be given back
+      pub rest_can : CanGive Disk rest out1 count1
+      rest_can = record {
+        distinct = or_second _ _ two.second;
+        out = λ name among.
+            beside_one one (journals rest) out0 out1 one_apart first.others_out name among
+            ∙ can.out name (among_all name (among_second (journals half.done) (here ∷ journals rest) name (among_rest name among)));
+        later = later_on shelf_told Disk count0 count1 rest (beside_one one (journals rest) count0 count1 one_apart first.counts)
+            (later-second shelf_told Disk count0 half.done (seat ∷ rest) all_later).1;
+      }
 
-      pub rest_out : AllOut (journals rest) out1
-      rest_out name among =
-          beside_one one (journals rest) out0 out1 one_apart outs1 name among
-          ∙ out name (among_all name (among_second (journals half.done) (here ∷ journals rest) name (among_rest name among)))
-
-      pub rest_later : AreLater Disk.faults count1 rest
-      rest_later = later_on shelf_told Disk count0 count1 rest (beside_one one (journals rest) count0 count1 one_apart counts1)
-          (later-second shelf_told Disk count0 half.done (seat ∷ rest) all_later).1
-
-      module _ (disk2 : Text → Option D) (out2 : Text → Bool) (count2 : Text → ℕ) (back2 : AreBack shelf_told Disk disk2 count2 rest)
-          (in2 : AllIn (journals rest) out2)
-          (outs2 : SameBeside (journals rest) out1 out2) (disks2 : SameBeside (journals rest) disk1 disk2)
-          (counts2 : SameBeside (journals rest) count1 count2) where
+      module _ {disk2 : Text → Option D} {out2 : Text → Bool} {count2 : Text → ℕ}
+          (second : AreGiven shelf_told Disk rest disk1 disk2 out1 out2 count1 count2) where
         done_apart : is_among (journals half.done) one ≡ false
         done_apart = ap (is_among (journals half.done)) named ∙ two.apart_back here among_here
 
@@ -172,85 +173,83 @@ module _ (schema : DatabaseSchema) (world : FactSet) (header : List ℕ) {D : Ty
 
         done_same : {A : Type 0} (f0 f1 f2 : Text → A) → SameOthers one f0 f1 → SameBeside (journals rest) f1 f2 → (name : Text)
             → is_among (journals half.done) name ≡ true → f2 name ≡ f0 name
-        done_same f0 f1 f2 first second name among = second name (done_rest name among) ∙ beside_one one (journals half.done) f0 f1 done_apart first name among
+        done_same f0 f1 f2 at_one at_rest name among =
+            at_rest name (done_rest name among) ∙ beside_one one (journals half.done) f0 f1 done_apart at_one name among
 
-        pub done_distinct : has_duplicate (journals reopened) ≡ false
-        done_distinct = ap has_duplicate (same_journals half.done reopened half.are) ∙ two.first
+        -- and so can those before it, which were opened again
+        pub done_can : CanGive Disk reopened out2 count2
+        done_can = record {
+          distinct = ap has_duplicate same ∙ two.first;
+          out = λ name among.
+              let was : is_among (journals half.done) name ≡ true =
+              ap (λ ns. is_among ns name) (sym same) ∙ among in
+              done_same out0 out1 out2 first.others_out second.others_out name was
+              ∙ can.out name (among_all name (among_first (journals half.done) (here ∷ journals rest) name was));
+          later = later_reopened schema world header told shelf_told Disk count2 half.done reopened half.are
+              (later_on shelf_told Disk count0 count2 half.done (done_same count0 count1 count2 first.counts second.counts)
+              (later-first shelf_told Disk count0 half.done (seat ∷ rest) all_later));
+        }
 
-        pub done_out : AllOut (journals reopened) out2
-        done_out name among =
-            let was : is_among (journals half.done) name ≡ true = ap (λ ns. is_among ns name) (sym (same_journals half.done reopened half.are)) ∙ among in
-            done_same out0 out1 out2 outs1 outs2 name was ∙ out name (among_all name (among_first (journals half.done) (here ∷ journals rest) name was))
-
-        pub done_later : AreLater Disk.faults count2 reopened
-        done_later = later_reopened count2 half.done reopened half.are
-            (later_on shelf_told Disk count0 count2 half.done (done_same count0 count1 count2 counts1 counts2)
-            (later-first shelf_told Disk count0 half.done (seat ∷ rest) all_later))
-
-        module _ (disk3 : Text → Option D) (out3 : Text → Bool) (count3 : Text → ℕ) (back3 : AreBack shelf_told Disk disk3 count3 reopened)
-            (in3 : AllIn (journals reopened) out3)
-            (outs3 : SameBeside (journals reopened) out2 out3) (disks3 : SameBeside (journals reopened) disk2 disk3)
-            (counts3 : SameBeside (journals reopened) count2 count3) where
+        module _ {disk3 : Text → Option D} {out3 : Text → Bool} {count3 : Text → ℕ}
+            (third : AreGiven shelf_told Disk reopened disk2 disk3 out2 out3 count2 count3) where
           beside_done : {A : Type 0} (f2 f3 : Text → A) → SameBeside (journals reopened) f2 f3 → SameBeside (journals half.done) f2 f3
-          beside_done f2 f3 same = subst (λ ns. SameBeside ns f2 f3) (same_journals half.done reopened half.are) same
+          beside_done f2 f3 beside = subst (λ ns. SameBeside ns f2 f3) same beside
 
           rest_same : {A : Type 0} (f2 f3 : Text → A) → SameBeside (journals reopened) f2 f3 → (name : Text) → is_among (journals rest) name ≡ true
               → f3 name ≡ f2 name
-          rest_same f2 f3 same name among = beside_done f2 f3 same name (two.apart_back name (among_rest name among))
+          rest_same f2 f3 beside name among = beside_done f2 f3 beside name (two.apart_back name (among_rest name among))
 
           here_same : {A : Type 0} (f1 f2 f3 : Text → A) → SameBeside (journals rest) f1 f2 → SameBeside (journals reopened) f2 f3 → f3 here ≡ f1 here
-          here_same f1 f2 f3 first second = beside_done f2 f3 second here (two.apart_back here among_here) ∙ first here here_apart
+          here_same f1 f2 f3 at_rest at_done = beside_done f2 f3 at_done here (two.apart_back here among_here) ∙ at_rest here here_apart
 
           beside_all : {A : Type 0} (f0 f1 f2 f3 : Text → A) → SameOthers one f0 f1 → SameBeside (journals rest) f1 f2 → SameBeside (journals reopened) f2 f3
               → SameBeside (journals all) f0 f3
-          beside_all f0 f1 f2 f3 first second third name none =
+          beside_all f0 f1 f2 f3 at_one at_rest at_done name none =
               let none_all : is_among (journals half.done ++ (here ∷ journals rest)) name ≡ false = ap (λ ns. is_among ns name) (sym names) ∙ none in
               let none_tail = among_none_second (journals half.done) (here ∷ journals rest) name none_all in
-              beside_done f2 f3 third name (among_none_first (journals half.done) (here ∷ journals rest) name none_all)
-              ∙ second name (or_second _ _ none_tail)
-              ∙ first name (ap (bytes_eq name) named ∙ or_first _ _ none_tail)
-
-          -- all disks are back
-          pub record Failed : Type 0 where
-            pub back : AreBack shelf_told Disk disk3 count3 all
-            pub inside : AllIn (journals all) out3
-            pub others_out : SameBeside (journals all) out0 out3
-            pub disks : SameBeside (journals all) disk0 disk3
-            pub counts : SameBeside (journals all) count0 count3
+              beside_done f2 f3 at_done name (among_none_first (journals half.done) (here ∷ journals rest) name none_all)
+              ∙ at_rest name (or_second _ _ none_tail)
+              ∙ at_one name (ap (bytes_eq name) named ∙ or_first _ _ none_tail)
 
           in_all : (name : Text) → is_among (journals half.done ++ (here ∷ journals rest)) name ≡ true → out3 name ≡ false
           in_all name among = by_done (is_among (journals half.done) name) refl
             where
               by_here : (b : Bool) → bytes_eq name here ≡ b → is_among (journals half.done) name ≡ false → out3 name ≡ false
-              by_here true same none =
-                  let at : name ≡ here = same_text name here (sym same) in
-                  ap out3 at ∙ here_same out1 out2 out3 outs2 outs3 ∙ ap out1 (sym named) ∙ in1
+              by_here true equal none =
+                  let at : name ≡ here = same_text name here (sym equal) in
+                  ap out3 at ∙ here_same out1 out2 out3 second.others_out third.others_out ∙ ap out1 (sym named) ∙ first.inside
               by_here false differ none =
                   let tail : is_among (here ∷ journals rest) name ≡ true =
                   sym (ap (λ b. b || is_among (here ∷ journals rest) name) none) ∙ sym (among-append (journals half.done) (here ∷ journals rest) name)
                   ∙ among in
                   let inner : is_among (journals rest) name ≡ true = sym (ap (λ b. b || is_among (journals rest) name) differ) ∙ tail in
-                  rest_same out2 out3 outs3 name inner ∙ in2 name inner
+                  rest_same out2 out3 third.others_out name inner ∙ second.inside name inner
 
               by_done : (b : Bool) → is_among (journals half.done) name ≡ b → out3 name ≡ false
-              by_done true was = in3 name (ap (λ ns. is_among ns name) (same_journals half.done reopened half.are) ∙ was)
+              by_done true was = third.inside name (ap (λ ns. is_among ns name) same ∙ was)
               by_done false none = by_here (bytes_eq name here) refl none
 
-          pub failed : Failed
-          failed = record {
+          -- all disks are back
+          pub all_given : AreGiven shelf_told Disk all disk0 disk3 out0 out3 count0 count3
+          all_given = record {
             back = subst (AreBack shelf_told Disk disk3 count3) (sym (half.split ∙ ap (λ l. half.done ++ l) is))
                 (back-append shelf_told Disk disk3 count3 half.done (seat ∷ rest)
-                (back_before tells disk3 count3 half.done reopened half.are back3) (
+                (back_before schema world header told shelf_told Disk tells disk3 count3 half.done reopened half.are third.back) (
                   record {
                     now = returned;
-                    left = record { closed = left.closed; is_closed = closed_told tells seat left.closed left.is_closed; left = left.left };
-                    held = λ t. here_same disk1 disk2 disk3 disks2 disks3 ∙ ap disk1 (sym named) ∙ held1 t;
-                    counted = here_same count1 count2 count3 counts2 counts3 ∙ ap count1 (sym named) ∙ counted1;
+                    left = record {
+                      closed = left.closed;
+                      is_closed = closed_told schema world header told shelf_told Disk tells seat left.closed left.is_closed;
+                      left = left.left;
+                    };
+                    held = λ t. here_same disk1 disk2 disk3 second.disks third.disks ∙ ap disk1 (sym named) ∙ first.held t;
+                    counted = here_same count1 count2 count3 second.counts third.counts ∙ ap count1 (sym named) ∙ first.counted;
                   },
-                  back_on shelf_told Disk disk2 disk3 count2 count3 rest (rest_same disk2 disk3 disks3) (rest_same count2 count3 counts3) back2,
+                  back_on shelf_told Disk disk2 disk3 count2 count3 rest (rest_same disk2 disk3 third.disks) (rest_same count2 count3 third.counts)
+                      second.back,
                 ));
             inside = λ name among. in_all name (sym (ap (λ ns. is_among ns name) names) ∙ among);
-            others_out = beside_all out0 out1 out2 out3 outs1 outs2 outs3;
-            disks = beside_all disk0 disk1 disk2 disk3 disks1 disks2 disks3;
-            counts = beside_all count0 count1 count2 count3 counts1 counts2 counts3;
+            others_out = beside_all out0 out1 out2 out3 first.others_out second.others_out third.others_out;
+            disks = beside_all disk0 disk1 disk2 disk3 first.disks second.disks third.disks;
+            counts = beside_all count0 count1 count2 count3 first.counts second.counts third.counts;
           }

@@ -1,9 +1,7 @@
 -- Users at their desks, and what an ask, a close and an opening make of a desk and of its disk.
-use Rattle.std.specs.Prelude.{◌≡◌, ℕ, ◌≤◌, ◌*◌, ◌^◌, Bool, true, false, List, [], ◌∷◌, ◌++◌}
-use Rattle.std.specs.Prelude.{bytes_eq, length, Option, Some, None, Result, Ok, Err, string_bytes}
-use Rattle.std.specs.Prelude.{option_to_list}
+use Rattle.std.specs.Prelude.{◌≡◌, ℕ, ◌≤◌, ◌*◌, ◌^◌, Bool, true, false, List, [], ◌∷◌}
+use Rattle.std.specs.Prelude.{bytes_eq, Option, Some, None, Result, Ok, Err, string_bytes}
 use Rattle.outside.specs.Disk.{Elapses}
-use Rattle.outside.specs.Faults.{Rose}
 use Rattle.outside.specs.declared.disk.Disk.{Ghosts as DiskGhosts}
 use Rattle.cqe_base.specs.Schema.{Text, DatabaseSchema}
 use Rattle.cqe_base.specs.Facts.{FactSet}
@@ -12,18 +10,18 @@ use Rattle.cqe_base.specs.Run.{Reply, UserState}
 use Rattle.cqe_base.specs.Transcript.{NamedUser}
 use Rattle.cqe_base.specs.declared.user.User.{User}
 use Rattle.censors.specs.Admitting.{admission_of}
-use Rattle.user_desk.specs.Causes.{IsStanding, OpensWithin}
+use Rattle.user_desk.specs.Causes.{IsStanding}
 use Rattle.cqe_base.specs.Censor.{IsLegal}
-use Rattle.user_desk.specs.Standings.{is_open, is_sealed}
-use Rattle.user_desk.specs.Entries.{IsNoLonger}
+use Rattle.user_desk.specs.Standings.{is_sealed}
 use Rattle.user_desk.specs.Lives.{Holds, Restarts}
 use Rattle.user_desk.specs.declared.standing.DeskError.{DeskError}
 use Rattle.user_desk.specs.declared.standing.Standing.{Standing}
 use Rattle.user_desk.specs.declared.standing.Standing.TheVariants.{Open, Closed, Sealed}
 use Rattle.desk_counter.specs.declared.item.Fixed.{Fixed}
 use Rattle.desk_counter.specs.Lives.{IsAskOf}
-use Rattle.desk_counter.specs.Items.{history_of, flying, has_broke, items_of, items_with}
+use Rattle.desk_counter.specs.Items.{history_of, has_broke}
 use Rattle.turnstile.specs.Passes.{mine, turns}
+use Rattle.desk_counter.specs.Closed as counter
 use Rattle.desk_counter.specs.Counters.{first_pairs}
 use Rattle.desk_counter.specs.Sole.{counter_in, pass_in, kept_in, pairs_of_sole, sole_state}
 use Rattle.desk_counter.specs.Sole.{IsSoleIn, IsAsOpened}
@@ -117,40 +115,12 @@ pub record IsLeft {D : Type 0} (Disk : DiskGhosts D)
       (Disk.image_since new)
   pub rests : (c : List ℕ) → Disk.image_since new (Disk.moment old) c → Disk.image old c
 
--- A desk leaves this disk as it is closed: unless its journal was refused, each image holds the
--- state that the desk showed, whose history is legal; its pairs are what was put under the counter
--- and then what the pass has of its own, with one entry in flight at most; only of a user who is
--- served has it any; the count rose where an append failed; where none did, the disk has grown for
--- the entries alone; and where nothing was appended it is as it was at the opening. Since the
--- opening each image opens a desk with a beginning of the history, with the entry in flight, that
--- has all entries at the opening.
-pub record IsClosed {D : Type 0} {g h : _} (told : Type 0) (Disk : DiskGhosts D)
-    (desk : SoleOf (TicketedDesk D g) TurnItem (Fixed D) h) (disk : D) : Type 0 where
-  pub holds : told → is_sealed (kept_in desk).standing ≡ false → (c : List ℕ) → Disk.image disk c
-      → Holds (kept_in desk).schema (kept_in desk).world (kept_in desk).user (kept_in desk).header
-      (sole_state desk) c
-  pub legal : IsLegal (kept_in desk).schema (kept_in desk).world (kept_in desk).user
-      (history_of (pairs_of_sole desk))
-  pub added : pairs_of_sole desk ≡ first_pairs (counter_in desk) ++ mine (pass_in desk)
-  pub items : items_of (pairs_of_sole desk)
-      ≡ items_with (history_of (pairs_of_sole desk)) (flying (pairs_of_sole desk))
-  pub idle : is_open (kept_in desk).standing ≡ false → (history_of (pairs_of_sole desk) ≡ [])
-      × (flying (pairs_of_sole desk) ≡ None)
-  pub later : Disk.faults (kept_in desk).disk ≤ Disk.faults disk
-  pub cause : (sole_state desk).broken ≡ true → Rose (Disk.faults (kept_in desk).disk)
-      (Disk.faults disk)
-  pub size : told → (sole_state desk).broken ≡ false
-      → IsNoLonger (Disk.reads (kept_in desk).disk) (history_of (pairs_of_sole desk))
-      (Disk.reads disk)
-  pub shut : is_sealed (kept_in desk).standing ≡ true → disk ≡ (kept_in desk).disk
-  pub still : IsAsOpened (kept_in desk) (pairs_of_sole desk) → disk ≡ (kept_in desk).disk
-  pub since : told → is_sealed (kept_in desk).standing ≡ false → (c : List ℕ)
-      → Disk.image_since disk (Disk.moment (kept_in desk).disk) c
-      → OpensWithin (kept_in desk).schema (kept_in desk).world (kept_in desk).user
-      (kept_in desk).header (length (kept_in desk).opening)
-      (history_of (pairs_of_sole desk) ++ option_to_list (flying (pairs_of_sole desk))) c
-  pub time : Elapses (Disk.moment (kept_in desk).disk) (Disk.moment disk)
-      (Disk.image_since (kept_in desk).disk) (Disk.image_since disk)
+-- a desk leaves this disk as it is closed
+abbrev pub IsClosed : {D : Type 0} {g h : _} → Type 0 → DiskGhosts D
+    → SoleOf (TicketedDesk D g) TurnItem (Fixed D) h → D → Type 0
+IsClosed told Disk desk disk =
+    counter.IsClosed told Disk (kept_in desk) (first_pairs (counter_in desk)) (mine (pass_in desk))
+    (pairs_of_sole desk) disk
 
 -- a desk was closed, and an opening left its disk as this one
 pub record IsLeftBy {D : Type 0} {g h : _} (told : Type 0) (Disk : DiskGhosts D)

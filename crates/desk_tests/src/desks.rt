@@ -107,11 +107,14 @@ fn one_ask_writes_its_bytes(rt: HostRuntime) -> Result<(), Fail> {
     format(&mut disk, &HEADER)?;
     let mut desk = desk_on(&rt, alloc, &ward, disk)?;
     assert_eq!(rt; *desk.standing(), Standing::Open);
-    assert_eq!(rt; desk.settle(alloc, "drug(ann)"), Reply::Mark(Mark::No));
+    assert_eq!(rt;
+        desk.settle(alloc, "drug(ann)", None),
+        Reply::Mark(Mark::No)
+    );
     assert_eq!(rt; desk.entries().len(), 1);
     assert!(rt; !desk.broken());
     // The empty text isn't a sentence: kind 2 at its end. A code writes nothing.
-    let reply = desk.settle(alloc, "");
+    let reply = desk.settle(alloc, "", None);
     assert!(rt; matches!(reply, Reply::Syntax(error) if error.kind == 2 && error.place == 0));
     let disk = desk.close();
     assert_eq!(rt; disk.bytes().len(), 86);
@@ -228,7 +231,7 @@ fn a_user_who_is_not_admitted_has_no_entry(rt: HostRuntime) -> Result<(), Fail> 
     let disk = MemoryDisk::new(alloc, with_header(alloc, &[0])?)?;
     let mut desk = desk_on(&rt, alloc, &ward, disk)?;
     assert_eq!(rt; *desk.standing(), Standing::Closed(implied));
-    assert_eq!(rt; desk.settle(alloc, "drug(ann)"), Reply::Closed);
+    assert_eq!(rt; desk.settle(alloc, "drug(ann)", None), Reply::Closed);
     let disk = desk.close();
     assert_eq!(rt; disk.bytes().len(), 73);
     Ok(())
@@ -245,7 +248,7 @@ fn a_fault_at_the_opening_seals_the_desk(rt: HostRuntime) -> Result<(), Fail> {
         let mut desk = desk_on(&rt, alloc, &ward, disk)?;
         let fault = DeskError::Journal(OpenError::DiskFault);
         assert_eq!(rt; *desk.standing(), Standing::Sealed(fault));
-        assert_eq!(rt; desk.settle(alloc, "drug(ann)"), Reply::Sealed);
+        assert_eq!(rt; desk.settle(alloc, "drug(ann)", None), Reply::Sealed);
         assert!(rt; !desk.broken());
         let desk = desk_on(&rt, alloc, &ward, desk.close())?;
         assert_eq!(rt; *desk.standing(), Standing::Open);
@@ -269,8 +272,8 @@ fn two_lives(
     let bytes = with_header(alloc, &[0])?;
     let disk = MemoryDisk::with_plan(alloc, bytes, Plan::From(stop))?;
     let mut desk = desk_on(rt, alloc, ward, disk)?;
-    let first = desk.settle(alloc, "drug(ann)");
-    let second = desk.settle(alloc, "hiv(bob)");
+    let first = desk.settle(alloc, "drug(ann)", None);
+    let second = desk.settle(alloc, "hiv(bob)", None);
     let image = desk.close().crash_image(alloc, picture)?;
     let (standing, count) = opened(rt, alloc, ward, image)?;
     assert_eq!(rt; standing, Standing::Open);

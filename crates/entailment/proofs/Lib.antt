@@ -3,6 +3,7 @@ mod LogNodes
 mod LogForms
 mod LogItems
 mod ViewForms
+mod LogBeginnings
 mod OpenViews
 mod KeptClauses
 mod CostBounds

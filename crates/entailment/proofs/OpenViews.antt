@@ -1,5 +1,5 @@
 -- Views whose fields are at hand.
-use Rattle.std.proofs.Common.{◌≡◌, ℕ, List, ◌++◌, ap, sym, subst, ◌∙◌}
+use Rattle.std.proofs.Common.{◌≡◌, ℕ, List, ◌++◌, ap, subst, ◌∙◌}
 use Rattle.cqe_base.specs.Entailment.{Signed}
 use Rattle.clause_form.specs.Forms.{Form}
 use Rattle.entailment.specs.Logs.{IsSmallLog, told_log}

@@ -9,7 +9,7 @@ use Rattle.cqe_base.specs.Literal.{sign_at}
 use Rattle.cqe_base.specs.Refutation.{is_refutation, is_model}
 use Rattle.cqe_base.specs.Machine.{End, Model, Refuted, end_within_budget}
 use Rattle.cqe_base.specs.Outcome as told
-use Rattle.cqe_base.specs.Outcome.{Outcome, outcome, ground_outcome, outcome_of_end, is_right_end, grounded_signed, grounded_probe}
+use Rattle.cqe_base.specs.Outcome.{Outcome, outcome, ground_outcome, outcome_of_end, is_right_end, grounded_probe}
 use Rattle.cqe_base.specs.MachineLaws.{RefutationEntails, ModelIsCountermodel, ClauseFormUsesItsVariables, ClauseFormHasNoRepeat, BudgetIsWholeCost}
 use Rattle.cqe_base.specs.MachineLaws.{MachineEndsAreRight}
 use Rattle.clause_form.specs.Forms.{Form, form_of}

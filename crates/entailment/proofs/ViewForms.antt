@@ -9,6 +9,10 @@ use Rattle.cqe_base.specs.Entailment.{Signed}
 use Rattle.cqe_base.specs.History.{signed_nodes}
 use Rattle.entailment.specs.Logs.{IsSmallLog, log_nodes}
 
+-- no sentences
+pub small-none : (schema : DatabaseSchema) → IsSmallLog schema []
+small-none schema = record { sentences = refl; each = refl; all = omega arith }
+
 -- a small log with one more sentence that isn't too large
 pub small-more : (schema : DatabaseSchema) (log : List Signed) (s : Signed) → IsSmallLog schema log → is_sentence_of schema s.0 ≡ true
     → nodes schema s.0 ≤ 20000 → log_nodes schema log + signed_nodes schema s.0 s.1 ≤ 60000 → IsSmallLog schema (log ++ s ∷ [])

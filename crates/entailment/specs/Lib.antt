@@ -5,5 +5,6 @@ pub mod GroundSentences
 pub mod Probes
 pub mod Forms
 pub mod Inside
+pub mod ViewsInside
 pub mod Budgets
 pub mod Verdicts

@@ -1,5 +1,5 @@
 -- What a view is to its callers: a log over a schema, with room for more.
-use Rattle.std.specs.Prelude.{ℕ, List}
+use Rattle.std.specs.Prelude.{◌≡◌, ℕ, List, ◌++◌}
 use Rattle.cqe_base.specs.Schema.{DatabaseSchema}
 use Rattle.cqe_base.specs.Entailment.{Signed}
 
@@ -20,3 +20,11 @@ log_of view = view.log
 -- how many sentences can be added to a view without taking memory
 abbrev pub room_of : LogView → ℕ
 room_of view = view.room
+
+-- a log is a beginning of another
+abbrev pub IsLogBeginning : (first whole : List Signed) → Type 0
+IsLogBeginning first whole = (more : List Signed) × (whole ≡ first ++ more)
+
+-- a view is over the schema, and its log is a beginning of this one
+abbrev pub IsViewWithin : DatabaseSchema → List Signed → LogView → Type 0
+IsViewWithin schema log view = (schema_of view ≡ schema) × IsLogBeginning (log_of view) log

@@ -9,7 +9,7 @@
 //! Its verdict is that of the machine's end. `Follows` comes only where the premises entail the
 //! goal over all worlds of the schema, `Open` only with a world in which they are true and the goal
 //! is false, that of the machine's model, and the view is afterwards as it was. `probe_outcome`
-//! makes no world.
+//! makes no world. `Views` is a log that lends views of itself, and takes them back.
 //!
 //! The law beneath is that of `clause_form`: the clauses have a model exactly where some world of
 //! the schema makes the sentences true. Read `view`, then `sentences`, `forms` and `probes`.
@@ -20,8 +20,10 @@ mod forms;
 mod probes;
 mod sentences;
 mod view;
+mod views;
 
 pub use budgets::enough;
 pub use probes::{Probe, ProbeOutcome, Verdict, probe_outcome, test};
 pub use sentences::GroundSentence;
 pub use view::View;
+pub use views::Views;

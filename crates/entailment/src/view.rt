@@ -4,7 +4,7 @@ ghost use Rattle.std.specs.Prelude.{OnOk, OnErr};
 ghost use Rattle.cqe_base.specs.Formula.{formula_of, nodes, is_sentence_of};
 ghost use Rattle.cqe_base.specs.History.{profile_of, known, signed_nodes};
 ghost use Rattle.entailment.specs.Logs.{log_nodes, IsSmallLog, told_log};
-ghost use Rattle.entailment.specs.Views.{schema_of, log_of, room_of};
+ghost use Rattle.entailment.specs.Views.{schema_of, log_of, room_of, IsLogBeginning};
 
 use clause_form::former::Former;
 use clause_solver::KeptSearch;
@@ -68,6 +68,22 @@ impl<'s> View<'s> {
         })
     }
 
+    /// The view of an empty log.
+    pub(crate) fn blank(alloc: Global, schema: &'s Schema) -> Result<View<'s>, AllocError>
+        ensures schema { IfOk result (λ view. schema_of view ≡ schema.now) }
+        ensures log { IfOk result (λ view. log_of view ≡ []) }
+    {
+        let former = Former::new(alloc)?;
+        let kept = KeptSearch::new(alloc);
+        Ok(View {
+            schema,
+            log: Vec::new(alloc),
+            former,
+            formed: 0,
+            kept,
+        })
+    }
+
     /// Takes the memory for one more sentence. The log stays.
     pub fn reserve(&mut self) -> Result<(), AllocError>
         ensures schema { schema_of self.new ≡ schema_of self.old }
@@ -112,6 +128,20 @@ impl<'s> View<'s> {
         Ok(())
     }
 
+    /// Appends what a longer log has more. A refusal leaves out its sentences from some one on.
+    pub(crate) fn follow(&mut self, alloc: Global, sentences: &[Told]) -> Result<(), AllocError>
+        requires small { IsSmallLog (schema_of self.old) (told_log sentences.now) }
+        requires begins { IsLogBeginning (log_of self.old) (told_log sentences.now) }
+        ensures schema { schema_of self.new ≡ schema_of self.old }
+        ensures log { OnOk result (log_of self.new ≡ told_log sentences.now) }
+    {
+        for number in self.len()..sentences.len() {
+            let told = &sentences[number];
+            self.add(alloc, &told.sentence, told.yes)?;
+        }
+        Ok(())
+    }
+
     /// How many sentences the log has.
     pub fn len(&self) -> usize
         ensures { result ≡ length (log_of self.now) }
@@ -121,7 +151,7 @@ impl<'s> View<'s> {
 }
 
 /// These sentences, as parts of a log.
-fn told_of(alloc: Global, sentences: &[Sentence]) -> Result<Vec<Told>, AllocError>
+pub(crate) fn told_of(alloc: Global, sentences: &[Sentence]) -> Result<Vec<Told>, AllocError>
     ensures { IfOk result (λ told. told_log told.items
         ≡ map (λ s. (s, true)) (map formula_of sentences.now)) }
 {

@@ -4,6 +4,7 @@ use Rattle.outside.proofs.Rises.{rose_wide}
 use Rattle.outside.proofs.Taken.{taken_reads}
 use Rattle.outside.specs.Faults.{Rose}
 use Rattle.outside.specs.Shelf.{IsTaken}
+use Rattle.outside.specs.declared.disk.Disk.{Ghosts as DiskGhosts}
 use Rattle.log_journal.specs.Opening.{IsRefused, Refuses}
 use Rattle.log_journal.specs.declared.header.OpenError.{OpenError}
 use Rattle.log_journal.specs.declared.header.OpenError.TheVariants.{NotAJournal, OtherPolicy, Damaged, DiskFault, Memory}
@@ -12,15 +13,16 @@ use Rattle.init_engine.specs.declared.end.Stop.{Stop}
 use Rattle.init_engine.specs.declared.end.Stop.TheVariants as stop
 
 -- what stays of a disk that was taken stays of what was held
-module _ {D : Type 0} (reads : D → List ℕ) (image : D → List ℕ → Type 0) (after : D) where
-  held_stays : (held : Option D) (disk : D) → IsTaken reads image held disk → Stays reads image (Some disk) (Some after) → Stays reads image held (Some after)
-  held_stays (Some held) disk is stays = subst (λ d. Stays reads image (Some d) (Some after)) is stays
+module _ {D : Type 0} (Disk : DiskGhosts D) (after : D) where
+  held_stays : (held : Option D) (disk : D) → IsTaken Disk.reads Disk.image held disk → Stays Disk (Some disk) (Some after) → Stays Disk held (Some after)
+  held_stays (Some held) disk is stays = subst (λ d. Stays Disk (Some d) (Some after)) is stays
   held_stays None disk is stays = record { bytes = stays.bytes ∙ is.0; images = λ c left. is.1 c (stays.images c left) }
 
-  pub held_stays_at : (held : Option D) (disk : D) → IsTaken reads image held disk → (why : Stop) → StaysAt reads image (Some disk) (Some after) why
-      → StaysAt reads image held (Some after) why
+  pub held_stays_at : (held : Option D) (disk : D) → IsTaken Disk.reads Disk.image held disk → (why : Stop) → StaysAt Disk (Some disk) (Some after) why
+      → StaysAt Disk held (Some after) why
   held_stays_at held disk is (stop.Refused why) stays = held_stays held disk is stays
-  held_stays_at held disk is stop.DiskFault stays = λ some. held_stays held disk is (stays (λ none. some (sym (taken_reads reads image held disk is) ∙ none)))
+  held_stays_at held disk is stop.DiskFault stays = λ some.
+      held_stays held disk is (stays (λ none. some (sym (taken_reads Disk.reads Disk.image held disk is) ∙ none)))
   held_stays_at held disk is stop.ShelfFault stays = held_stays held disk is stays
   held_stays_at held disk is stop.Memory stays = held_stays held disk is stays
 

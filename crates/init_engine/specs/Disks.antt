@@ -3,6 +3,7 @@ use Rattle.std.specs.Prelude.{◌≡◌, ◌≢◌, ℕ, ◌<◌, List, [], ◌�
 use Rattle.std.specs.Prelude.{string_bytes, slice_get, Option, Some}
 use Rattle.outside.specs.Shelf.{bytes_on}
 use Rattle.outside.specs.Disk.{Only}
+use Rattle.outside.specs.declared.disk.Disk.{Ghosts as DiskGhosts}
 use Rattle.cqe_base.specs.declared.user.User.{User}
 use Rattle.log_journal.specs.Records.{Recorded, IsJournal}
 use Rattle.log_journal.specs.Names.{journal_name}
@@ -11,20 +12,21 @@ use Rattle.log_journal.specs.Names.{journal_name}
 abbrev pub user_names : List User → List (List ℕ)
 user_names users = map (λ user. string_bytes user.name) users
 
-module _ {D : Type 0} (reads : D → List ℕ) (image : D → List ℕ → Type 0) (header : List ℕ) where
+module _ {D : Type 0} (Disk : DiskGhosts D) (header : List ℕ) where
   -- The disk is a journal with this header, in each image. One that was empty is an empty journal,
   -- and another has its bytes.
   pub record IsMade (before : List ℕ) (disk : D) : Type 0 where
-    pub durable : Only (reads disk) (image disk)
-    pub journal : (all : List Recorded) × IsJournal header all (reads disk)
-    pub empty : before ≡ [] → (reads disk ≡ header ++ 0 ∷ []) × IsJournal header [] (reads disk)
-    pub kept : before ≢ [] → reads disk ≡ before
+    pub durable : Only (Disk.reads disk) (Disk.image disk)
+    pub journal : (all : List Recorded) × IsJournal header all (Disk.reads disk)
+    pub empty : before ≡ []
+        → (Disk.reads disk ≡ header ++ 0 ∷ []) × IsJournal header [] (Disk.reads disk)
+    pub kept : before ≢ [] → Disk.reads disk ≡ before
 
   -- the same of what stands under a name
   pub record IsMadeAt (before after : Option D) : Type 0 where
     pub disk : D
     pub stands : after ≡ Some disk
-    pub made : IsMade (bytes_on reads before) disk
+    pub made : IsMade (bytes_on Disk.reads before) disk
 
   -- Of these users the first are ready, and no disk is touched but those of the first of them.
   pub record Readies (directory : List ℕ) (names : List (List ℕ)) (old new : List ℕ → Option D)

@@ -1,6 +1,7 @@
 -- How the making of journals ends.
 use Rattle.std.specs.Prelude.{◌≡◌, ℕ, ◌+◌, List, length, slice_get, Option, Some}
 use Rattle.outside.specs.Shelf.{bytes_on}
+use Rattle.outside.specs.declared.disk.Disk.{Ghosts as DiskGhosts}
 use Rattle.log_journal.specs.Names.{journal_name}
 use Rattle.init_engine.specs.Disks.{Readies}
 use Rattle.init_engine.specs.Stops.{HasReason, StaysAt}
@@ -20,26 +21,27 @@ pub record Change (D : Type 0) : Type 0 where
   pub shelf_before : ℕ
   pub shelf_now : ℕ
 
-module _ {D : Type 0} (told : Type 0) (reads : D → List ℕ) (image : D → List ℕ → Type 0)
+module _ {D : Type 0} (told : Type 0) (Disk : DiskGhosts D)
     (header directory : List ℕ) (names : List (List ℕ)) (change : Change D) where
   -- It stopped at this user, who shows the reason: those before him are ready, and the disks of
   -- those behind him are as they were.
   pub record StopsAt (user : ℕ) (why : Stop) : Type 0 where
     pub name : List ℕ
     pub is : slice_get names user ≡ Some name
-    pub reason : HasReason told header (bytes_on reads (change.old (journal_name directory name)))
+    pub reason : HasReason told header
+        (bytes_on Disk.reads (change.old (journal_name directory name)))
         (change.before (journal_name directory name))
         (change.now (journal_name directory name)) change.shelf_before change.shelf_now why
-    pub kept : told → StaysAt reads image (change.old (journal_name directory name))
+    pub kept : told → StaysAt Disk (change.old (journal_name directory name))
         (change.new (journal_name directory name)) why
     pub ready : told
-        → Readies reads image header directory names change.old change.new user (user + 1)
+        → Readies Disk header directory names change.old change.new user (user + 1)
 
   -- All users are ready and no other disk is touched, or it stopped at the first user who can't be
   -- served.
   abbrev pub EndsInit : InitEnd → Type 0
   EndsInit Done = told
-      → Readies reads image header directory names change.old change.new (length names)
+      → Readies Disk header directory names change.old change.new (length names)
       (length names)
   EndsInit (Refused user why) = StopsAt user (stop.Refused why)
   EndsInit DiskFault = (user : ℕ) × StopsAt user stop.DiskFault

@@ -2,6 +2,7 @@
 use Rattle.std.specs.Prelude.{◌≡◌, ◌≢◌, ℕ, List, [], Option}
 use Rattle.outside.specs.Shelf.{bytes_on, image_on}
 use Rattle.outside.specs.Faults.{Rose}
+use Rattle.outside.specs.declared.disk.Disk.{Ghosts as DiskGhosts}
 use Rattle.log_journal.specs.Opening.{IsRefused}
 use Rattle.log_journal.specs.declared.header.OpenError.{OpenError}
 use Rattle.log_journal.specs.declared.header.OpenError.TheVariants.{Memory}
@@ -18,15 +19,15 @@ HasReason told header bytes before now shelf_before shelf_now stop.ShelfFault =
     Rose shelf_before shelf_now
 HasReason told header bytes before now shelf_before shelf_now stop.Memory = Unit {0}
 
-module _ {D : Type 0} (reads : D → List ℕ) (image : D → List ℕ → Type 0) where
+module _ {D : Type 0} (Disk : DiskGhosts D) where
   -- what stood under a name has its bytes, and a crash leaves nothing new
   pub record Stays (before after : Option D) : Type 0 where
-    pub bytes : bytes_on reads after ≡ bytes_on reads before
-    pub images : (c : List ℕ) → image_on image after c → image_on image before c
+    pub bytes : bytes_on Disk.reads after ≡ bytes_on Disk.reads before
+    pub images : (c : List ℕ) → image_on Disk.image after c → image_on Disk.image before c
 
   -- At this stop it stays. Only what had no bytes may have others, where it failed.
   abbrev pub StaysAt : Option D → Option D → Stop → Type 0
-  StaysAt before after stop.DiskFault = bytes_on reads before ≢ [] → Stays before after
+  StaysAt before after stop.DiskFault = bytes_on Disk.reads before ≢ [] → Stays before after
   StaysAt before after why = Stays before after
 
 -- why a user is stopped at whose journal isn't opened

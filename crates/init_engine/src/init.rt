@@ -28,7 +28,7 @@ pub fn run_init<F: Shelf>(
 ) -> InitEnd
     requires names { has_duplicate (user_names users.now) ≡ false }
     requires out { NoneOut (F.is_out shelf.old) }
-    ensures ends { EndsInit F.tells F.D.reads F.D.image (header_bytes header.now) directory.now
+    ensures ends { EndsInit F.tells F.D.Disk (header_bytes header.now) directory.now
         (user_names users.now)
         (record {
           old = F.disk shelf.old;

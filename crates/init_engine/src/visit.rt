@@ -24,7 +24,7 @@ pub(crate) fn serve<F: Shelf>(
 ) -> Result<(), Stop>
     requires { F.is_out shelf.old (journal_name directory.now name.now) ≡ false }
     ensures ready { F.tells
-        → OnOk result (IsMadeAt F.D.reads F.D.image (header_bytes header.now)
+        → OnOk result (IsMadeAt F.D.Disk (header_bytes header.now)
         (F.disk shelf.old (journal_name directory.now name.now))
         (F.disk shelf.new (journal_name directory.now name.now))) }
     ensures reason { IfErr result
@@ -34,7 +34,7 @@ pub(crate) fn serve<F: Shelf>(
         (F.disk_faults shelf.new (journal_name directory.now name.now)) (F.faults shelf.old)
         (F.faults shelf.new)) }
     ensures kept { F.tells
-        → IfErr result (StaysAt F.D.reads F.D.image
+        → IfErr result (StaysAt F.D.Disk
         (F.disk shelf.old (journal_name directory.now name.now))
         (F.disk shelf.new (journal_name directory.now name.now))) }
     ensures disks { SameOthers (journal_name directory.now name.now) (F.disk shelf.old)
@@ -58,7 +58,7 @@ fn serve_disk<F: Shelf>(
 ) -> Result<(), Stop>
     requires { F.is_out shelf.old journal.now ≡ false }
     ensures ready { F.tells
-        → OnOk result (IsMadeAt F.D.reads F.D.image (header_bytes header.now)
+        → OnOk result (IsMadeAt F.D.Disk (header_bytes header.now)
         (F.disk shelf.old journal.now) (F.disk shelf.new journal.now)) }
     ensures reason { IfErr result
         (HasReason F.tells (header_bytes header.now)
@@ -66,7 +66,7 @@ fn serve_disk<F: Shelf>(
         (F.disk_faults shelf.old journal.now) (F.disk_faults shelf.new journal.now)
         (F.faults shelf.old) (F.faults shelf.new)) }
     ensures kept { F.tells
-        → IfErr result (StaysAt F.D.reads F.D.image (F.disk shelf.old journal.now)
+        → IfErr result (StaysAt F.D.Disk (F.disk shelf.old journal.now)
         (F.disk shelf.new journal.now)) }
     ensures disks { SameOthers journal.now (F.disk shelf.old) (F.disk shelf.new) }
     ensures out { SameNames (F.is_out shelf.old) (F.is_out shelf.new) }
@@ -89,11 +89,11 @@ fn serve_disk<F: Shelf>(
 // Makes a journal on a disk that is empty, and opens another.
 fn make<D: Disk>(alloc: Global, disk: D, header: &Header) -> (D, Result<(), Stop>)
     ensures made { D.tells
-        → OnOk result.1 (IsMade D.reads D.image (header_bytes header.now) (D.reads disk) result.0) }
+        → OnOk result.1 (IsMade D.Disk (header_bytes header.now) (D.reads disk) result.0) }
     ensures reason { IfErr result.1
         (HasReason D.tells (header_bytes header.now) (D.reads disk) (D.faults disk)
         (D.faults result.0) 0 0) }
-    ensures kept { D.tells → IfErr result.1 (StaysAt D.reads D.image (Some disk) (Some result.0)) }
+    ensures kept { D.tells → IfErr result.1 (StaysAt D.Disk (Some disk) (Some result.0)) }
     ensures count { D.faults disk ≤ D.faults result.0 }
 {
     let mut disk = disk;
@@ -112,7 +112,7 @@ fn make<D: Disk>(alloc: Global, disk: D, header: &Header) -> (D, Result<(), Stop
 fn format_empty<D: Disk>(disk: &mut D, header: &Header) -> Result<(), Failed>
     requires { D.tells → D.reads disk.old ≡ [] }
     ensures made { D.tells
-        → OnOk result (IsMade D.reads D.image (header_bytes header.now) [] disk.new) }
+        → OnOk result (IsMade D.Disk (header_bytes header.now) [] disk.new) }
     ensures cause { HasCause (D.faults disk.old) (D.faults disk.new) result }
 {
     disk.sync()?;
@@ -123,11 +123,11 @@ fn format_empty<D: Disk>(disk: &mut D, header: &Header) -> Result<(), Failed>
 fn reopen<D: Disk>(alloc: Global, disk: D, header: &Header) -> (D, Result<(), Stop>)
     requires { D.tells → D.reads disk ≢ [] }
     ensures made { D.tells
-        → OnOk result.1 (IsMade D.reads D.image (header_bytes header.now) (D.reads disk) result.0) }
+        → OnOk result.1 (IsMade D.Disk (header_bytes header.now) (D.reads disk) result.0) }
     ensures reason { IfErr result.1
         (HasReason D.tells (header_bytes header.now) (D.reads disk) (D.faults disk)
         (D.faults result.0) 0 0) }
-    ensures kept { D.tells → IfErr result.1 (StaysAt D.reads D.image (Some disk) (Some result.0)) }
+    ensures kept { D.tells → IfErr result.1 (StaysAt D.Disk (Some disk) (Some result.0)) }
     ensures count { D.faults disk ≤ D.faults result.0 }
 {
     match open(alloc, disk, header) {

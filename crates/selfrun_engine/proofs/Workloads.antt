@@ -8,6 +8,7 @@ use Rattle.std.proofs.Math.Nat.{mod-lt}
 use Rattle.std.proofs.lemmas.Slice.Eq.{bytes_eq-Decides}
 use Rattle.std.proofs.lemmas.List.Folds.{flat_map-map}
 use Rattle.outside.specs.Shelf.{bytes_on}
+use Rattle.outside.specs.declared.disk.Disk.{Ghosts as DiskGhosts}
 use Rattle.cqe_base.specs.Schema.{Text, DatabaseSchema, has_duplicate}
 use Rattle.cqe_base.specs.Facts.{FactSet}
 use Rattle.cqe_base.specs.Transcript.{NamedUser, ScriptEvent, script_ask, script_stop, script_restart, script_opening, lines_after, transcript}
@@ -54,7 +55,7 @@ names_differ policy kept = ap has_duplicate (names_are policy.users.items) ∙ k
 
 -- ---- journals that were made
 
-module _ {D : Type 0} (reads : D → List ℕ) (image : D → List ℕ → Type 0) (header directory : List ℕ) (old new : List ℕ → Option D) where
+module _ {D : Type 0} (Disk : DiskGhosts D) (header directory : List ℕ) (old new : List ℕ → Option D) where
   -- what holds of the name at each place holds of all users
   by_place : (P : Text → Type 0) (users : List User)
       → ((i : ℕ) (name : Text) → i < length (user_names users) → slice_get (user_names users) i ≡ Some name → P name)
@@ -64,13 +65,16 @@ module _ {D : Type 0} (reads : D → List ℕ) (image : D → List ℕ → Type 
       (each 0 (string_bytes user.name) (omega arith) refl, by_place P users (λ i name low at. each (suc i) name (omega (arith, low)) at))
 
   -- a journal that was made where there was no disk has no record
-  pub all_empty : (users : List User) → ((name : List ℕ) → old name ≡ None)
-      → Readies reads image header directory (user_names users) old new (length (user_names users)) (length (user_names users))
-      → AllByRecursion (λ (u : NamedUser). records (bytes_on reads (new (journal_name directory u.name))) ≡ []) (map named_user users)
-  all_empty users none ready = by_place (λ name. records (bytes_on reads (new (journal_name directory name))) ≡ []) users (λ i name low at.
+  pub all_empty : (users others : List User) → others ≡ users → ((name : List ℕ) → old name ≡ None)
+      → Readies Disk header directory (user_names others) old new (length (user_names others)) (length (user_names others))
+      → AllByRecursion (λ (u : NamedUser). records (bytes_on Disk.reads (new (journal_name directory u.name))) ≡ []) (map named_user users)
+  all_empty users others same none ready =
+      subst (λ us. AllByRecursion (λ (u : NamedUser). records (bytes_on Disk.reads (new (journal_name directory u.name))) ≡ []) (map named_user us)) same
+      (by_place (λ name. records (bytes_on Disk.reads (new (journal_name directory name))) ≡ []) others (λ i name low at.
       let one = ready.are i name low at in
-      ap (λ d. records (bytes_on reads d)) one.stands
-      ∙ ((journals_are_walked header [] (reads one.disk)).0 (one.made.empty (ap (bytes_on reads) (none (journal_name directory name)))).1).are)
+      ap (λ d. records (bytes_on Disk.reads d)) one.stands
+      ∙ ((journals_are_walked header [] (Disk.reads one.disk)).0
+      (one.made.empty (ap (bytes_on Disk.reads) (none (journal_name directory name)))).1).are))
 
 -- ---- the asks of the script
 

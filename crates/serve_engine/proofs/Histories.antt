@@ -40,6 +40,9 @@ use Rattle.desk_crew.specs.Crew.{IsSeatAsOpened, IsClosed, refusal_of, seat_user
 use Rattle.desk_crew.specs.Crew.{seat_state}
 use Rattle.desk_crew.specs.Seats.{DeskSeat}
 use Rattle.desk_crew.specs.Shelved.{Journals, journals, since_on, journals_by, StandsAllAlong, AreLater, IsSeatOf, AreSeatsOf, IsBack, AreBack}
+use Rattle.desk_crew.specs.Registered.{registered_journals}
+use Rattle.desk_crew.proofs.Giving.{CanGive, AreGiven, AllReturned}
+use Rattle.desk_crew.proofs.Opening.{AllSeated, seats_can, all_returned}
 use Rattle.desk_crew.proofs.Lasting.{taken_moment, holds_within, stands_along}
 use Rattle.session_core.specs.Members.{AreDesksOf, HasSeenLegal, HaveSeenLegal}
 use Rattle.session_core.proofs.Replying.{last_none}
@@ -349,7 +352,7 @@ module _ {D : Type 0} {g h : _} where
   broke_at (seat ∷ seats) = ap (λ b. seat_broke seat || b) (broke_at seats)
 
   -- the journals are the same, and so are the disks as the desks were opened
-  pub journals_on_same : (olds news : List (DeskSeat D g h)) → AreSeatsOn olds news → journals news ≡ journals olds
+  journals_on_same : (olds news : List (DeskSeat D g h)) → AreSeatsOn olds news → journals news ≡ journals olds
   journals_on_same [] [] on = refl
   journals_on_same (old ∷ olds) (new ∷ news) on =
       ap (λ n. n ∷ journals news) on.0.journal_is ∙ ap (λ ns. seat_journal old ∷ ns) (journals_on_same olds news on.1)
@@ -467,18 +470,18 @@ module _ {D : Type 0} {g h : _} (told disk_told : Type 0) (Disk : DiskGhosts D) 
   each P holds [] (seat ∷ seats) opened = absurd opened
   each P holds (user ∷ users) [] opened = absurd opened
 
-  pub seats_fresh : (users : List User) (seats : List (DeskSeat D g h))
+  seats_fresh : (users : List User) (seats : List (DeskSeat D g h))
       → AreSeatsOf told Disk disk_told schema world header directory disk count users seats → All IsSeatAsOpened seats
   seats_fresh users seats opened = All-from_recursion IsSeatAsOpened seats (each IsSeatAsOpened (λ user seat is. is.opened.fresh) users seats opened)
 
-  pub seats_turns : (users : List User) (seats : List (DeskSeat D g h))
+  seats_turns : (users : List User) (seats : List (DeskSeat D g h))
       → AreSeatsOf told Disk disk_told schema world header directory disk count users seats
       → All (λ (seat : DeskSeat D g h). turns (seat_pass seat) ≡ 65 * 2 ^ 57) seats
   seats_turns users seats opened =
       All-from_recursion (λ (seat : DeskSeat D g h). turns (seat_pass seat) ≡ 65 * 2 ^ 57) seats
       (each (λ (seat : DeskSeat D g h). turns (seat_pass seat) ≡ 65 * 2 ^ 57) (λ user seat is. is.opened.turns_are) users seats opened)
 
-  pub seats_own : (users : List User) (seats : List (DeskSeat D g h))
+  seats_own : (users : List User) (seats : List (DeskSeat D g h))
       → AreSeatsOf told Disk disk_told schema world header directory disk count users seats
       → All (λ (seat : DeskSeat D g h). mine (seat_pass seat) ≡ []) seats
   seats_own users seats opened =
@@ -486,7 +489,7 @@ module _ {D : Type 0} {g h : _} (told disk_told : Type 0) (Disk : DiskGhosts D) 
       (each (λ (seat : DeskSeat D g h). mine (seat_pass seat) ≡ []) (λ user seat is. is.opened.mine_is) users seats opened)
 
   -- each seat's desk is that of the user at its place
-  pub seats_desks : (users : List User) (seats : List (DeskSeat D g h))
+  seats_desks : (users : List User) (seats : List (DeskSeat D g h))
       → AreSeatsOf told Disk disk_told schema world header directory disk count users seats → AreDesksOf users (map seat_kept seats)
   seats_desks [] [] opened = refl
   seats_desks (user ∷ users) (seat ∷ seats) opened =
@@ -517,7 +520,7 @@ module _ {D : Type 0} {g h : _} (told disk_told : Type 0) (Disk : DiskGhosts D) 
           last = last_none (seen (seat_pass seat)) is.opened.fresh.none;
         }
 
-    pub seats_legal : (users : List User) (seats : List (DeskSeat D g h)) → All (λ user. KeepsLimits schema (profile_of user)) users
+    seats_legal : (users : List User) (seats : List (DeskSeat D g h)) → All (λ user. KeepsLimits schema (profile_of user)) users
         → AreSeatsOf told Disk disk_told schema world header directory disk count users seats
         → HaveSeenLegal (map seat_kept seats) (map seat_pass seats)
     seats_legal [] [] limits opened = tt
@@ -527,3 +530,34 @@ module _ {D : Type 0} {g h : _} (told disk_told : Type 0) (Disk : DiskGhosts D) 
     )
     seats_legal [] (seat ∷ seats) limits opened = absurd opened
     seats_legal (user ∷ users) [] limits opened = absurd opened
+
+-- what serving asks of seats that were just opened
+pub record AreReady {D : Type 0} {g h : _} (users : List User) (seats : List (DeskSeat D g h)) : Type 0 where
+  pub desks : AreDesksOf users (map seat_kept seats)
+  pub legal : HaveSeenLegal (map seat_kept seats) (map seat_pass seats)
+  pub fresh : All IsSeatAsOpened seats
+  pub turns_are : All (λ (seat : DeskSeat D g h). turns (seat_pass seat) ≡ 65 * 2 ^ 57) seats
+  pub own : All (λ (seat : DeskSeat D g h). mine (seat_pass seat) ≡ []) seats
+
+module _ {directory : Text} {schema : DatabaseSchema} {world : FactSet} {header : List ℕ} {D : Type 0} {g h : _} {told disk_told : Type 0} {Disk : DiskGhosts D}
+    {users : List User} {seats : List (DeskSeat D g h)} {disk disk' : Text → Option D} {is_out' : Text → Bool} {count count' : Text → ℕ}
+    (seated : AllSeated directory schema world header told disk_told Disk users seats disk disk' is_out' count count') where
+  pub all_ready : is_valid_schema schema ≡ true → All (λ user. KeepsLimits schema (profile_of user)) users → AreReady users seats
+  all_ready valid limits = record {
+    desks = seats_desks told disk_told Disk schema world header directory disk count users seats seated.are;
+    legal = seats_legal told disk_told Disk schema world header directory disk count valid users seats limits seated.are;
+    fresh = seats_fresh told disk_told Disk schema world header directory disk count users seats seated.are;
+    turns_are = seats_turns told disk_told Disk schema world header directory disk count users seats seated.are;
+    own = seats_own told disk_told Disk schema world header directory disk count users seats seated.are;
+  }
+
+  module _ (news : List (DeskSeat D g h)) (on : AreSeatsOn seats news) where
+    -- the seats behind serving can be given back
+    pub served_can : CanGive Disk news is_out' count'
+    served_can = seats_can seated news (journals_on_same seats news on) (later_on_seats Disk.faults count' seats news on seated.later)
+
+    -- and once they were, the shelf is whole
+    pub served_returned : {disk'' : Text → Option D} {is_out'' : Text → Bool} {count'' : Text → ℕ}
+        → AreGiven told Disk news disk' disk'' is_out' is_out'' count' count''
+        → AllReturned (registered_journals directory users) disk disk'' is_out'' count count''
+    served_returned given = all_returned seated news (journals_on_same seats news on) (later_on_seats Disk.faults count' seats news on seated.later) given

@@ -3,7 +3,7 @@
 ghost use Rattle.serve_engine.specs.Served.{ServedStay};
 ghost use Rattle.cqe_base.specs.Schema.{Text};
 ghost use Rattle.desk_crew.specs.Shelved.{journals_on};
-ghost use Rattle.serve_engine.specs.Joining.{ServingsAreSpans};
+ghost use Rattle.serve_engine.specs.Joining.{CutServingsAreSpans, ServingsAreSpans};
 
 use outside::Shelf;
 
@@ -13,9 +13,13 @@ pub fn law_served()
 {}
 
 /// Unless a user's journal was refused, a serving is a call to him over what his journal read as it
-/// began, whatever a crash leaves as it ends. So by `user_desk::laws::law_lives_join` his history
-/// over any list of servings, batches and crashes is one, which is legal and hides.
+/// began, whatever a crash leaves as it ends; and one that a crash cut at any moment since his
+/// journal was opened is one with some first of his entries. So by
+/// `user_desk::laws::law_lives_join` his history over any list of servings, batches and crashes is
+/// one, which is legal and hides.
 pub fn law_servings_join<F: Shelf>(before: &F, behind: &F)
-    ensures { (directory : Text) → ServingsAreSpans
+    ensures spans { (directory : Text) → ServingsAreSpans
+        (journals_on F.Shelf F.D.Disk directory before.now behind.now) }
+    ensures cut { (directory : Text) → CutServingsAreSpans
         (journals_on F.Shelf F.D.Disk directory before.now behind.now) }
 {}

@@ -17,7 +17,6 @@ ghost use Rattle.session_core.specs.Asked.{Replies, IsShort};
 ghost use Rattle.session_core.specs.Sessions.{Session};
 
 use crate::counters::{Counters, Passes};
-use case_engine::line_reply;
 use cqe_base::laws::law_hides;
 use cqe_base::user::User;
 use line_protocol::{
@@ -26,6 +25,7 @@ use line_protocol::{
 use outside::{Disk, Failed, Gate, Sink, Source};
 use std::alloc::Global;
 use std::sync::Wait;
+use user_log::line_reply;
 
 /// A session ends behind the reply to so many lines.
 const LINES: u32 = 100_000;

@@ -10,11 +10,11 @@ use Rattle.cqe_base.proofs.Scripts.{runs_stay_legal}
 use Rattle.cqe_base.proofs.Confidential.{legal_histories_hide}
 use Rattle.user_desk.specs.Causes.{Opens}
 use Rattle.user_desk.specs.Joining.{Life, joined, entries_left, replies_in, entries_behind, LivesReplyAsOne, LivesEndAsOne, StaysHidden, LivesStayHidden}
-use Rattle.user_desk.specs.Joining.{Call, all_told, AreCallsOver, AreOneRun, CallsJoin}
-use Rattle.user_desk.specs.Joining.{Span, last_entries, IsSpanOver, AreSpansOver, AreOneHistory, SpansJoin}
+use Rattle.user_desk.specs.Joining.{Call, all_told, bytes_behind, IsCallOver, AreCallsOver, IsLifeOf, AreLivesOf, AreOneRun, CallsJoin}
+use Rattle.user_desk.specs.Joining.{Span, last_entries, IsSpanOver, AreSpansOver, SpansJoin}
 use Rattle.std.specs.List.{AllByRecursion}
 use Rattle.std.proofs.Common.{append-nil}
-use Rattle.std.specs.Prelude.{Option, option_to_list}
+use Rattle.std.specs.Prelude.{is_some, option_to_list}
 use Rattle.user_desk.specs.Lives.{Holds, shown}
 use Rattle.cqe_base.specs.Run.{standing_open}
 use Rattle.user_desk.proofs.Deciding.{opens_once}
@@ -77,35 +77,54 @@ lives_stay_hidden schema world user opened lives legal =
     (stays_hidden schema world user opened (joined lives) legal)
 
 module _ (schema : DatabaseSchema) (world : FactSet) (user : UserProfile) (header : List ℕ) where
-  -- the lives of calls, and what they told
-  record AreLives (opened : History) (calls : List Call) : Type 0 where
+  -- the lives of calls, what they told, and what the last of them left
+  record Lived (bytes : List ℕ) (opened : History) (calls : List Call) : Type 0 where
     lives : List Life
+    are : AreLivesOf schema world user header opened calls lives
     told : all_told calls ≡ replies_in schema world user opened lives
+    left : Opens schema world user header (entries_behind schema world user opened lives) (bytes_behind bytes calls)
+
+  -- a call that began with this history
+  life_is : (bytes : List ℕ) (opened : History) (call : Call) (same : call.opened ≡ opened) (is : IsCallOver schema world user header bytes call)
+      → IsLifeOf schema world user header opened call (record { events = call.events; found = is.holds.found })
+  life_is bytes opened call same is = record {
+    began = same;
+    events = refl;
+    sought = subst (λ (h : History). is.holds.found ≡ true → is_some (after_events schema world user (opening schema world user h) call.events).pending ≡ true)
+        same is.holds.sought;
+    left = subst (λ (h : History). Opens schema world user header
+        (entries_left schema world user h (record { events = call.events; found = is.holds.found })) call.left) same is.holds.opens;
+  }
 
   lives_of : (bytes : List ℕ) (opened : History) (calls : List Call) → Opens schema world user header opened bytes
-      → AreCallsOver schema world user header bytes calls → AreLives opened calls
-  lives_of bytes opened [] opens over = record { lives = []; told = refl }
+      → AreCallsOver schema world user header bytes calls → Lived bytes opened calls
+  lives_of bytes opened [] opens over = record { lives = []; are = tt; told = refl; left = opens }
   lives_of bytes opened (call ∷ calls) opens (is, over) =
       let same : call.opened ≡ opened = opens_once schema world user header call.opened opened bytes is.opens opens in
       let life : Life = record { events = call.events; found = is.holds.found } in
-      let rest : AreLives (entries_left schema world user opened life) calls =
-      lives_of call.left (entries_left schema world user opened life) calls
-      (subst (λ (h : History). Opens schema world user header (entries_left schema world user h life) call.left) same is.holds.opens) over in
+      let one : IsLifeOf schema world user header opened call life = life_is bytes opened call same is in
+      let rest : Lived call.left (entries_left schema world user opened life) calls =
+      lives_of call.left (entries_left schema world user opened life) calls one.left over in
       record {
         lives = life ∷ rest.lives;
+        are = (one, rest.are);
         told = ap (λ rs. call.told ++ rs) rest.told
             ∙ ap (λ rs. rs ++ replies_in schema world user (entries_left schema world user opened life) rest.lives)
             (is.replied ∙ ap (λ (h : History). replies schema world user h call.events) same);
+        left = rest.left;
       }
 
   join_calls : (bytes : List ℕ) (opened : History) (calls : List Call) → Opens schema world user header opened bytes
-      → AreCallsOver schema world user header bytes calls → AreOneRun schema world user header opened calls
+      → AreCallsOver schema world user header bytes calls → AreOneRun schema world user header bytes opened calls
   join_calls bytes opened calls opens over =
-      let are : AreLives opened calls = lives_of bytes opened calls opens over in
+      let lived : Lived bytes opened calls = lives_of bytes opened calls opens over in
       record {
-        events = joined are.lives;
-        replied = are.told ∙ lives_reply_as_one schema world user opened are.lives;
-        hidden = stays_hidden schema world user opened (joined are.lives) opens.legal;
+        lives = lived.lives;
+        are = lived.are;
+        replied = lived.told ∙ lives_reply_as_one schema world user opened lived.lives;
+        ends = subst (λ (h : History). Opens schema world user header h (bytes_behind bytes calls)) (lives_end_as_one schema world user opened lived.lives)
+            lived.left;
+        hidden = stays_hidden schema world user opened (joined lived.lives) opens.legal;
       }
 
 pub calls_join : CallsJoin

@@ -110,9 +110,8 @@ growing told image schema world user header standing entries in_flight has_journ
       is = is;
     }
 
-module _ (told : Type 0) (image : List ℕ → Type 0) (schema : DatabaseSchema) (world : FactSet) (user : UserProfile) (header : List ℕ) (standing : Standing)
-    (entries : History) (in_flight : Option AnsweredQuery)
-    (entry : AnsweredQuery) (next : Recorded) (bytes : List ℕ)
+module _ {told : Type 0} {image : List ℕ → Type 0} {schema : DatabaseSchema} {world : FactSet} {user : UserProfile} {header : List ℕ} {standing : Standing}
+    {entries : History} {in_flight : Option AnsweredQuery} {entry : AnsweredQuery} {next : Recorded} {bytes : List ℕ}
     (grows : IsGrowing told image schema world user header standing entries in_flight entry next bytes) where
   -- the entry is added
   pub kept_added : (image' : List ℕ → Type 0) (schema' : DatabaseSchema) (world' : FactSet) (user' : UserProfile) (entries' : History)

@@ -109,11 +109,10 @@ since_first told image since schema world user header standing opened entries ha
   refused = refused;
 }
 
-module _ (told : Type 0) (image : List ℕ → Type 0) (schema : DatabaseSchema) (world : FactSet) (user : UserProfile) (header : List ℕ) (standing : Standing)
-    (entries : History) (in_flight : Option AnsweredQuery)
-    (entry : AnsweredQuery) (next : Recorded) (bytes : List ℕ)
+module _ {told : Type 0} {image : List ℕ → Type 0} {schema : DatabaseSchema} {world : FactSet} {user : UserProfile} {header : List ℕ} {standing : Standing}
+    {entries : History} {in_flight : Option AnsweredQuery} {entry : AnsweredQuery} {next : Recorded} {bytes : List ℕ}
     (grows : IsGrowing told image schema world user header standing entries in_flight entry next bytes)
-    (since since' : List ℕ → Type 0) (opened : ℕ) (has_journal : Bool)
+    {since : List ℕ → Type 0} (since' : List ℕ → Type 0) {opened : ℕ} {has_journal : Bool}
     (stood : StandsSince told since schema header standing opened entries in_flight has_journal)
     (split : told → (c : List ℕ) → since' c → since c ⊎ KeepsOrAdds bytes next c) where
   -- with the entry each image stands for a beginning

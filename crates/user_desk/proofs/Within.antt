@@ -1,6 +1,6 @@
 -- Bytes that stand for a beginning of a legal history open a desk with it.
-use Rattle.std.proofs.Common.{◌≡◌, ℕ, Bool, true, false, List, [], ◌∷◌, ◌++◌, length, take, drop, sym, ap, ◌∙◌, subst, append_assoc}
-use Rattle.std.specs.Prelude.{Option, None, option_to_list}
+use Rattle.std.proofs.Common.{◌≡◌, ℕ, Bool, false, List, ◌∷◌, ◌++◌, length, take, drop, sym, ap, ◌∙◌, subst, append_assoc}
+use Rattle.std.specs.Prelude.{Option, option_to_list}
 use Rattle.std.proofs.Math.Seq.{take-nil}
 use Rattle.std.proofs.lemmas.List.{take-append-drop}
 use Rattle.cqe_base.specs.Schema.{DatabaseSchema}

@@ -1,5 +1,5 @@
 -- Lives of the program that follow one another: each begins with what the one before left.
-use Rattle.std.specs.Prelude.{◌≡◌, ℕ, Bool, true, List, [], ◌∷◌, ◌++◌, Option}
+use Rattle.std.specs.Prelude.{◌≡◌, ℕ, Bool, true, List, [], ◌∷◌, ◌++◌, Option, is_some}
 use Rattle.std.specs.List.{flat_map, AllByRecursion}
 use Rattle.cqe_base.specs.Schema.{DatabaseSchema, is_valid_schema}
 use Rattle.cqe_base.specs.Facts.{FactSet}
@@ -87,6 +87,11 @@ pub record Call : Type 0 where
 abbrev pub all_told : List Call → List Reply
 all_told calls = flat_map (λ (call : Call). call.told) calls
 
+-- the bytes that the last of them left, or these where there is none
+abbrev pub bytes_behind : List ℕ → List Call → List ℕ
+bytes_behind bytes [] = bytes
+bytes_behind bytes (call ∷ calls) = bytes_behind call.left calls
+
 module _ (schema : DatabaseSchema) (world : FactSet) (user : UserProfile) (header : List ℕ) where
   -- A call over these bytes of his journal: they open a desk with the history with which it began,
   -- he was told the replies of a run from there, and what it left holds the state behind his
@@ -103,12 +108,35 @@ module _ (schema : DatabaseSchema) (world : FactSet) (user : UserProfile) (heade
   AreCallsOver bytes [] = Unit {0}
   AreCallsOver bytes (call ∷ calls) = IsCallOver bytes call × AreCallsOver call.left calls
 
-  -- the calls are one run from this history: all that was told are its replies, and the history
-  -- with which it ends is legal and hides
-  pub record AreOneRun (opened : History) (calls : List Call) : Type 0 where
-    pub events : List Event
-    pub replied : all_told calls ≡ replies schema world user opened events
-    pub hidden : StaysHidden schema world user (final_history schema world user opened events)
+  -- A life is that of a call: the call began with the history that was left to it; the life has the
+  -- call's own events; the entry in flight was found only where there was one; and what the call
+  -- left opens a desk with the entries that the life leaves to the next, with that entry or without
+  -- it.
+  pub record IsLifeOf (opened : History) (call : Call) (life : Life) : Type 0 where
+    pub began : call.opened ≡ opened
+    pub events : life.events ≡ call.events
+    pub sought : life.found ≡ true → is_some (after_events schema world user
+        (opening schema world user opened) life.events).pending ≡ true
+    pub left : Opens schema world user header (entries_left schema world user opened life) call.left
+
+  -- there are as many lives as calls, and each is that of its call, from what the one before left
+  abbrev pub AreLivesOf : History → List Call → List Life → Type 0
+  AreLivesOf opened [] [] = Unit {0}
+  AreLivesOf opened (call ∷ calls) (life ∷ lives) = IsLifeOf opened call life
+      × AreLivesOf (entries_left schema world user opened life) calls lives
+  AreLivesOf opened calls lives = ⊥
+
+  -- The calls, over these bytes and from this history on, are one run, that of the events of their
+  -- lives: all that was told are its replies; what the last call left opens a desk with the history
+  -- with which it ends; and that is legal and hides.
+  pub record AreOneRun (bytes : List ℕ) (opened : History) (calls : List Call) : Type 0 where
+    pub lives : List Life
+    pub are : AreLivesOf opened calls lives
+    pub replied : all_told calls ≡ replies schema world user opened (joined lives)
+    pub ends : Opens schema world user header
+        (final_history schema world user opened (joined lives)) (bytes_behind bytes calls)
+    pub hidden : StaysHidden schema world user
+        (final_history schema world user opened (joined lives))
 
 -- calls that follow one another, over any bytes with which the first began, are one run
 abbrev pub CallsJoin : Type 0
@@ -117,7 +145,7 @@ CallsJoin =
     (opened : History) (calls : List Call)
     → Opens schema world user header opened bytes
     → AreCallsOver schema world user header bytes calls
-    → AreOneRun schema world user header opened calls
+    → AreOneRun schema world user header bytes opened calls
 
 -- ---- over histories alone
 

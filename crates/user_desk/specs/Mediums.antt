@@ -1,8 +1,8 @@
 -- A disk under a journal or alone.
-use Rattle.std.specs.Prelude.{ℕ, ◌+◌, ◌≤◌, Bool, true, false}
+use Rattle.std.specs.Prelude.{ℕ, Bool, true, false}
 use Rattle.log_journal.specs.Journal.{disk_of, is_broken, room_of}
-use Rattle.user_desk.specs.declared.medium.Medium.{Medium}
-use Rattle.user_desk.specs.declared.medium.Medium.TheVariants.{Journal, Disk}
+use Rattle.user_desk.specs.declared.store.Medium.{Medium}
+use Rattle.user_desk.specs.declared.store.Medium.TheVariants.{Journal, Disk}
 use Rattle.user_desk.specs.Stored.{Stored}
 
 -- the disk
@@ -24,10 +24,6 @@ is_failed (Disk disk) = false
 abbrev pub medium_room : {D : Type 0} {g : _} → Medium D g → ℕ
 medium_room (Journal journal) = room_of journal
 medium_room (Disk disk) = 0
-
--- there is room for a record of a text of this length
-abbrev pub HasRoomIn : {D : Type 0} {g : _} → Medium D g → ℕ → Type 0
-HasRoomIn medium size = size + 4 ≤ medium_room medium
 
 -- what is stored, beside what it was as the desk was opened
 abbrev pub stored_in : {D : Type 0} {g : _} → Medium D g → Medium D g → Stored D

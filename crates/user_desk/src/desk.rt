@@ -1,7 +1,7 @@
 //! A desk between its opening and its close.
 ghost use Rattle.std.specs.Prelude.{◌≡◌, ◌≤◌, ◌++◌, ◌∷◌, [], true, false, List, ℕ, length, map};
 ghost use Rattle.std.specs.Prelude.{option_map, option_to_list, is_some, None, IfSome, IfNone, ◌↔◌};
-ghost use Rattle.std.specs.Prelude.{IsTrue};
+ghost use Rattle.std.specs.Prelude.{IsTrue, IfOk};
 ghost use Rattle.outside.specs.Disk.{Elapses};
 ghost use Rattle.outside.specs.Faults.{Rose};
 ghost use Rattle.cqe_base.specs.Formula.{formula_of};
@@ -22,10 +22,11 @@ use crate::standing::Standing;
 use crate::store::Store;
 use cqe_base::sentence::Sentence;
 use cqe_base::user::{Entry, Mark, User};
+use entailment::{GroundSentence, View};
 use log_journal::Header;
 use outside::Disk;
-use std::alloc::Global;
-use user_log::{Reply, UserLog, Weighed};
+use std::alloc::{AllocError, Global};
+use user_log::{Examined, Examiner, Reply, UserLog, Weighed};
 
 /// One user's desk: his log, and a journal of it on a disk.
 #[derive(Drop)]
@@ -57,7 +58,10 @@ pub struct Desk<'w, D: Disk> {
 }
 
 impl<'w, D: Disk> Desk<'w, D> {
+    ghost use Rattle.entailment.specs.GroundSentences.{sentence_of};
     ghost use Rattle.user_log.specs.Asked.{IsAnswer};
+    ghost use Rattle.user_log.specs.Examining.{IsExamined, IsLent};
+    ghost use Rattle.user_log.specs.Examiners.{examiner_schema, examiner_user};
     ghost use Rattle.user_log.specs.Replies.{reply_of};
     ghost use Rattle.user_desk.specs.Causes.{OpensWithin};
     ghost use Rattle.user_desk.specs.Entries.{StandsFor};
@@ -74,6 +78,15 @@ impl<'w, D: Disk> Desk<'w, D> {
         ensures { profile_of result.now ≡ desk_user self.now }
     {
         self.log.user()
+    }
+
+    /// What examines the user's texts outside of the desk.
+    pub fn examiner(&self, alloc: Global) -> Result<Examiner<'w>, AllocError>
+        ensures schema { IfOk result (λ examiner.
+            examiner_schema examiner ≡ desk_schema self.now) }
+        ensures user { IfOk result (λ examiner. examiner_user examiner ≡ desk_user self.now) }
+    {
+        self.log.examiner(alloc)
     }
 
     /// Whether the user is served, and else why not.
@@ -155,11 +168,31 @@ impl<'w, D: Disk> Desk<'w, D> {
         self.store.known();
     }
 
-    /// The reply to a text by the entries so far. A mark comes once its entry is on the disk, and
-    /// adds it; want of memory and a code change nothing, and from the first write on the answer is
-    /// a mark or that the append failed.
-    pub fn settle(&mut self, alloc: Global, text: &str) -> Reply
+    /// A view of the log, after which the query of a text can be examined outside of the desk.
+    /// There is none where a code answers the text, or memory is wanting. The desk stays as it is.
+    pub fn lend(&mut self, alloc: Global, text: &str, query: &GroundSentence) -> Option<View<'w>>
         requires { length text.now ≤ 4096 }
+        ensures same { IsOfSame self.old self.new }
+        ensures opening { IsOfOneOpening self.old self.new }
+        ensures history { desk_history self.new ≡ desk_history self.old }
+        ensures in_flight { entry_in_flight self.new ≡ entry_in_flight self.old }
+        ensures lent { IfSome result
+            (IsLent (desk_schema self.old) (desk_user self.old) (desk_history self.old)
+            (sentence_of query.now)) }
+    {
+        if let Some(_code) = self.refusal() {
+            return None;
+        }
+        self.log.lend(alloc, text, query)
+    }
+
+    /// The reply to a text by the entries so far, with what was found of it before, if that was
+    /// done. A mark comes once its entry is on the disk, and adds it; want of memory and a code
+    /// change nothing, and from the first write on the answer is a mark or that the append failed.
+    pub fn settle(&mut self, alloc: Global, text: &str, examined: Option<Examined<'w>>) -> Reply
+        requires short { length text.now ≤ 4096 }
+        requires examined { IfSome examined (IsExamined (desk_schema self.old) (desk_user self.old)
+            (desk_history self.old) text.now) }
         ensures same { IsOfSame self.old self.new }
         ensures opening { IsOfOneOpening self.old self.new }
 
@@ -187,7 +220,7 @@ impl<'w, D: Disk> Desk<'w, D> {
         if let Some(code) = self.refusal() {
             return code;
         }
-        match self.log.weigh(alloc, text) {
+        match self.log.weigh(alloc, text, examined) {
             Ok(Weighed::Answer(query, mark)) => self.record(alloc, text, query, mark),
             Ok(Weighed::Code(code)) => code,
             Err(_) => Reply::Memory,

@@ -17,7 +17,6 @@
 mod desk;
 mod kinds;
 pub mod laws;
-mod medium;
 mod opening;
 mod replay;
 mod standing;

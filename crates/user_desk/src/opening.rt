@@ -18,10 +18,9 @@ ghost use Rattle.user_desk.specs.Desks.{desk_standing, desk_history, desk_disk, 
 ghost use Rattle.user_desk.specs.Desks.{opening_history, opening_disk, IsIn, disk_opened};
 
 use crate::Desk;
-use crate::medium::Medium;
 use crate::replay::replay;
 use crate::standing::{DeskError, Standing};
-use crate::store::Store;
+use crate::store::{Medium, Store};
 use censors::Admission;
 use cqe_base::schema::Schema;
 use cqe_base::user::User;

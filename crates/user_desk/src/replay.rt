@@ -93,7 +93,7 @@ fn take_record(
     let Ok(text) = str::from_utf8(&next.text) else {
         return Ok(Some(DeskError::Stale(number)));
     };
-    match log.weigh(alloc, text)? {
+    match log.weigh(alloc, text, None)? {
         Weighed::Code(code) => Ok(Some(refused_by(code, number))),
         Weighed::Answer(query, computed) => {
             let stored = mark_of(next.kind);

@@ -4,11 +4,20 @@ ghost use Rattle.outside.specs.Disk.{Elapses};
 ghost use Rattle.outside.specs.Faults.{Rose};
 ghost use Rattle.log_journal.specs.Records.{Adds, KeepsOrAdds};
 
-use crate::medium::Medium;
+use log_journal::Journal;
 use outside::{Disk, Failed};
 use std::alloc::AllocError;
 use std::marker::Model;
 use std::snapshot::Snapshot;
+
+/// A disk under a journal, or as it is where the journal was refused.
+#[derive(Drop)]
+pub(crate) enum Medium<D: Disk> {
+    /// The journal, to which entries are appended.
+    Journal(Journal<D>),
+    /// The disk of a journal that was refused.
+    Disk(D),
+}
 
 /// The disk of a desk, with its journal, since the desk was opened.
 #[derive(Drop)]
@@ -63,7 +72,10 @@ impl<D: Disk> Store<D> {
         ensures failed { has_failed self.new ≡ has_failed self.old }
         ensures opened { opened_disk self.new ≡ opened_disk self.old }
     {
-        self.medium.reserve(length)
+        match &mut self.medium {
+            Medium::Journal(journal) => journal.reserve(length as u32),
+            Medium::Disk(_) => unreachable!(),
+        }
     }
 
     /// Appends a record of this kind and text. It takes no memory.
@@ -91,13 +103,23 @@ impl<D: Disk> Store<D> {
             (Rose (D.faults (stored_disk self.old)) (D.faults (stored_disk self.new))) }
         ensures opened { opened_disk self.new ≡ opened_disk self.old }
     {
-        self.medium.append(kind, text)
+        match &mut self.medium {
+            Medium::Journal(journal) => match journal.append(kind, text) {
+                Ok(()) => Ok(()),
+                Err(_) => Err(Failed),
+            },
+            Medium::Disk(_) => unreachable!(),
+        }
     }
 
     /// Gives the disk back.
     pub(crate) fn close(self) -> D
         ensures { result ≡ stored_disk self }
     {
-        self.medium.close()
+        let Store { medium, opened: _ } = self;
+        match medium {
+            Medium::Journal(journal) => journal.close(),
+            Medium::Disk(disk) => disk,
+        }
     }
 }

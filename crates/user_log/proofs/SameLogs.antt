@@ -13,13 +13,13 @@ module _ (log : UserLog) where
       IsConsistentLog log.schema.now log.world.now (profile_of log.user.now) (map answered_query_of log.entries.items)
       (schema_of view) (log_of view) log.text_bytes log.view_nodes
 
-  pub kept_with : (view : LogView) → view ≡ log.view → KeptWith view
+  pub kept_with : (view : LogView) → view ≡ log.views → KeptWith view
   kept_with view same = subst KeptWith (sym same) log.kept
 
-  pub same_log : (view : LogView) → view ≡ log.view → (kept : KeptWith view) (guarding : AreGuardsOf log.schema.now (profile_of log.user.now) log.guards)
-      → record log { view = view; kept = kept; guarding = guarding } ≡ log
+  pub same_log : (view : LogView) → view ≡ log.views → (kept : KeptWith view) (guarding : AreGuardsOf log.schema.now (profile_of log.user.now) log.guards)
+      → record log { views = view; kept = kept; guarding = guarding } ≡ log
   same_log view same kept guarding = λ i. record log {
-    view = same i;
+    views = same i;
     kept = is_prop→PathP (λ j. KeptWith (same j)) (λ j. IsConsistentLog-prop _ _ _ _ _ _ _ _) kept log.kept i;
     guarding = AreGuardsOf-prop _ _ _ guarding log.guarding i;
   }

@@ -40,3 +40,7 @@ pub record AreGuardsOf (schema : DatabaseSchema) (user : UserProfile) (guards : 
 pub AreGuardsOf-prop : (schema : DatabaseSchema) (user : UserProfile) (guards : GuardedSentences)
     → IsProp (AreGuardsOf schema user guards)
 AreGuardsOf-prop schema user guards = hlevel (props, formula_set)
+
+pub KeepsLimits-prop : (schema : DatabaseSchema) (user : UserProfile)
+    → IsProp (KeepsLimits schema user)
+KeepsLimits-prop schema user = hlevel (props, formula_set)

@@ -18,7 +18,7 @@ prepared_entry prepared = answered_query_of prepared.new_entry
 -- there is room for both
 pub record IsPrepared (before : UserLog) (prepared : Prepared) : Type 0 where
   pub room : vec_len before.entries < vec_capacity before.entries
-  pub view_room : 0 < room_of before.view
+  pub view_room : 0 < room_of before.views
   pub told : formula_of prepared.told ≡ formula_of prepared.new_entry.query
   pub nodes : prepared.nodes
       ≡ told_nodes (kept_schema before) prepared.new_entry.mark

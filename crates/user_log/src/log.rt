@@ -1,28 +1,31 @@
 //! A user's entries, with the view of their log and their sizes.
 
 ghost use Rattle.std.specs.Prelude.{◌≡◌, ◌≤◌, ◌<◌, ◌+◌, ◌++◌, ◌∷◌, [], ◌&&◌, true, false, Bool};
-ghost use Rattle.std.specs.Prelude.{length, map, sum_by, IfOk, OnOk, OnErr};
+ghost use Rattle.std.specs.Prelude.{length, map, sum_by, Ok, IfOk, OnOk, OnErr, IfSome, IfNone};
 ghost use Rattle.cqe_base.specs.Formula.{formula_of, nodes, is_sentence_of};
 ghost use Rattle.cqe_base.specs.History.{profile_of, answered_query_of, log, view_size, told_by};
 ghost use Rattle.cqe_base.specs.History.{signed_nodes};
-ghost use Rattle.cqe_base.specs.Censor.{rule, IsLegal};
+ghost use Rattle.cqe_base.specs.Truth.{true_in};
+ghost use Rattle.cqe_base.specs.Censor.{rule, IsLegal, guarded, mark_by};
+ghost use Rattle.cqe_base.specs.Reading.{reading};
 ghost use Rattle.cqe_base.specs.Run.{is_full, is_too_large};
 ghost use Rattle.cqe_base.specs.Limits.{KeepsLimits, KeepsSizes};
 ghost use Rattle.entailment.specs.Views.{schema_of, log_of, room_of};
 ghost use Rattle.entailment.specs.Logs.{log_nodes};
+ghost use Rattle.censors.specs.Found.{HasFindings};
 ghost use Rattle.user_log.specs.Nodes.{told_nodes};
 ghost use Rattle.user_log.specs.Kept.{IsConsistentLog, IsConsistentLog-prop, AreGuardsOf};
 ghost use Rattle.user_log.specs.Kept.{AreGuardsOf-prop};
 ghost use Rattle.entailment.specs.GroundSentences.{sentence_of, IsGroundOver};
 
-use crate::{Prepared, Reply, Weighed};
-use censors::{Guards, decide, examine, law_undecided_is_cost};
+use crate::{Examined, Examiner, Prepared, Reply, Weighed};
+use censors::{Findings, Guards, decide, examine, law_undecided_is_cost};
 use cqe_base::laws::{law_findings_decide, law_legal_grows, law_limits, law_logs, law_reading};
 use cqe_base::schema::Schema;
 use cqe_base::sentence::{Sentence, nodes};
 use cqe_base::user::{Entry, Mark, User};
 use cqe_base::world::World;
-use entailment::{GroundSentence, View};
+use entailment::{GroundSentence, View, Views};
 use sentence_text::{ReadError, read_sentence};
 use std::alloc::{AllocError, Global};
 use truth_eval::holds;
@@ -34,7 +37,7 @@ const ENTRIES: usize = 4_096;
 const TEXT_BYTES: u64 = 1_048_576;
 
 /// A query has at most so many nodes.
-const QUERY_NODES: u64 = 20_000;
+pub(crate) const QUERY_NODES: u64 = 20_000;
 
 /// A view and a query have at most so many nodes together.
 const VIEW_NODES: u64 = 60_000;
@@ -46,12 +49,12 @@ pub struct UserLog<'w> {
     world: &'w World,
     user: &'w User,
     guards: Guards<'w>,
-    view: View<'w>,
+    views: Views<'w>,
     entries: Vec<Entry>,
     text_bytes: u64,
     view_nodes: u64,
     ghost kept: { IsConsistentLog schema.now world.now (profile_of user.now)
-        (map answered_query_of entries.items) (schema_of view) (log_of view)
+        (map answered_query_of entries.items) (schema_of views) (log_of views)
         text_bytes view_nodes } by { IsConsistentLog-prop _ _ _ _ _ _ _ _ },
     ghost guarding: { AreGuardsOf schema.now
         (profile_of user.now) guards } by { AreGuardsOf-prop _ _ _ },
@@ -61,6 +64,8 @@ impl<'w> UserLog<'w> {
     ghost use Rattle.user_log.specs.UserLogs.{kept_schema, kept_world, kept_user, kept_history};
     ghost use Rattle.user_log.specs.UserLogs.{IsOfSame};
     ghost use Rattle.user_log.specs.Asked.{IsAnswer, IsWeighed, IsAsked};
+    ghost use Rattle.user_log.specs.Examining.{IsExamined, IsLent};
+    ghost use Rattle.user_log.specs.Examiners.{examiner_schema, examiner_user};
     ghost use Rattle.user_log.specs.Undecided.{IsMarkByCost, IsUndecidedByCost, IsReplyByCost};
     ghost use Rattle.user_log.specs.Replies.{reply_of};
     ghost use Rattle.user_log.specs.Prepared.{IsPrepared, prepared_entry};
@@ -84,13 +89,13 @@ impl<'w> UserLog<'w> {
         schema.known();
         let view_nodes = user.view_nodes(schema);
         let guards = Guards::new(alloc, schema, user)?;
-        let view = View::new(alloc, schema, user)?;
+        let views = Views::new(alloc, schema, user)?;
         Ok(UserLog {
             schema,
             world,
             user,
             guards,
-            view,
+            views,
             entries: Vec::new(alloc),
             text_bytes: 0,
             view_nodes,
@@ -102,6 +107,15 @@ impl<'w> UserLog<'w> {
         ensures { profile_of result.now ≡ kept_user self.now }
     {
         self.user
+    }
+
+    /// What examines the user's texts outside of the log.
+    pub fn examiner(&self, alloc: Global) -> Result<Examiner<'w>, AllocError>
+        ensures schema { IfOk result (λ examiner.
+            examiner_schema examiner ≡ kept_schema self.now) }
+        ensures user { IfOk result (λ examiner. examiner_user examiner ≡ kept_user self.now) }
+    {
+        Examiner::new(alloc, self.schema, self.user)
     }
 
     /// The entries, oldest first.
@@ -121,8 +135,33 @@ impl<'w> UserLog<'w> {
             (kept_history self.now) }
     {}
 
-    /// The reply to a text by the entries so far. It changes nothing that a caller sees.
-    pub fn weigh(&mut self, alloc: Global, text: &str) -> Result<Weighed, AllocError>
+    /// The reply to a text by the entries so far, with what was found of it before, if that was
+    /// done. It changes nothing that a caller sees.
+    pub fn weigh(
+        &mut self,
+        alloc: Global,
+        text: &str,
+        examined: Option<Examined<'w>>,
+    ) -> Result<Weighed, AllocError>
+        requires few { length text.now ≤ 4096 }
+        requires examined { IfSome examined (IsExamined (kept_schema self.old) (kept_user self.old)
+            (kept_history self.old) text.now) }
+        ensures same { self.new ≡ self.old }
+        ensures weighed { IfOk result
+            (IsWeighed (kept_schema self.old) (kept_world self.old) (kept_user self.old)
+            (kept_history self.old) text.now) }
+        ensures undecided { IfOk result
+            (IsUndecidedByCost (kept_schema self.old) (kept_user self.old)
+            (kept_history self.old)) }
+    {
+        match examined {
+            Some(examined) => self.weigh_examined(alloc, text, examined),
+            None => self.weigh_text(alloc, text),
+        }
+    }
+
+    /// The same of a text of which nothing was found before.
+    fn weigh_text(&mut self, alloc: Global, text: &str) -> Result<Weighed, AllocError>
         requires { length text.now ≤ 4096 }
         ensures same { self.new ≡ self.old }
         ensures weighed { IfOk result
@@ -138,15 +177,84 @@ impl<'w> UserLog<'w> {
             Err(ReadError::Text(error)) => return Ok(Weighed::Code(Reply::Syntax(error))),
             Err(ReadError::Memory) => return Err(AllocError),
         };
-        if self.is_full(text.len()) {
-            return Ok(Weighed::Code(Reply::Full));
-        }
-        if self.is_too_large(&query) {
-            return Ok(Weighed::Code(Reply::Size));
+        if let Some(code) = self.refusal(text, &query) {
+            return Ok(Weighed::Code(code));
         }
         let query = GroundSentence::new(alloc, self.schema, query)?;
         let mark = self.mark(alloc, &query)?;
         Ok(Weighed::Answer(query.sentence, mark))
+    }
+
+    /// The same of a text that was examined after a beginning of the log.
+    fn weigh_examined(
+        &mut self,
+        alloc: Global,
+        text: &str,
+        examined: Examined<'w>,
+    ) -> Result<Weighed, AllocError>
+        requires few { length text.now ≤ 4096 }
+        requires examined { IsExamined (kept_schema self.old) (kept_user self.old)
+            (kept_history self.old) text.now examined }
+        ensures same { self.new ≡ self.old }
+        ensures weighed { IfOk result
+            (IsWeighed (kept_schema self.old) (kept_world self.old) (kept_user self.old)
+            (kept_history self.old) text.now) }
+        ensures undecided { IfOk result
+            (IsUndecidedByCost (kept_schema self.old) (kept_user self.old)
+            (kept_history self.old)) }
+    {
+        law_reading();
+        let Examined {
+            query,
+            view,
+            findings,
+        } = examined;
+        let is_whole = view.len() == self.views.len();
+        self.views.put(view);
+        if let Some(code) = self.refusal(text, &query.sentence) {
+            return Ok(Weighed::Code(code));
+        }
+        let mark = self.mark_with(alloc, &query, is_whole, &findings)?;
+        Ok(Weighed::Answer(query.sentence, mark))
+    }
+
+    /// A view of the log, after which the query can be examined outside of it. There is none where
+    /// a code answers the query, or memory is wanting.
+    pub fn lend(&mut self, alloc: Global, text: &str, query: &GroundSentence) -> Option<View<'w>>
+        requires { length text.now ≤ 4096 }
+        ensures same { self.new ≡ self.old }
+        ensures lent { IfSome result
+            (IsLent (kept_schema self.old) (kept_user self.old) (kept_history self.old)
+            (sentence_of query.now)) }
+    {
+        law_limits();
+        if let Some(_code) = self.refusal(text, &query.sentence) {
+            return None;
+        }
+        match self.views.lend(alloc) {
+            Ok(view) => Some(view),
+            Err(_) => None,
+        }
+    }
+
+    /// The code that answers the query of a text for want of room, if one does.
+    fn refusal(&self, text: &str, query: &Sentence) -> Option<Reply>
+        requires { length text.now ≤ 4096 }
+        ensures code { IfSome result (λ code.
+            reading (kept_schema self.now) text.now ≡ Ok (formula_of query.now)
+            → IsWeighed (kept_schema self.now) (kept_world self.now) (kept_user self.now)
+            (kept_history self.now) text.now (Weighed.Code code)) }
+        ensures room { IfNone result (is_full (kept_history self.now) (length text.now) ≡ false) }
+        ensures small { IfNone result (is_too_large (kept_schema self.now) (kept_user self.now)
+            (kept_history self.now) (formula_of query.now) ≡ false) }
+    {
+        if self.is_full(text.len()) {
+            return Some(Reply::Full);
+        }
+        if self.is_too_large(query) {
+            return Some(Reply::Size);
+        }
+        None
     }
 
     /// Whether the entries, or the texts with one of this length, are too many.
@@ -167,6 +275,38 @@ impl<'w> UserLog<'w> {
         count > QUERY_NODES || self.view_nodes.saturating_add(count) > VIEW_NODES
     }
 
+    /// The mark of a query by the rule, from findings after a view of the log, or where that isn't
+    /// the whole log from new ones.
+    fn mark_with(
+        &mut self,
+        alloc: Global,
+        query: &GroundSentence,
+        is_whole: bool,
+        findings: &Findings,
+    ) -> Result<Mark, AllocError>
+        requires sentence { is_sentence_of (kept_schema self.old) (sentence_of query.now) ≡ true }
+        requires grounded { IsGroundOver (kept_schema self.old) query.now }
+        requires small { is_too_large (kept_schema self.old) (kept_user self.old)
+            (kept_history self.old) (sentence_of query.now) ≡ false }
+        requires found { is_whole ≡ true → HasFindings (kept_schema self.old) (kept_user self.old)
+            (log (kept_user self.old) (kept_history self.old)) (sentence_of query.now)
+            findings.now }
+        ensures same { self.new ≡ self.old }
+        ensures rule { IfOk result (λ mark. mark
+            ≡ rule (kept_schema self.old) (kept_world self.old) (kept_user self.old)
+            (log (kept_user self.old) (kept_history self.old)) (sentence_of query.now)) }
+        ensures undecided { IfOk result (λ mark.
+            IsMarkByCost (kept_schema self.old) (kept_user self.old) (kept_history self.old)
+            (sentence_of query.now) mark) }
+    {
+        law_findings_decide();
+        law_undecided_is_cost();
+        if is_whole {
+            return Ok(decided(self.schema, self.world, self.user, query, findings));
+        }
+        self.mark(alloc, query)
+    }
+
     /// The mark of a query by the rule.
     fn mark(&mut self, alloc: Global, query: &GroundSentence) -> Result<Mark, AllocError>
         requires sentence { is_sentence_of (kept_schema self.old) (sentence_of query.now) ≡ true }
@@ -184,9 +324,8 @@ impl<'w> UserLog<'w> {
         law_limits();
         law_findings_decide();
         law_undecided_is_cost();
-        let findings = examine(alloc, &mut self.view, &self.guards, self.user, query)?;
-        let truth = holds(self.schema, self.world, &query.sentence);
-        Ok(decide(self.user.method, &findings, truth))
+        let findings = found_after(alloc, &mut self.views, &self.guards, self.user, query)?;
+        Ok(decided(self.schema, self.world, self.user, query, &findings))
     }
 
     /// Takes all that adding the entry of a text that was weighed takes, with the mark that answers
@@ -221,7 +360,7 @@ impl<'w> UserLog<'w> {
         law_limits();
         law_legal_grows();
         self.entries.reserve(1)?;
-        self.view.reserve()?;
+        self.views.reserve()?;
         let nodes = told_nodes(self.schema, &query, mark);
         let told = query.copy(alloc)?;
         let length = text.len() as u32;
@@ -252,7 +391,7 @@ impl<'w> UserLog<'w> {
             new_entry,
             nodes,
         } = prepared;
-        tell(&mut self.view, told, new_entry.mark);
+        tell(&mut self.views, told, new_entry.mark);
         self.text_bytes += u64::from(new_entry.length);
         self.view_nodes += nodes;
         self.entries.push_reserved(new_entry);
@@ -292,7 +431,7 @@ impl<'w> UserLog<'w> {
         ensures undecided { IsReplyByCost (kept_schema self.old) (kept_user self.old)
             (kept_history self.old) text.now result }
     {
-        match self.weigh(alloc, text) {
+        match self.weigh(alloc, text, None) {
             Ok(Weighed::Code(code)) => code,
             Ok(Weighed::Answer(query, mark)) => match self.add(alloc, text, query, mark) {
                 Ok(()) => Reply::Mark(mark),
@@ -301,6 +440,49 @@ impl<'w> UserLog<'w> {
             Err(_) => Reply::Memory,
         }
     }
+}
+
+/// What the probes of a query find after the whole log.
+fn found_after(
+    alloc: Global,
+    views: &mut Views<'_>,
+    guards: &Guards<'_>,
+    user: &User,
+    query: &GroundSentence,
+) -> Result<Findings, AllocError>
+    requires limits { KeepsLimits (schema_of views.old) (profile_of user.now) }
+    requires guards_schema { guards.now.schema ≡ schema_of views.old }
+    requires guarded { guards.now.sentences ≡ guarded (profile_of user.now) }
+    requires sentence { is_sentence_of (schema_of views.old) (sentence_of query.now) ≡ true }
+    requires grounded { IsGroundOver (schema_of views.old) query.now }
+    requires all_nodes { log_nodes (schema_of views.old) (log_of views.old)
+        + nodes (schema_of views.old) (sentence_of query.now) ≤ 60000 }
+    ensures findings { IfOk result
+        (HasFindings (schema_of views.old) (profile_of user.now) (log_of views.old)
+        (sentence_of query.now)) }
+    ensures same { views.new ≡ views.old }
+{
+    let mut view = views.lend(alloc)?;
+    let found = examine(alloc, &mut view, guards, user, query);
+    views.put(view);
+    found
+}
+
+/// The mark of a query by what its probes found, and its truth in the world.
+fn decided(
+    schema: &Schema,
+    world: &World,
+    user: &User,
+    query: &GroundSentence,
+    findings: &Findings,
+) -> Mark
+    requires { is_sentence_of schema.now (sentence_of query.now) ≡ true }
+    ensures { result ≡ mark_by user.now.method findings.now.spent findings.now.implied
+        findings.now.yes_harm findings.now.no_harm
+        (true_in schema.now world.now (sentence_of query.now)) }
+{
+    let truth = holds(schema, world, &query.sentence);
+    decide(user.method, findings, truth)
 }
 
 /// What a mark adds to the nodes of the log.
@@ -316,19 +498,19 @@ fn told_nodes(schema: &Schema, query: &Sentence, mark: Mark) -> u64
 }
 
 /// Appends to a log what a mark tells of its query. It takes no memory.
-fn tell(view: &mut View<'_>, query: Sentence, mark: Mark)
-    requires sentence { is_sentence_of (schema_of view.old) (formula_of query) ≡ true }
-    requires query { nodes (schema_of view.old) (formula_of query) ≤ 20000 }
+fn tell(views: &mut Views<'_>, query: Sentence, mark: Mark)
+    requires sentence { is_sentence_of (schema_of views.old) (formula_of query) ≡ true }
+    requires query { nodes (schema_of views.old) (formula_of query) ≤ 20000 }
     requires nodes { (yes : Bool)
-        → log_nodes (schema_of view.old) (log_of view.old)
-        + signed_nodes (schema_of view.old) (formula_of query) yes ≤ 60000 }
-    requires room { 0 < room_of view.old }
-    ensures schema { schema_of view.new ≡ schema_of view.old }
-    ensures told { log_of view.new ≡ log_of view.old ++ told_by mark (formula_of query) }
+        → log_nodes (schema_of views.old) (log_of views.old)
+        + signed_nodes (schema_of views.old) (formula_of query) yes ≤ 60000 }
+    requires room { 0 < room_of views.old }
+    ensures schema { schema_of views.new ≡ schema_of views.old }
+    ensures told { log_of views.new ≡ log_of views.old ++ told_by mark (formula_of query) }
 {
     match mark {
-        Mark::Yes => view.push_reserved(query, true),
-        Mark::No => view.push_reserved(query, false),
+        Mark::Yes => views.push_reserved(query, true),
+        Mark::No => views.push_reserved(query, false),
         Mark::Refused | Mark::Undecided => {}
     }
 }

@@ -1,4 +1,8 @@
 //! Replies to an ask.
+ghost use Rattle.std.specs.Prelude.{◌≡◌};
+ghost use Rattle.cqe_base.specs.Transcript.{reply_text};
+ghost use Rattle.line_protocol.specs.Replies.{text_of};
+ghost use Rattle.user_log.specs.Replies.{reply_of};
 
 use cqe_base::sentence::Sentence;
 use cqe_base::text::TextError;
@@ -31,4 +35,23 @@ pub enum Weighed {
     Code(Reply),
     /// It is this query, and this mark answers it.
     Answer(Sentence, Mark),
+}
+
+/// A reply in the words of the line protocol.
+pub fn line_reply(reply: Reply) -> line_protocol::Reply
+    ensures { text_of result ≡ reply_text (reply_of reply) }
+{
+    match reply {
+        Reply::Mark(mark) => line_protocol::Reply::Mark(mark),
+        Reply::Syntax(error) => line_protocol::Reply::Syntax {
+            kind: error.kind,
+            place: error.place,
+        },
+        Reply::Size => line_protocol::Reply::Code(21),
+        Reply::Full => line_protocol::Reply::Code(22),
+        Reply::Closed => line_protocol::Reply::Code(24),
+        Reply::Broken => line_protocol::Reply::Code(40),
+        Reply::Sealed => line_protocol::Reply::Code(41),
+        Reply::Memory => line_protocol::Reply::Code(50),
+    }
 }

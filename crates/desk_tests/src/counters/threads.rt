@@ -226,7 +226,7 @@ fn two_threads_ask_one_desk(rt: HostRuntime) -> Result<(), Fail> {
 /// So often a call is waited for at most.
 const PATIENCE: u64 = 1 << 22;
 
-/// A gate that holds each ask of eve's, once its text was examined, until another ask has been
+/// A gate that holds the first ask of eve's, once its text was examined, until another ask has been
 /// answered.
 #[derive(Drop)]
 struct Hold {
@@ -237,19 +237,19 @@ struct Hold {
 
 impl Gate for Hold {
     fn pass(&self, user: &str, point: Point) {
-        if user == "eve" && point == Point::Examined {
+        if user == "eve" && point == Point::Examined && self.held.load(SeqCst) == 0 {
             self.held.store(1, SeqCst);
-            if !was_set(&self.answered) {
+            if !was_reached(&self.answered, 1) {
                 self.given_up.store(1, SeqCst);
             }
         }
     }
 }
 
-// Waits until a mark is set, a limited time; it says whether it was.
-fn was_set(mark: &AtomicU64) -> bool {
+// Waits until a count is at least this, a limited time; it says whether it was.
+fn was_reached(count: &AtomicU64, least: u64) -> bool {
     for _ in 0..PATIENCE {
-        if mark.load(SeqCst) == 1 {
+        if count.load(SeqCst) >= least {
             return true;
         }
         thread::yield_now();
@@ -270,7 +270,7 @@ impl<'a, 'w, D: Disk> Work for Other<'a, 'w, TicketedDesk<'w, D>> {
 
     fn work<R: Wait>(self, rt: &R) -> Other<'a, 'w, TicketedDesk<'w, D>> {
         let hold = self.session.gate;
-        let saw_held = was_set(&hold.held);
+        let saw_held = was_reached(&hold.held, 1);
         let session = self.session.work(rt);
         hold.answered.store(1, SeqCst);
         Other { session, saw_held }
@@ -344,5 +344,121 @@ fn users_do_not_wait_for_each_other(rt: HostRuntime) -> Result<(), Fail> {
         gave_up: false,
     };
     assert_eq!(rt; ask_two_desks(&rt, alloc, eves, dans), beside);
+    Ok(())
+}
+
+// Two sessions of one user ask once, the second while the first is held.
+fn ask_one_desk<'w, R: Threads + Wait + Sync>(
+    rt: &R,
+    alloc: Global,
+    counter: Counter<'w, MemoryDisk>,
+    pass: DeskPass<MemoryDisk>,
+) -> Option<Beside>
+    requires pass { IsPassOf pass counter }
+    requires all { (shares_of pass ≡ 65) × (turns pass ≡ 65 * 2 ^ 57) }
+{
+    let mut first = pass;
+    let second = counter.split(&mut first).ok()?;
+    let hold = Hold {
+        held: AtomicU64::new(0),
+        answered: AtomicU64::new(0),
+        given_up: AtomicU64::new(0),
+    };
+    let one = session_at(
+        alloc,
+        &counter,
+        first,
+        64,
+        ("drug(ann)", Mark::No),
+        1,
+        &hold,
+    );
+    let two = session_at(
+        alloc,
+        &counter,
+        second,
+        1,
+        ("not hiv(bob)", Mark::Yes),
+        1,
+        &hold,
+    );
+    Some(ask_while_held(rt, one, two))
+}
+
+// The log has grown when the first ask is settled, so its text is examined again.
+#[test]
+fn sessions_of_one_user_do_not_wait_for_each_others_examinations(
+    rt: HostRuntime,
+) -> Result<(), Fail> {
+    let alloc = rt.alloc();
+    let ward = make_ward(alloc)?;
+    let (counter, pass) = counter_of(&rt, alloc, &ward.clinic, &ward.eve)?;
+    let beside = Beside {
+        first_told: 1,
+        second_told: 1,
+        saw_held: true,
+        gave_up: false,
+    };
+    assert_eq!(rt; ask_one_desk(&rt, alloc, counter, pass), Some(beside));
+    Ok(())
+}
+
+/// A gate that holds each ask, once its text was examined, until two were.
+#[derive(Drop)]
+struct Both {
+    examined: AtomicU64,
+    given_up: AtomicU64,
+}
+
+impl Gate for Both {
+    fn pass(&self, _user: &str, point: Point) {
+        if point == Point::Examined {
+            let _before = self.examined.fetch_add(1, SeqCst);
+            if !was_reached(&self.examined, 2) {
+                self.given_up.store(1, SeqCst);
+            }
+        }
+    }
+}
+
+// Two sessions of one user ask once, and neither ask is settled before both texts were examined. It
+// says how many replies of each were the mark that was looked for, and whether one gave up.
+fn ask_examined<'w, R: Threads + Wait + Sync>(
+    rt: &R,
+    alloc: Global,
+    counter: Counter<'w, MemoryDisk>,
+    pass: DeskPass<MemoryDisk>,
+    questions: ((&str, Mark), (&str, Mark)),
+) -> Option<(u64, u64, bool)>
+    requires pass { IsPassOf pass counter }
+    requires all { (shares_of pass ≡ 65) × (turns pass ≡ 65 * 2 ^ 57) }
+    requires short { (length questions.0.0.now ≤ 4096) × (length questions.1.0.now ≤ 4096) }
+{
+    let mut first = pass;
+    let second = counter.split(&mut first).ok()?;
+    let gate = Both {
+        examined: AtomicU64::new(0),
+        given_up: AtomicU64::new(0),
+    };
+    let one = session_at(alloc, &counter, first, 64, questions.0, 1, &gate);
+    let two = session_at(alloc, &counter, second, 1, questions.1, 1, &gate);
+    let (one, two) = ask_in_thread(rt, one, two);
+    Some((one.told, two.told, gate.given_up.load(SeqCst) == 1))
+}
+
+// Before any entry each text could be answered truly: yes to the first, no to the second. Together
+// these would tell the secret, so behind a yes to the first the second is answered yes, a lie, and
+// behind a no to the second the first is answered no, a lie too.
+#[test]
+fn what_was_examined_after_an_older_log_is_not_used(rt: HostRuntime) -> Result<(), Fail> {
+    let alloc = rt.alloc();
+    let ward = make_ward(alloc)?;
+    let questions = (("hiv(ann) or hiv(bob)", Mark::Yes), ("hiv(bob)", Mark::Yes));
+    for _ in 0..10 {
+        let (counter, pass) = counter_of(&rt, alloc, &ward.clinic, &ward.eve)?;
+        let told = ask_examined(&rt, alloc, counter, pass, questions).ok_or("not split")?;
+        assert_eq!(rt; told.0, told.1);
+        assert!(rt; !told.2);
+    }
     Ok(())
 }

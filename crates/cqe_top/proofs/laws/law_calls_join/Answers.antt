@@ -1,4 +1,4 @@
-use Rattle.cqe_top.specs.Scene.{Scene, Output, shelf_of, input_of, output_of, links_of, scene_of}
+use Rattle.cqe_top.specs.Scene.{shelf_of, input_of, output_of, links_of, scene_of}
 use Rattle.cqe_top.proofs.Lives.{calls_join}
 use Rattle.cqe_top.proofs.laws.law_calls_join.Goals as goal
 

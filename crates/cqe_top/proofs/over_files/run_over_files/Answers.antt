@@ -25,7 +25,10 @@ use Rattle.cqe_top.proofs.Over.{serve_over, init_caused, some_rose, same_journal
 use Rattle.cqe_top.proofs.Over.{batch_left, serve_left, one_of}
 use Rattle.cqe_top.proofs.Serving.{serve_succeeds, served_out}
 use Rattle.cqe_top.proofs.Users.{batch_names_are}
+use Rattle.cqe_top.proofs.over_files.run_over_files.Given.{Over}
 use Rattle.cqe_top.proofs.over_files.run_over_files.Goals as goal
+use Rattle.cqe_top.proofs.over_files.run_over_files.Goals.{After-drop-inputs-5, After-drop-inputs-in-Audit-5, After-drop-inputs-in-Batch-4}
+use Rattle.cqe_top.proofs.over_files.run_over_files.Goals.{After-drop-inputs-in-Init-3, After-drop-inputs-in_default-5, In-Err}
 
 pub run_batch-end-requires-clause-names : goal.run_batch-end-requires-clause-names
 run_batch-end-requires-clause-names g c =
@@ -39,56 +42,52 @@ run_serve-end-requires-clause-names g c κs within =
 
 -- ---- files that weren't read
 
-pub returns-in-Err-clause-cause : goal.returns-in-Err-clause-cause
-returns-in-Err-clause-cause g c =
-    let scene : Scene =
+abbrev unread_scene : (g : Over) → In-Err g → Scene
+unread_scene g c =
     scene_of (shelf_of g.F.Shelf g.F.D.Disk c.args.shelf.now c.read_files.new.shelf) (input_of g.S.Source c.args.source.now c.args.source.now)
-    (output_of g.K.Sink c.args.sink.now c.args.sink.now) (links_of g.L.Links c.args.links.now c.args.links.now) in
-    files_cause scene c.in-Err.end c.in-Err.ensures.cause
+    (output_of g.K.Sink c.args.sink.now c.args.sink.now) (links_of g.L.Links c.args.links.now c.args.links.now)
+
+pub returns-in-Err-clause-cause : goal.returns-in-Err-clause-cause
+returns-in-Err-clause-cause g c = files_cause (unread_scene g c) c.in-Err.end c.in-Err.ensures.cause
 
 pub returns-in-Err-clause-command : goal.returns-in-Err-clause-command
 returns-in-Err-clause-command g c =
-    let scene : Scene =
-    scene_of (shelf_of g.F.Shelf g.F.D.Disk c.args.shelf.now c.read_files.new.shelf) (input_of g.S.Source c.args.source.now c.args.source.now)
-    (output_of g.K.Sink c.args.sink.now c.args.sink.now) (links_of g.L.Links c.args.links.now c.args.links.now) in
-    unread scene (names_of_files c.args.files) c.args.task c.in-Err.end
+    unread (unread_scene g c) (names_of_files c.args.files) c.args.task c.in-Err.end
     (record { refused = c.in-Err.ensures.refused; looks = c.in-Err.ensures.looks; disks = (c.in-Err.ensures.disks, c.in-Err.ensures.counts) })
-    (files_cause scene c.in-Err.end c.in-Err.ensures.cause) refl refl refl
+    (returns-in-Err-clause-cause g c) refl refl refl
 
 -- ---- the making of journals
 
+abbrev init_scene : (g : Over) → After-drop-inputs-in-Init-3 g → Scene
+init_scene g c =
+    scene_of (shelf_of g.F.Shelf g.F.D.Disk c.args.shelf.now c.run_init-end.new.shelf) (input_of g.S.Source c.args.source.now c.args.source.now)
+    (output_of g.K.Sink c.args.sink.now c.args.sink.now) (links_of g.L.Links c.args.links.now c.args.links.now)
+
 pub returns-in-Init-clause-cause : goal.returns-in-Init-clause-cause
 returns-in-Init-clause-cause g c =
+    let scene = init_scene g c in
     let read = c.in-Ok.ensures in
     let ran = c.run_init-end.ensures in
-    let scene : Scene =
-    scene_of (shelf_of g.F.Shelf g.F.D.Disk c.args.shelf.now c.run_init-end.new.shelf) (input_of g.S.Source c.args.source.now c.args.source.now)
-    (output_of g.K.Sink c.args.sink.now c.args.sink.now) (links_of g.L.Links c.args.links.now c.args.links.now) in
     let files = names_of_files c.args.files in
     let inputs = c.in-Ok.inputs in
     let made = init_over g.F.Shelf g.F.D.Disk c.args.shelf.now c.read_files.new.shelf c.run_init-end.new.shelf read.disks read.counts files
     (header_bytes inputs.header)
     inputs.policy c.as_slice.result.now c.run_init-end.result c.as_slice.ensures.value read.later ran.ends in
-    let caused = init_caused g.F.Shelf.tells g.F.D.Disk.reads g.F.D.Disk.image (header_bytes inputs.header) files.directory
+    let caused = init_caused g.F.Shelf.tells g.F.D.Disk (header_bytes inputs.header) files.directory
     (names_of (map policy_user_of inputs.policy.users.items))
     (change_on scene.shelf) c.run_init-end.result made in
     init_cause scene inputs.policy.users c.run_init-end.result caused.0 caused.1
 
 pub returns-in-Init-clause-command : goal.returns-in-Init-clause-command
 returns-in-Init-clause-command g c =
+    let scene = init_scene g c in
     let read = c.in-Ok.ensures in
     let ran = c.run_init-end.ensures in
     let files = names_of_files c.args.files in
     let inputs = c.in-Ok.inputs in
-    let scene : Scene =
-    scene_of (shelf_of g.F.Shelf g.F.D.Disk c.args.shelf.now c.run_init-end.new.shelf) (input_of g.S.Source c.args.source.now c.args.source.now)
-    (output_of g.K.Sink c.args.sink.now c.args.sink.now) (links_of g.L.Links c.args.links.now c.args.links.now) in
     let made = init_over g.F.Shelf g.F.D.Disk c.args.shelf.now c.read_files.new.shelf c.run_init-end.new.shelf read.disks read.counts files
     (header_bytes inputs.header)
     inputs.policy c.as_slice.result.now c.run_init-end.result c.as_slice.ensures.value read.later ran.ends in
-    let caused = init_caused g.F.Shelf.tells g.F.D.Disk.reads g.F.D.Disk.image (header_bytes inputs.header) files.directory
-    (names_of (map policy_user_of inputs.policy.users.items))
-    (change_on scene.shelf) c.run_init-end.result made in
     let runs : RunsInit scene.shelf files inputs.policy.users c.run_init-end.result = record {
       over_files = λ told. (
         policy_value_of inputs.policy,
@@ -102,13 +101,12 @@ returns-in-Init-clause-command g c =
       );
       looks = λ told. ran.looked ∙ read.both told;
       within =
-          one_of g.F.Shelf.tells g.F.D.Disk.reads g.F.D.Disk.image (header_bytes inputs.header) files.directory c.as_slice.result.now inputs.policy.users.items
+          one_of g.F.Shelf.tells g.F.D.Disk (header_bytes inputs.header) files.directory c.as_slice.result.now inputs.policy.users.items
           _ c.run_init-end.result c.as_slice.ensures.value ran.ends;
     } in
     let does : OfInit scene files (ends.Init inputs.policy.users c.run_init-end.result) = record {
       ends = runs;
-      succeeds = init_succeeds scene files inputs.policy.users c.run_init-end.result runs
-          (init_cause scene inputs.policy.users c.run_init-end.result caused.0 caused.1);
+      succeeds = init_succeeds scene files inputs.policy.users c.run_init-end.result runs (returns-in-Init-clause-cause g c);
       reads_nothing = refl;
       writes_nothing = refl;
       listens_nowhere = refl;
@@ -117,27 +115,27 @@ returns-in-Init-clause-command g c =
 
 -- ---- a batch
 
+abbrev batch_scene : (g : Over) → After-drop-inputs-in-Batch-4 g → Scene
+batch_scene g c =
+    scene_of (shelf_of g.F.Shelf g.F.D.Disk c.args.shelf.now c.run_batch-end.new.shelf) (input_of g.S.Source c.args.source.now c.run_batch-end.new.source)
+    (output_of g.K.Sink c.args.sink.now c.run_batch-end.new.sink) (links_of g.L.Links c.args.links.now c.args.links.now)
+
 pub returns-in-Batch-clause-cause : goal.returns-in-Batch-clause-cause
 returns-in-Batch-clause-cause g c =
     let read = c.in-Ok.ensures in
     let ran = c.run_batch-end.ensures in
-    let scene : Scene =
-    scene_of (shelf_of g.F.Shelf g.F.D.Disk c.args.shelf.now c.run_batch-end.new.shelf) (input_of g.S.Source c.args.source.now c.run_batch-end.new.source)
-    (output_of g.K.Sink c.args.sink.now c.run_batch-end.new.sink) (links_of g.L.Links c.args.links.now c.args.links.now) in
-    batch_cause scene c.in-Ok.inputs.policy.users c.run_batch-end.result ran.read_cause ran.write_cause
+    batch_cause (batch_scene g c) c.in-Ok.inputs.policy.users c.run_batch-end.result ran.read_cause ran.write_cause
     (λ is. rose_since (g.F.Shelf.faults c.args.shelf.now) (g.F.Shelf.faults c.read_files.new.shelf) (g.F.Shelf.faults c.run_batch-end.new.shelf) read.later
     (ran.shelf_cause is))
     (λ is. some_rose g.F.Shelf g.F.D.Disk c.args.shelf.now c.read_files.new.shelf c.run_batch-end.new.shelf read.disks read.counts (ran.disk_cause is))
 
 pub returns-in-Batch-clause-command : goal.returns-in-Batch-clause-command
 returns-in-Batch-clause-command g c =
+    let scene = batch_scene g c in
     let read = c.in-Ok.ensures in
     let ran = c.run_batch-end.ensures in
     let files = names_of_files c.args.files in
     let inputs = c.in-Ok.inputs in
-    let scene : Scene =
-    scene_of (shelf_of g.F.Shelf g.F.D.Disk c.args.shelf.now c.run_batch-end.new.shelf) (input_of g.S.Source c.args.source.now c.run_batch-end.new.source)
-    (output_of g.K.Sink c.args.sink.now c.run_batch-end.new.sink) (links_of g.L.Links c.args.links.now c.args.links.now) in
     let runs : RunsBatch scene.shelf scene.input scene.output files inputs.policy.users c.run_batch-end.result = record {
       over_files = λ told. (
         policy_value_of inputs.policy,
@@ -168,25 +166,24 @@ returns-in-Batch-clause-command g c =
     } in
     let does : OfBatch scene files (ends.Batch inputs.policy.users c.run_batch-end.result) = record {
       ends = runs;
-      succeeds = batch_succeeds scene files inputs.policy.users c.run_batch-end.result runs
-          (batch_cause scene inputs.policy.users c.run_batch-end.result ran.read_cause ran.write_cause
-          (λ is. rose_since (g.F.Shelf.faults c.args.shelf.now) (g.F.Shelf.faults c.read_files.new.shelf)
-          (g.F.Shelf.faults c.run_batch-end.new.shelf) read.later (ran.shelf_cause is))
-          (λ is. some_rose g.F.Shelf g.F.D.Disk c.args.shelf.now c.read_files.new.shelf c.run_batch-end.new.shelf read.disks read.counts (ran.disk_cause is)));
+      succeeds = batch_succeeds scene files inputs.policy.users c.run_batch-end.result runs (returns-in-Batch-clause-cause g c);
       listens_nowhere = refl;
     } in
     subst (λ task. OfReading scene (Some (reading_over files task)) (ends.Batch inputs.policy.users c.run_batch-end.result)) (sym c.in-Batch.is) does
 
 -- ---- an audit
 
+abbrev nobody_scene : (g : Over) → After-drop-inputs-in_default-5 g → Scene
+nobody_scene g c =
+    scene_of (shelf_of g.F.Shelf g.F.D.Disk c.args.shelf.now c.read_files.new.shelf) (input_of g.S.Source c.args.source.now c.args.source.now)
+    (output_of g.K.Sink c.args.sink.now c.args.sink.now) (links_of g.L.Links c.args.links.now c.args.links.now)
+
 pub returns-in_default-clause-command : goal.returns-in_default-clause-command
 returns-in_default-clause-command g c =
+    let scene = nobody_scene g c in
     let read = c.in-Ok.ensures in
     let files = names_of_files c.args.files in
     let inputs = c.in-Ok.inputs in
-    let scene : Scene =
-    scene_of (shelf_of g.F.Shelf g.F.D.Disk c.args.shelf.now c.read_files.new.shelf) (input_of g.S.Source c.args.source.now c.args.source.now)
-    (output_of g.K.Sink c.args.sink.now c.args.sink.now) (links_of g.L.Links c.args.links.now c.args.links.now) in
     let finds : FindsNobody scene.shelf scene.output files c.in-Audit.name.now c.in-Audit.json = record {
       over_files = λ told. (
         policy_value_of inputs.policy,
@@ -208,19 +205,22 @@ returns-in_default-clause-command g c =
     } in
     subst (λ task. OfReading scene (Some (reading_over files task)) (ends.Nobody)) (sym c.in-Audit.is) does
 
+abbrev audit_scene : (g : Over) → After-drop-inputs-in-Audit-5 g → Scene
+audit_scene g c =
+    scene_of (shelf_of g.F.Shelf g.F.D.Disk c.args.shelf.now c.run_audit.new.shelf) (input_of g.S.Source c.args.source.now c.args.source.now)
+    (output_of g.K.Sink c.args.sink.now c.run_audit.new.sink) (links_of g.L.Links c.args.links.now c.args.links.now)
+
 pub returns-in-Audit-clause-cause : goal.returns-in-Audit-clause-cause
 returns-in-Audit-clause-cause g c =
     let read = c.in-Ok.ensures in
     let ran = c.run_audit.ensures in
-    let scene : Scene =
-    scene_of (shelf_of g.F.Shelf g.F.D.Disk c.args.shelf.now c.run_audit.new.shelf) (input_of g.S.Source c.args.source.now c.args.source.now)
-    (output_of g.K.Sink c.args.sink.now c.run_audit.new.sink) (links_of g.L.Links c.args.links.now c.args.links.now) in
-    audit_cause scene c.in-Audit.name c.run_audit.result ran.write_cause
+    audit_cause (audit_scene g c) c.in-Audit.name c.run_audit.result ran.write_cause
     (λ is. rose_since (g.F.Shelf.faults c.args.shelf.now) (g.F.Shelf.faults c.read_files.new.shelf) (g.F.Shelf.faults c.run_audit.new.shelf) read.later
     (ran.shelf_cause is))
 
 pub returns-in-Audit-clause-command : goal.returns-in-Audit-clause-command
 returns-in-Audit-clause-command g c =
+    let scene = audit_scene g c in
     let read = c.in-Ok.ensures in
     let ran = c.run_audit.ensures in
     let files = names_of_files c.args.files in
@@ -231,9 +231,6 @@ returns-in-Audit-clause-command g c =
     let within : c.in-Some.place < length inputs.policy.users.items =
     subst (λ users. c.in-Some.place < length users) c.as_slice.ensures.value c.in-Some.ensures.within in
     let is : string_bytes user.name ≡ name = named_at name inputs.policy.users.items c.in-Some.place user found within c.index-user.ensures in
-    let scene : Scene =
-    scene_of (shelf_of g.F.Shelf g.F.D.Disk c.args.shelf.now c.run_audit.new.shelf) (input_of g.S.Source c.args.source.now c.args.source.now)
-    (output_of g.K.Sink c.args.sink.now c.run_audit.new.sink) (links_of g.L.Links c.args.links.now c.args.links.now) in
     let runs : RunsAudit scene.shelf scene.output files name c.in-Audit.json name c.run_audit.result = record {
       name_is = refl;
       over_files = λ told. (
@@ -262,10 +259,7 @@ returns-in-Audit-clause-command g c =
     } in
     let does : OfAudit scene files name c.in-Audit.json (ends.Audit c.in-Audit.name c.run_audit.result) = record {
       ends = runs;
-      succeeds = audit_succeeds scene files name c.in-Audit.json c.in-Audit.name c.run_audit.result runs
-          (audit_cause scene c.in-Audit.name c.run_audit.result ran.write_cause
-          (λ is. rose_since (g.F.Shelf.faults c.args.shelf.now) (g.F.Shelf.faults c.read_files.new.shelf) (g.F.Shelf.faults c.run_audit.new.shelf) read.later
-          (ran.shelf_cause is)));
+      succeeds = audit_succeeds scene files name c.in-Audit.json c.in-Audit.name c.run_audit.result runs (returns-in-Audit-clause-cause g c);
       reads_nothing = refl;
       listens_nowhere = refl;
     } in
@@ -273,28 +267,28 @@ returns-in-Audit-clause-command g c =
 
 -- ---- a server
 
+abbrev serve_scene : (g : Over) → After-drop-inputs-5 g → Scene
+serve_scene g c =
+    scene_of (shelf_of g.F.Shelf g.F.D.Disk c.args.shelf.now c.run_serve-end.new.shelf) (input_of g.S.Source c.args.source.now c.args.source.now)
+    (output_of g.K.Sink c.args.sink.now c.args.sink.now) (links_of g.L.Links c.args.links.now c.run_serve-end.new.links)
+
 pub returns-clause-cause : goal.returns-clause-cause
 returns-clause-cause g c =
     let read = c.in-Ok.ensures in
     let ran = c.run_serve-end.ensures in
-    let scene : Scene =
-    scene_of (shelf_of g.F.Shelf g.F.D.Disk c.args.shelf.now c.run_serve-end.new.shelf) (input_of g.S.Source c.args.source.now c.args.source.now)
-    (output_of g.K.Sink c.args.sink.now c.args.sink.now) (links_of g.L.Links c.args.links.now c.run_serve-end.new.links) in
-    serve_cause scene c.in-Ok.inputs.policy.users c.run_serve-end.result ran.links_cause
+    serve_cause (serve_scene g c) c.in-Ok.inputs.policy.users c.run_serve-end.result ran.links_cause
     (λ is. rose_since (g.F.Shelf.faults c.args.shelf.now) (g.F.Shelf.faults c.read_files.new.shelf) (g.F.Shelf.faults c.run_serve-end.new.shelf) read.later
     (ran.shelf_cause is))
     (λ is. some_rose g.F.Shelf g.F.D.Disk c.args.shelf.now c.read_files.new.shelf c.run_serve-end.new.shelf read.disks read.counts (ran.disk_cause is))
 
 pub returns-clause-command : goal.returns-clause-command
 returns-clause-command g c =
+    let scene = serve_scene g c in
     let read = c.in-Ok.ensures in
     let ran = c.run_serve-end.ensures in
     let files = names_of_files c.args.files in
     let inputs = c.in-Ok.inputs in
     let listening = c.in-Serve.listening in
-    let scene : Scene =
-    scene_of (shelf_of g.F.Shelf g.F.D.Disk c.args.shelf.now c.run_serve-end.new.shelf) (input_of g.S.Source c.args.source.now c.args.source.now)
-    (output_of g.K.Sink c.args.sink.now c.args.sink.now) (links_of g.L.Links c.args.links.now c.run_serve-end.new.links) in
     let runs : RunsServe scene.shelf scene.links files listening.address.now listening.workers listening.sessions inputs.policy.users c.run_serve-end.result =
     record {
       over_files = λ told. (
@@ -332,11 +326,7 @@ returns-clause-command g c =
     let does : OfServe scene files listening.address.now listening.workers listening.sessions (ends.Serve inputs.policy.users c.run_serve-end.result) = record {
       ends = runs;
       succeeds = serve_succeeds c.law_openings.ensures.unrefused scene files listening.address.now listening.workers listening.sessions inputs.policy.users
-          c.run_serve-end.result runs
-          (serve_cause scene inputs.policy.users c.run_serve-end.result ran.links_cause
-          (λ is. rose_since (g.F.Shelf.faults c.args.shelf.now) (g.F.Shelf.faults c.read_files.new.shelf)
-          (g.F.Shelf.faults c.run_serve-end.new.shelf) read.later (ran.shelf_cause is))
-          (λ is. some_rose g.F.Shelf g.F.D.Disk c.args.shelf.now c.read_files.new.shelf c.run_serve-end.new.shelf read.disks read.counts (ran.disk_cause is)));
+          c.run_serve-end.result runs (returns-clause-cause g c);
       reads_nothing = refl;
       writes_nothing = refl;
     } in

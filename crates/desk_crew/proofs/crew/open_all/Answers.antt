@@ -1,16 +1,17 @@
-use Rattle.std.proofs.Common.{◌≡◌, ◌+◌, length, take, map, refl, sym, ap, subst, ◌∙◌, arith}
+use Rattle.std.proofs.Common.{◌≡◌, ◌+◌, length, take, map, refl, sym, ap, subst, ◌∙◌, string_bytes, arith}
 use Rattle.std.specs.Prelude.{Err}
 use Rattle.std.proofs.lemmas.List.{take_all}
 use Rattle.outside.proofs.Rises.{rose_wide}
-use Rattle.outside.specs.Shelf.{bytes_on, image_on, is_among}
+use Rattle.outside.specs.Shelf.{is_among}
 use Rattle.log_journal.specs.Opening.{header_bytes}
-use Rattle.desk_crew.specs.declared.crew.NotOpened.TheVariants.{Shelf}
 use Rattle.log_journal.specs.Names.{journal_name}
-use Rattle.desk_crew.specs.Shelved.{journals}
-use Rattle.desk_crew.proofs.Shelving.{later_on, beside_one}
-use Rattle.desk_crew.proofs.Opening.{Opened, names, no_journal, seat_journals, first_distinct, seats_distinct, seats_later, opened_none, next_none, next_in}
-use Rattle.desk_crew.proofs.Opening.{opened_more, none_out, none_fell, all_same}
+use Rattle.desk_crew.specs.Registered.{registered_journals}
+use Rattle.desk_crew.specs.declared.crew.NotOpened.TheVariants.{Shelf}
+use Rattle.desk_crew.proofs.Giving.{CanGive, IsRefused, AreUnopened}
+use Rattle.desk_crew.proofs.Opening.{Opened, names, seat_journals, opened_none, next_in, opened_more, refused_can, refused_back}
+use Rattle.desk_crew.proofs.crew.open_all.Given.{Over}
 use Rattle.desk_crew.proofs.crew.open_all.Goals as goal
+use Rattle.desk_crew.proofs.crew.open_all.Goals.{After-give_back, In-Err}
 
 pub open_seat-requires-clause-inside : goal.open_seat-requires-clause-inside
 open_seat-requires-clause-inside g c =
@@ -20,81 +21,61 @@ open_seat-requires-clause-inside g c =
     c.args.registry.now.users.now c.requires.distinct c.loop-user.user-index c.user-item.result c.loop-user-test.true c.user-item.is c.loop-user.seats.items _ _
     _ c.loop-user.invariant.opened
 
+-- a journal was refused
+refused : (g : Over) (c : In-Err g)
+    → IsRefused g.F.Shelf.tells g.F.D.Disk (journal_name c.args.registry.now.directory.now (string_bytes c.user-item.result.name))
+    (g.F.Shelf.disk c.loop-user.shelf) (g.F.Shelf.disk c.open_seat.new.shelf) (g.F.Shelf.is_out c.loop-user.shelf) (g.F.Shelf.is_out c.open_seat.new.shelf)
+    (g.F.Shelf.disk_faults c.loop-user.shelf) (g.F.Shelf.disk_faults c.open_seat.new.shelf)
+refused g c = record {
+  out = c.in-Err.ensures.refused_out;
+  bytes = c.in-Err.ensures.refused_bytes;
+  images = c.in-Err.ensures.refused_images;
+  disks = c.open_seat.ensures.disks;
+  fell = c.in-Err.ensures.fell;
+  counts = c.in-Err.ensures.other_counts;
+}
+
+-- those that are open can be given back
+can : (g : Over) (c : In-Err g)
+    → CanGive g.F.D.Disk c.loop-user.seats.items (g.F.Shelf.is_out c.open_seat.new.shelf) (g.F.Shelf.disk_faults c.open_seat.new.shelf)
+can g c =
+    refused_can c.law_journals_differ.ensures c.requires.distinct c.loop-user-test.true c.user-item.is c.loop-user.invariant.opened
+    (refused g c)
+
 pub give_back-requires-clause-distinct : goal.give_back-requires-clause-distinct
-give_back-requires-clause-distinct g c =
-    seats_distinct c.args.registry.now.directory.now c.args.registry.now.schema.now c.args.registry.now.world.now
-    (header_bytes c.args.registry.now.header.now) g.F.Shelf.tells g.F.D.Disk.tells g.F.D.Disk
-    (g.F.Shelf.disk c.args.shelf.now) (g.F.Shelf.disk_faults c.args.shelf.now) c.law_journals_differ.ensures
-    (take c.loop-user.user-index c.args.registry.now.users.now) c.loop-user.seats.items c.loop-user.invariant.opened.are
-    (first_distinct c.args.registry.now.users.now c.loop-user.user-index c.requires.distinct)
+give_back-requires-clause-distinct g c = (can g (goal.at.give_back-requires-clause-distinct g c).In-Err).distinct
 
 pub give_back-requires-clause-out : goal.give_back-requires-clause-out
-give_back-requires-clause-out g c = λ name among. c.in-Err.ensures.refused_out name ∙ c.loop-user.invariant.opened.out name ∙ among
+give_back-requires-clause-out g c = (can g (goal.at.give_back-requires-clause-out g c).In-Err).out
 
 pub give_back-requires-clause-later : goal.give_back-requires-clause-later
-give_back-requires-clause-later g c =
-    let so_far = c.loop-user.invariant.opened in
-    let none = next_none c.args.registry.now.directory.now c.args.registry.now.schema.now c.args.registry.now.world.now
-    (header_bytes c.args.registry.now.header.now) g.F.Shelf.tells g.F.D.Disk.tells g.F.D.Disk
-    (g.F.Shelf.disk c.args.shelf.now) (g.F.Shelf.disk_faults c.args.shelf.now) c.law_journals_differ.ensures
-    c.args.registry.now.users.now c.requires.distinct c.loop-user.user-index c.user-item.result c.loop-user-test.true c.user-item.is c.loop-user.seats.items _ _
-    _ so_far in
-    later_on g.F.Shelf.tells g.F.D.Disk (g.F.Shelf.disk_faults c.loop-user.shelf)
-    (g.F.Shelf.disk_faults c.open_seat.new.shelf) c.loop-user.seats.items
-    (beside_one _ (journals c.loop-user.seats.items) (g.F.Shelf.disk_faults c.loop-user.shelf)
-    (g.F.Shelf.disk_faults c.open_seat.new.shelf) none c.in-Err.ensures.other_counts)
-    (seats_later c.args.registry.now.directory.now c.args.registry.now.schema.now c.args.registry.now.world.now
-    (header_bytes c.args.registry.now.header.now) g.F.Shelf.tells g.F.D.Disk.tells g.F.D.Disk
-    (g.F.Shelf.disk c.args.shelf.now) (g.F.Shelf.disk_faults c.args.shelf.now)
-    (g.F.Shelf.disk_faults c.loop-user.shelf) (take c.loop-user.user-index c.args.registry.now.users.now) c.loop-user.seats.items so_far.counts so_far.are)
+give_back-requires-clause-later g c = (can g (goal.at.give_back-requires-clause-later g c).In-Err).later
+
+-- and then all disks are as they were
+left : (g : Over) (c : After-give_back g)
+    → AreUnopened g.F.Shelf.tells g.F.D.Disk (registered_journals c.args.registry.now.directory.now c.args.registry.now.users.now)
+    (g.F.Shelf.disk c.args.shelf.now) (g.F.Shelf.disk c.give_back.new.shelf) (g.F.Shelf.is_out c.give_back.new.shelf)
+    (g.F.Shelf.disk_faults c.args.shelf.now) (g.F.Shelf.disk_faults c.give_back.new.shelf)
+left g c =
+    let given = c.give_back.ensures in
+    refused_back c.law_journals_differ.ensures c.requires.distinct c.loop-user-test.true c.user-item.is c.loop-user.invariant.opened
+    (refused g (goal.at.returns-in-Err-clause-fell g c).In-Err)
+    (record { back = given.back; inside = given.inside; others_out = given.others_out; disks = given.disks; counts = given.counts })
 
 pub returns-in-Err-clause-refused_out : goal.returns-in-Err-clause-refused_out
-returns-in-Err-clause-refused_out g c =
-    none_out c.args.registry.now.directory.now c.args.registry.now.schema.now c.args.registry.now.world.now
-    (header_bytes c.args.registry.now.header.now) g.F.Shelf.tells g.F.D.Disk.tells g.F.D.Disk
-    (g.F.Shelf.disk c.args.shelf.now) (g.F.Shelf.disk_faults c.args.shelf.now)
-    c.loop-user.seats.items (g.F.Shelf.is_out c.open_seat.new.shelf) (g.F.Shelf.is_out c.give_back.new.shelf) (λ name. c.in-Err.ensures.refused_out name
-    ∙ c.loop-user.invariant.opened.out name) c.give_back.ensures.inside c.give_back.ensures.others_out
+returns-in-Err-clause-refused_out g c = (left g c).inside
 
 pub returns-in-Err-clause-refused_bytes : goal.returns-in-Err-clause-refused_bytes
-returns-in-Err-clause-refused_bytes g c = λ told name.
-    let so_far = c.loop-user.invariant.opened in
-    (all_same c.args.registry.now.directory.now c.args.registry.now.schema.now c.args.registry.now.world.now
-    (header_bytes c.args.registry.now.header.now) g.F.Shelf.tells g.F.D.Disk.tells g.F.D.Disk
-    (g.F.Shelf.disk c.args.shelf.now) (g.F.Shelf.disk_faults c.args.shelf.now) told
-    (take c.loop-user.user-index c.args.registry.now.users.now) c.loop-user.seats.items so_far.are (g.F.Shelf.disk c.give_back.new.shelf)
-    (g.F.Shelf.disk_faults c.give_back.new.shelf) c.give_back.ensures.back
-    (λ name none. (
-      ap (bytes_on g.F.D.Disk.reads) (c.give_back.ensures.disks name none) ∙ c.in-Err.ensures.refused_bytes told name
-          ∙ ap (bytes_on g.F.D.Disk.reads) (so_far.disks name none),
-      λ crash left. subst (λ d. image_on g.F.D.Disk.image d crash) (so_far.disks name none)
-          (c.in-Err.ensures.refused_images told name crash (subst (λ d. image_on g.F.D.Disk.image d crash) (c.give_back.ensures.disks name none) left)),
-    )) name).0
+returns-in-Err-clause-refused_bytes g c = λ told name. ((left g c).same told name).0
 
 pub returns-in-Err-clause-refused_images : goal.returns-in-Err-clause-refused_images
-returns-in-Err-clause-refused_images g c = λ told name.
-    let so_far = c.loop-user.invariant.opened in
-    (all_same c.args.registry.now.directory.now c.args.registry.now.schema.now c.args.registry.now.world.now
-    (header_bytes c.args.registry.now.header.now) g.F.Shelf.tells g.F.D.Disk.tells g.F.D.Disk
-    (g.F.Shelf.disk c.args.shelf.now) (g.F.Shelf.disk_faults c.args.shelf.now) told
-    (take c.loop-user.user-index c.args.registry.now.users.now) c.loop-user.seats.items so_far.are (g.F.Shelf.disk c.give_back.new.shelf)
-    (g.F.Shelf.disk_faults c.give_back.new.shelf) c.give_back.ensures.back
-    (λ name none. (
-      ap (bytes_on g.F.D.Disk.reads) (c.give_back.ensures.disks name none) ∙ c.in-Err.ensures.refused_bytes told name
-          ∙ ap (bytes_on g.F.D.Disk.reads) (so_far.disks name none),
-      λ crash left. subst (λ d. image_on g.F.D.Disk.image d crash) (so_far.disks name none)
-          (c.in-Err.ensures.refused_images told name crash (subst (λ d. image_on g.F.D.Disk.image d crash) (c.give_back.ensures.disks name none) left)),
-    )) name).1
+returns-in-Err-clause-refused_images g c = λ told name. ((left g c).same told name).1
 
 pub returns-in-Err-clause-disks : goal.returns-in-Err-clause-disks
-returns-in-Err-clause-disks g c = λ name none.
-    let so_far = c.loop-user.invariant.opened in
-    let apart = no_journal c.args.registry.now.directory.now c.args.registry.now.schema.now c.args.registry.now.world.now
-    (header_bytes c.args.registry.now.header.now) g.F.Shelf.tells g.F.D.Disk.tells g.F.D.Disk
-    (g.F.Shelf.disk c.args.shelf.now) (g.F.Shelf.disk_faults c.args.shelf.now) c.law_journals_differ.ensures
-    c.args.registry.now.users.now c.requires.distinct c.loop-user.user-index c.user-item.result c.loop-user-test.true c.user-item.is c.loop-user.seats.items _ _
-    _ so_far name none in
-    c.give_back.ensures.disks name apart.0 ∙ c.open_seat.ensures.disks name apart.1 ∙ so_far.disks name apart.0
+returns-in-Err-clause-disks g c = (left g c).disks
+
+pub returns-in-Err-clause-fell : goal.returns-in-Err-clause-fell
+returns-in-Err-clause-fell g c = (left g c).counts
 
 pub returns-clause-disks : goal.returns-clause-disks
 returns-clause-disks g c = λ name none.
@@ -107,31 +88,6 @@ returns-clause-disks g c = λ name none.
     (take c.loop-user.user-index c.args.registry.now.users.now) c.loop-user.seats.items so_far.are
     ∙ ap (λ us. map (journal_name c.args.registry.now.directory.now) (names us))
     (take_all c.loop-user.user-index c.args.registry.now.users.now (omega (arith, c.loop-user-test.false)))) ∙ none)
-
-pub returns-in-Err-clause-fell : goal.returns-in-Err-clause-fell
-returns-in-Err-clause-fell g c = λ name.
-    let so_far = c.loop-user.invariant.opened in
-    let none = next_none c.args.registry.now.directory.now c.args.registry.now.schema.now c.args.registry.now.world.now
-    (header_bytes c.args.registry.now.header.now) g.F.Shelf.tells g.F.D.Disk.tells g.F.D.Disk
-    (g.F.Shelf.disk c.args.shelf.now) (g.F.Shelf.disk_faults c.args.shelf.now) c.law_journals_differ.ensures
-    c.args.registry.now.users.now c.requires.distinct c.loop-user.user-index c.user-item.result c.loop-user-test.true c.user-item.is c.loop-user.seats.items _ _
-    _ so_far in
-    let later = later_on g.F.Shelf.tells g.F.D.Disk (g.F.Shelf.disk_faults c.loop-user.shelf)
-    (g.F.Shelf.disk_faults c.open_seat.new.shelf) c.loop-user.seats.items
-    (beside_one _ (journals c.loop-user.seats.items) (g.F.Shelf.disk_faults c.loop-user.shelf)
-    (g.F.Shelf.disk_faults c.open_seat.new.shelf) none c.in-Err.ensures.other_counts)
-    (seats_later c.args.registry.now.directory.now c.args.registry.now.schema.now c.args.registry.now.world.now
-    (header_bytes c.args.registry.now.header.now) g.F.Shelf.tells g.F.D.Disk.tells g.F.D.Disk
-    (g.F.Shelf.disk c.args.shelf.now) (g.F.Shelf.disk_faults c.args.shelf.now)
-    (g.F.Shelf.disk_faults c.loop-user.shelf) (take c.loop-user.user-index c.args.registry.now.users.now) c.loop-user.seats.items so_far.counts so_far.are) in
-    let first = so_far.counts name in
-    let second = c.in-Err.ensures.fell name in
-    let third = none_fell c.args.registry.now.directory.now c.args.registry.now.schema.now c.args.registry.now.world.now
-    (header_bytes c.args.registry.now.header.now) g.F.Shelf.tells g.F.D.Disk.tells g.F.D.Disk
-    (g.F.Shelf.disk c.args.shelf.now) (g.F.Shelf.disk_faults c.args.shelf.now)
-    (g.F.Shelf.disk_faults c.open_seat.new.shelf) (g.F.Shelf.disk_faults c.give_back.new.shelf) c.loop-user.seats.items later
-    (g.F.Shelf.disk c.give_back.new.shelf) c.give_back.ensures.back c.give_back.ensures.counts name in
-    omega (arith, first, second, third)
 
 pub returns-in-Err-clause-cause : goal.returns-in-Err-clause-cause
 returns-in-Err-clause-cause g c = λ is.

@@ -16,7 +16,7 @@ returns-in-Err-clause-ends g c =
     let user = c.index-users-number.result in
     let named = name_at c.args.users.now c.loop-number.number user c.as_str.result.now
     (omega (arith, c.loop-number-test.true)) c.index-users-number.is c.as_str.ensures.value in
-    subst (λ end. EndsInit shelf.tells disk.reads disk.image (header_bytes c.args.header.now) c.args.directory.now (user_names c.args.users.now)
+    subst (λ end. EndsInit shelf.tells disk (header_bytes c.args.header.now) c.args.directory.now (user_names c.args.users.now)
     (record {
       old = shelf.disk first;
       new = shelf.disk last;
@@ -27,7 +27,7 @@ returns-in-Err-clause-ends g c =
       shelf_now = shelf.faults last;
     }) end)
     (sym c.end_of.ensures)
-    (ends shelf.tells disk.reads disk.image (header_bytes c.args.header.now) c.args.directory.now
+    (ends shelf.tells disk (header_bytes c.args.header.now) c.args.directory.now
     (user_names c.args.users.now) c.requires.names c.law_journals_differ.ensures
     (shelf.disk first) (shelf.disk mid) (shelf.disk last) (shelf.disk_faults first) (shelf.disk_faults mid) (shelf.disk_faults last) (shelf.faults first)
     (shelf.faults mid) (shelf.faults last)
@@ -47,7 +47,7 @@ loop-number-preserved g c =
     let named = name_at c.args.users.now c.loop-number.number user c.as_str.result.now
     (omega (arith, c.loop-number-test.true)) c.index-users-number.is c.as_str.ensures.value in
     record {
-      ready = λ t. one_more disk.reads disk.image (header_bytes c.args.header.now) c.args.directory.now
+      ready = λ t. one_more disk (header_bytes c.args.header.now) c.args.directory.now
           (user_names c.args.users.now) c.requires.names c.law_journals_differ.ensures
           (shelf.disk first) (shelf.disk mid) (shelf.disk last) c.loop-number.number c.as_str.result.now named (so_far.ready t) served.disks (served.ready t);
       out = λ name. served.out name ∙ so_far.out name;

@@ -6,8 +6,8 @@ use Rattle.init_engine.proofs.init.run_init.Given as goal
 abbrev pub invariant-loop-number : goal.invariant-loop-number
 invariant-loop-number g l = record {
   ready : g.F.Shelf.tells
-      → Readies g.F.D.Disk.reads g.F.D.Disk.image (header_bytes l.header) l.directory (user_names l.users) (g.F.Shelf.disk l.initial.shelf)
-      (g.F.Shelf.disk l.shelf) l.number l.number;
+      → Readies g.F.D.Disk (header_bytes l.header) l.directory (user_names l.users) (g.F.Shelf.disk l.initial.shelf) (g.F.Shelf.disk l.shelf)
+      l.number l.number;
   out : (name : List ℕ) → g.F.Shelf.is_out l.shelf name ≡ false;
   counts : (name : List ℕ) → g.F.Shelf.disk_faults l.initial.shelf name ≤ g.F.Shelf.disk_faults l.shelf name;
   files : (name : List ℕ) → g.F.Shelf.file l.shelf name ≡ g.F.Shelf.file l.initial.shelf name;

@@ -1,14 +1,21 @@
 use Rattle.std.proofs.Common.{ap, sym, ◌∙◌, subst, refl, ℕ, List, true, false, ◌≡◌, ◌++◌, ◌∷◌, [], length}
-use Rattle.std.specs.Prelude.{◌↔◌, IsTrue}
+use Rattle.std.specs.Prelude.{◌↔◌, IsTrue, IfSome}
 use Rattle.user_log.specs.declared.reply.Reply.TheVariants.{Broken}
-use Rattle.user_desk.specs.Desks.{desk_history, entry_in_flight}
+use Rattle.user_log.specs.Examining.{IsExamined}
+use Rattle.user_desk.specs.Desks.{desk_schema, desk_user, desk_history, entry_in_flight}
 use Rattle.desk_counter.specs.Items.{pairs_of}
 use Rattle.desk_counter.specs.Desks.{fixed_of}
 use Rattle.desk_counter.specs.Asks.{Adds, wanted}
 use Rattle.desk_counter.proofs.Settling.{not_mark}
 use Rattle.desk_counter.proofs.DeskSettles.{broke_pairs, broken_adds, same_fixed, desk_changes, desk_adds_mark, desk_adds_broke, desk_adds_none, counted_mark}
-use Rattle.desk_counter.proofs.DeskSettles.{counted_broke, counted_none}
+use Rattle.desk_counter.proofs.DeskSettles.{counted_broke, counted_none, history_in}
 use Rattle.desk_counter.proofs.ticketed_desk.TicketedDesk.settle.Goals as goal
+
+pub settle-reply-requires-clause-examined : goal.settle-reply-requires-clause-examined
+settle-reply-requires-clause-examined g c =
+    let value = c.args.self.now in
+    subst (λ h. IfSome c.args.examined (IsExamined (desk_schema value.desk) (desk_user value.desk) h c.args.text.now)) (history_in value)
+    c.requires.examined
 
 pub returns-then-broken-clause-adds : goal.returns-then-broken-clause-adds
 returns-then-broken-clause-adds g c = broken_adds c.args.self.now c.args.ticket c.args.text.now (sym c.broken.ensures ∙ c.if-broken.true) c.known.ensures.idle

@@ -1,27 +1,41 @@
-use Rattle.std.proofs.Common.{List, ℕ, subst}
+use Rattle.std.proofs.Common.{◌≡◌, List, ℕ, false, ap, sym, ◌∙◌, subst}
 use Rattle.std.specs.Prelude.{OnOk, OnErr}
+use Rattle.log_journal.specs.Journal.{disk_of, is_broken}
 use Rattle.log_journal.specs.Records.{Adds, KeepsOrAdds}
-use Rattle.user_desk.specs.Stored.{Stored, stored_disk}
-use Rattle.user_desk.specs.Mediums.{medium_disk}
+use Rattle.user_desk.specs.declared.store.Medium.{Medium}
+use Rattle.user_desk.specs.Mediums.{medium_disk, is_failed}
+use Rattle.user_desk.specs.Stored.{Stored, stored_disk, has_failed}
+use Rattle.user_desk.proofs.store.Store.append.Goals.{in-Ok, in-Err}
 use Rattle.user_desk.proofs.store.Store.append.Goals as goal
 
 pub returns-clause-added : goal.returns-clause-added
-returns-clause-added g c =
-    subst (λ (s : Stored g.row.D.Denot). g.D.Disk.tells
-    → OnOk c.append.result ((i : List ℕ) → g.D.Disk.image (medium_disk c.append.new.self) i
-    → Adds (g.D.Disk.reads (stored_disk s)) (c.args.kind, c.args.text.now) i)) c.self.view_is
-    c.append.ensures.added
+returns-clause-added g c told =
+    let stored = stored_disk c.args.self.now in
+    let same : g.D.Disk.reads (disk_of c.in-Journal.journal) ≡ g.D.Disk.reads stored =
+    ap (λ (m : Medium g.row.D.Denot g.D.Disk). g.D.Disk.reads (medium_disk m)) (sym c.in-Journal.is)
+    ∙ ap (λ (s : Stored g.row.D.Denot). g.D.Disk.reads (stored_disk s)) c.self.view_is in
+    elim c.match-append.branch [
+      | in-Ok w ↦ subst (λ r. OnOk r ((i : List ℕ) → g.D.Disk.image (disk_of c.append.new.self) i
+          → Adds (g.D.Disk.reads stored) (c.args.kind, c.args.text.now) i)) (sym w.result-is)
+          (λ i here. subst (λ b. Adds b (c.args.kind, c.args.text.now) i) same (w.in-Ok.ensures.kept told i here))
+      | in-Err w ↦ subst (λ r. OnOk r ((i : List ℕ) → g.D.Disk.image (disk_of c.append.new.self) i
+          → Adds (g.D.Disk.reads stored) (c.args.kind, c.args.text.now) i)) (sym w.result-is) tt
+    ]
 
 pub returns-clause-either : goal.returns-clause-either
-returns-clause-either g c =
-    subst (λ (s : Stored g.row.D.Denot). g.D.Disk.tells
-    → OnErr c.append.result ((i : List ℕ) → g.D.Disk.image (medium_disk c.append.new.self) i
-    → KeepsOrAdds (g.D.Disk.reads (stored_disk s)) (c.args.kind, c.args.text.now) i)) c.self.view_is
-    c.append.ensures.either
-
-pub returns-clause-moments : goal.returns-clause-moments
-returns-clause-moments g c =
-    subst (λ (s : Stored g.row.D.Denot). g.D.Disk.tells → (i : List ℕ)
-    → g.D.Disk.image_since (medium_disk c.append.new.self) (g.D.Disk.moment (stored_disk s)) i
-    → KeepsOrAdds (g.D.Disk.reads (stored_disk s)) (c.args.kind, c.args.text.now) i) c.self.view_is
-    c.append.ensures.moments
+returns-clause-either g c told =
+    let stored = stored_disk c.args.self.now in
+    let same : g.D.Disk.reads (disk_of c.in-Journal.journal) ≡ g.D.Disk.reads stored =
+    ap (λ (m : Medium g.row.D.Denot g.D.Disk). g.D.Disk.reads (medium_disk m)) (sym c.in-Journal.is)
+    ∙ ap (λ (s : Stored g.row.D.Denot). g.D.Disk.reads (stored_disk s)) c.self.view_is in
+    let unbroken : is_broken c.in-Journal.journal ≡ false =
+    ap (λ (m : Medium g.row.D.Denot g.D.Disk). is_failed m) (sym c.in-Journal.is)
+    ∙ ap (λ (s : Stored g.row.D.Denot). has_failed s) c.self.view_is ∙ c.requires.whole in
+    elim c.match-append.branch [
+      | in-Ok w ↦ subst (λ r. OnErr r ((i : List ℕ) → g.D.Disk.image (disk_of c.append.new.self) i
+          → KeepsOrAdds (g.D.Disk.reads stored) (c.args.kind, c.args.text.now) i)) (sym w.result-is) tt
+      | in-Err w ↦ subst (λ r. OnErr r ((i : List ℕ) → g.D.Disk.image (disk_of c.append.new.self) i
+          → KeepsOrAdds (g.D.Disk.reads stored) (c.args.kind, c.args.text.now) i)) (sym w.result-is)
+          (λ i here. subst (λ b. KeepsOrAdds b (c.args.kind, c.args.text.now) i) same
+          (c.append.ensures.moments told unbroken i (g.met.D.Disk.counts_now _ _ i c.append.ensures.time.later here)))
+    ]

@@ -3,7 +3,7 @@ use Rattle.std.proofs.lemmas.Grind.{common_steps}
 use Rattle.cqe_base.specs.Formula.{formula_of, nodes, is_sentence_of}
 use Rattle.cqe_base.specs.History.{log, told_by, signed_nodes}
 use Rattle.entailment.specs.Logs.{log_nodes}
-use Rattle.entailment.specs.Views.{schema_of, log_of}
+use Rattle.entailment.specs.Views.{log_of}
 use Rattle.user_log.specs.Prepared.{prepared_entry}
 use Rattle.user_log.specs.UserLogs.{kept_schema, kept_user, kept_history}
 use Rattle.user_log.proofs.Keeping.{kept_push}
@@ -26,7 +26,7 @@ tell-requires-clause-nodes c =
     let before = c.args.self.now in
     let fits = c.law_limits.ensures.queries (kept_schema before) (kept_user before) (kept_history before)
     (prepared_entry c.args.prepared).query before.kept.limits c.requires.sizes.small in
-    λ yes. subst (λ s. log_nodes s (log_of before.view) + signed_nodes s (formula_of c.args.prepared.told) yes ≤ 60000) (sym before.kept.schema_is)
+    λ yes. subst (λ s. log_nodes s (log_of before.views) + signed_nodes s (formula_of c.args.prepared.told) yes ≤ 60000) (sym before.kept.schema_is)
     (subst (λ told. log_nodes (kept_schema before) told + signed_nodes (kept_schema before) (formula_of c.args.prepared.told) yes
     ≤ 60000) (sym before.kept.log_is)
     (subst (λ q. log_nodes (kept_schema before) (log (kept_user before) (kept_history before)) + signed_nodes (kept_schema before) q yes
@@ -40,6 +40,6 @@ invariant_of-self c =
       kept = kept_push _ _ _ _ _ entry _ _ _ _ _ _ _ _ before.kept c.law_legal_grows.ensures.grows c.law_logs.ensures.grows c.requires.sizes
           c.requires.mark
           (grind (arith, common_steps)) c.tell.ensures.schema
-          (c.tell.ensures.told ∙ ap (λ q. log_of before.view ++ told_by entry.mark q) c.requires.told) c.from.ensures c.requires.nodes;
+          (c.tell.ensures.told ∙ ap (λ q. log_of before.views ++ told_by entry.mark q) c.requires.told) c.from.ensures c.requires.nodes;
       guarding = before.guarding;
     }

@@ -1,7 +1,6 @@
-use Rattle.std.proofs.Common.{◌≤◌, ◌+◌, true, map, sym, ap, subst, ◌∙◌}
+use Rattle.std.proofs.Common.{◌≤◌, ◌+◌, true, map, sym, subst, ◌∙◌}
 use Rattle.cqe_base.specs.Formula.{nodes}
 use Rattle.cqe_base.specs.History.{profile_of, answered_query_of}
-use Rattle.cqe_base.specs.Censor.{mark_by}
 use Rattle.entailment.specs.Logs.{log_nodes}
 use Rattle.entailment.specs.Views.{log_of}
 use Rattle.entailment.specs.GroundSentences.{sentence_of, IsGroundOver}
@@ -11,37 +10,38 @@ use Rattle.user_log.proofs.SameLogs.{kept_with, same_log}
 use Rattle.user_log.proofs.Costs.{mark_by_cost}
 use Rattle.user_log.proofs.log.UserLog.mark.Goals as goal
 
-pub examine-requires-clause-all_nodes : goal.examine-requires-clause-all_nodes
-examine-requires-clause-all_nodes c =
+pub found_after-requires-clause-all_nodes : goal.found_after-requires-clause-all_nodes
+found_after-requires-clause-all_nodes c =
     let kept = c.args.self.now.kept in
     let schema = c.args.self.now.schema.now in
     let query = sentence_of c.args.query.now in
     let fits = c.law_limits.ensures.queries schema (profile_of c.args.self.now.user.now)
     (map answered_query_of c.args.self.now.entries.items) query kept.limits c.requires.small in
-    subst (λ s. log_nodes s (log_of c.args.self.now.view) + nodes s query ≤ 60000) (sym kept.schema_is)
+    subst (λ s. log_nodes s (log_of c.args.self.now.views) + nodes s query ≤ 60000) (sym kept.schema_is)
     (subst (λ told. log_nodes schema told + nodes schema query ≤ 60000) (sym kept.log_is) (fits.log_nodes true))
 
-pub examine-requires-clause-guards_schema : goal.examine-requires-clause-guards_schema
-examine-requires-clause-guards_schema c = c.args.self.now.guarding.schema_is ∙ sym c.args.self.now.kept.schema_is
+pub found_after-requires-clause-guards_schema : goal.found_after-requires-clause-guards_schema
+found_after-requires-clause-guards_schema c = c.args.self.now.guarding.schema_is ∙ sym c.args.self.now.kept.schema_is
 
-pub examine-requires-clause-grounded : goal.examine-requires-clause-grounded
-examine-requires-clause-grounded c = subst (λ s. IsGroundOver s c.args.query.now) (sym c.args.self.now.kept.schema_is) c.requires.grounded
+pub found_after-requires-clause-grounded : goal.found_after-requires-clause-grounded
+found_after-requires-clause-grounded c = subst (λ s. IsGroundOver s c.args.query.now) (sym c.args.self.now.kept.schema_is) c.requires.grounded
 
 pub invariant_of-self : goal.invariant_of-self
-invariant_of-self c = record { kept = kept_with c.args.self.now c.examine.new.view c.examine.ensures.same; guarding = c.args.self.now.guarding }
+invariant_of-self c = record {
+  kept = kept_with c.args.self.now c.found_after.new.views c.found_after.ensures.same;
+  guarding = c.args.self.now.guarding;
+}
 
 pub returns-in_err-findings-clause-same : goal.returns-in_err-findings-clause-same
-returns-in_err-findings-clause-same c = same_log c.args.self.now c.examine.new.view c.examine.ensures.same _ _
+returns-in_err-findings-clause-same c = same_log c.args.self.now c.found_after.new.views c.found_after.ensures.same _ _
 
 pub returns-clause-same : goal.returns-clause-same
-returns-clause-same c = same_log c.args.self.now c.examine.new.view c.examine.ensures.same _ _
+returns-clause-same c = same_log c.args.self.now c.found_after.new.views c.found_after.ensures.same _ _
 
 pub returns-clause-rule : goal.returns-clause-rule
 returns-clause-rule c =
-    let found = c.in_ok-findings.findings in
     let kept = c.args.self.now.kept in
-    c.decide.ensures
-    ∙ ap (λ truth. mark_by c.args.self.now.user.now.method found.spent found.implied found.yes_harm found.no_harm truth) c.holds-truth.ensures
+    c.decided.ensures
     ∙ decided _ _ _ _ _ _ _ _ _ _ _ kept.schema_is kept.log_is c.law_findings_decide.ensures c.in_ok-findings.ensures.findings
 
 pub returns-clause-undecided : goal.returns-clause-undecided
