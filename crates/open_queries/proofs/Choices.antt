@@ -1,5 +1,6 @@
 -- The constants of an instance are of the list's domains, one of each.
-use Rattle.std.proofs.Common.{◌≡◌, ℕ, zero, suc, ◌+◌, ◌-◌, ◌*◌, ◌/◌, ◌%◌, ◌^◌, ◌<◌, ◌≤◌, List, [], ◌∷◌, ◌++◌, length, replicate, refl, sym, ap, subst, ◌∙◌, arith}
+use Rattle.std.proofs.Common.{◌≡◌, ℕ, zero, suc, ◌+◌, ◌-◌, ◌*◌, ◌/◌, ◌%◌, ◌^◌, ◌<◌, ◌≤◌, List, [], ◌∷◌, ◌++◌, length, replicate, refl, sym, ap, subst, ◌∙◌}
+use Rattle.std.proofs.Common.{arith}
 use Rattle.std.proofs.lemmas.Nat.{div_below, mod_below}
 use Rattle.cqe_base.specs.declared.sentence.Constant.{Constant}
 use Rattle.cqe_base.specs.Schema.{DatabaseSchema, domain_size}
@@ -12,7 +13,8 @@ pub some_ways : (n a b : ℕ) → n < a * b → 0 < b
 some_ways n a zero low = absurd (omega arith)
 some_ways n a (suc b) low = omega arith
 
-pub choice_is_of : (schema : DatabaseSchema) (domains : List ℕ) (n : ℕ) → n < combinations schema domains → AreOf schema domains (chosen domains (digits schema domains n))
+pub choice_is_of : (schema : DatabaseSchema) (domains : List ℕ) (n : ℕ) → n < combinations schema domains
+    → AreOf schema domains (chosen domains (digits schema domains n))
 choice_is_of schema [] n low = tt
 choice_is_of schema (d ∷ domains) n low =
     let some : 0 < combinations schema domains = some_ways n (domain_size schema d) (combinations schema domains) low in (

@@ -39,7 +39,8 @@ columns_filled constants places (t ∷ terms) = λ i. (value_filled constants pl
 
 module _ (schema : DatabaseSchema) (facts : Fact → Bool) where
   -- it is true where the body is with these constants in its first places
-  true_filled : (constants places : List Constant) (a : Formula) → true_at schema facts places (filled constants a) ≡ true_at schema facts (constants ++ places) a
+  true_filled : (constants places : List Constant) (a : Formula)
+      → true_at schema facts places (filled constants a) ≡ true_at schema facts (constants ++ places) a
 
   -- and with one more place behind
   true_behind : (constants places : List Constant) (a : Formula) (c : Constant)

@@ -40,7 +40,8 @@ instances schema query = combinations schema query.domains
 abbrev pub digits : DatabaseSchema → List ℕ → ℕ → List ℕ
 digits schema [] number = []
 digits schema (d ∷ domains) number =
-    number / combinations schema domains ∷ digits schema domains (number % combinations schema domains)
+    number / combinations schema domains
+    ∷ digits schema domains (number % combinations schema domains)
 
 -- the constants with these indices, one of each domain
 abbrev pub chosen : List ℕ → List ℕ → List Constant
@@ -49,7 +50,8 @@ chosen _ _ = []
 
 -- the constants of an instance: their indices are the digits of its number
 abbrev pub constants_of_instance : DatabaseSchema → OpenQuery → ℕ → List Constant
-constants_of_instance schema query number = chosen query.domains (digits schema query.domains number)
+constants_of_instance schema query number =
+    chosen query.domains (digits schema query.domains number)
 
 -- four numbers: these, and then 0
 abbrev pub in_four : List ℕ → List ℕ
