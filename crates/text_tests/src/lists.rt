@@ -173,7 +173,7 @@ fn refusals_come_in_order(rt: HostRuntime) -> Result<(), Fail> {
 fn each_instance_can_be_asked(rt: HostRuntime) -> Result<(), Fail> {
     let alloc = rt.alloc();
     // n atoms have n - 1 connectives around the first, so 64 constructs and 65. An atom of six long
-    // names has 207 bytes, and each connective 7 more: 19 atoms have 4,059 bytes, and 20 have 4,273.
+    // names has 207 bytes, and each connective 7 more: 19 atoms have 4,059 bytes, 20 have 4,273.
     for (quantifier, atom, count, wanted) in [
         ("exists x: person", "hiv(x)", 65, 0),
         ("exists x: person", "hiv(x)", 66, 3),
