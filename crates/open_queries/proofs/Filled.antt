@@ -38,15 +38,15 @@ columns_filled constants places [] = refl
 columns_filled constants places (t ∷ terms) = λ i. (value_filled constants places t i).index ∷ columns_filled constants places terms i
 
 module _ (schema : DatabaseSchema) (facts : Fact → Bool) where
+  -- what is so in the body of a quantifier is so with one more place behind
+  true_behind : (constants places : List Constant) (a : Formula) (c : Constant)
+      → true_at schema facts (places ++ c ∷ []) (filled constants a) ≡ true_at schema facts (constants ++ (places ++ c ∷ [])) a
+      → true_at schema facts (places ++ c ∷ []) (filled constants a) ≡ true_at schema facts ((constants ++ places) ++ c ∷ []) a
+  true_behind constants places a c same = same ∙ ap (λ all. true_at schema facts all a) (sym (append_assoc constants places (c ∷ [])))
+
   -- it is true where the body is with these constants in its first places
   true_filled : (constants places : List Constant) (a : Formula)
       → true_at schema facts places (filled constants a) ≡ true_at schema facts (constants ++ places) a
-
-  -- and with one more place behind
-  true_behind : (constants places : List Constant) (a : Formula) (c : Constant)
-      → true_at schema facts (places ++ c ∷ []) (filled constants a) ≡ true_at schema facts ((constants ++ places) ++ c ∷ []) a
-  true_behind constants places a c =
-      true_filled constants (places ++ c ∷ []) a ∙ ap (λ all. true_at schema facts all a) (sym (append_assoc constants places (c ∷ [])))
   true_filled constants places verum = refl
   true_filled constants places falsum = refl
   true_filled constants places (atom r terms) = ap (λ columns. facts (fact_of r columns)) (columns_filled constants places terms)
@@ -57,8 +57,8 @@ module _ (schema : DatabaseSchema) (facts : Fact → Bool) where
   true_filled constants places (disjunction a b) = λ i. true_filled constants places a i || true_filled constants places b i
   true_filled constants places (implication a b) = λ i. not (true_filled constants places a i) || true_filled constants places b i
   true_filled constants places (biconditional a b) = λ i. same_truth (true_filled constants places a i) (true_filled constants places b i)
-  true_filled constants places (universal d a) = λ i. list_all (λ c. true_behind constants places a c i) (constants_of schema d)
-  true_filled constants places (existential d a) = λ i. list_any (λ c. true_behind constants places a c i) (constants_of schema d)
+  true_filled constants places (universal d a) = λ i. list_all (λ c. true_behind constants places a c (true_filled constants (places ++ c ∷ []) a) i) (constants_of schema d)
+  true_filled constants places (existential d a) = λ i. list_any (λ c. true_behind constants places a c (true_filled constants (places ++ c ∷ []) a) i) (constants_of schema d)
 
 pub says_of : (schema : DatabaseSchema) (constants : List Constant) (body : Formula) → SaysOf schema constants body (filled constants body)
 unfolding true_in
@@ -81,11 +81,11 @@ module _ (schema : DatabaseSchema) where
   place_filled [] scope (c ∷ constants) are i = absurd are
   place_filled (d ∷ domains) scope [] are i = absurd are
   place_filled (d ∷ domains) scope (c ∷ constants) are zero =
-      let low : nat_lt c.index (domain_size schema c.domain) ≡ true = lt-ltb _ _ (subst (λ e. c.index < domain_size schema e) (sym are.0) are.1.0) in
+      let low : nat_lt c.index (domain_size schema c.domain) ≡ true = lt-ltb _ _ (subst (λ e. c.index < domain_size schema e) (sym are.0) are.1) in
       ap (λ (b : Bool). if b then Some c.domain else None) low ∙ ap (λ e. Some e) are.0
   place_filled (d ∷ domains) scope (c ∷ constants) are (suc i) =
       ap (λ n. term_domain schema scope (or_place (slice_get constants i) n)) (less_both i (length constants))
-      ∙ place_filled domains scope constants are.1.1 i
+      ∙ place_filled domains scope constants are.2 i
 
   module _ (domains : List ℕ) (constants : List Constant) (are : AreOf schema domains constants) where
     term_filled : (scope : List ℕ) (t : Term) → term_domain schema scope (filled_term constants t) ≡ term_domain schema (domains ++ scope) t
@@ -111,36 +111,39 @@ module _ (schema : DatabaseSchema) where
         let longer : length (domains ++ scope) ≡ length domains + length scope = length-append domains scope in
         and_from (nat_lt (length scope) 8) (nat_lt d (length schema.domains)) (lt-ltb (length scope) 8 (omega arith)) parts.1
 
-    well_filled : (scope : List ℕ) (a : Formula) → is_well_formed schema (domains ++ scope) a ≡ true → is_well_formed schema scope (filled constants a) ≡ true
-
-    both_filled : (scope : List ℕ) (a b : Formula) → (is_well_formed schema (domains ++ scope) a && is_well_formed schema (domains ++ scope) b) ≡ true
+    -- what two parts are, and what a quantifier is whose body is so
+    both_filled : (scope : List ℕ) (a b : Formula)
+        → (is_well_formed schema (domains ++ scope) a ≡ true → is_well_formed schema scope (filled constants a) ≡ true)
+        → (is_well_formed schema (domains ++ scope) b ≡ true → is_well_formed schema scope (filled constants b) ≡ true)
+        → (is_well_formed schema (domains ++ scope) a && is_well_formed schema (domains ++ scope) b) ≡ true
         → (is_well_formed schema scope (filled constants a) && is_well_formed schema scope (filled constants b)) ≡ true
-    both_filled scope a b well =
+    both_filled scope a b first second well =
         let parts = and_parts (is_well_formed schema (domains ++ scope) a) (is_well_formed schema (domains ++ scope) b) well in
-        and_from (is_well_formed schema scope (filled constants a)) (is_well_formed schema scope (filled constants b)) (well_filled scope a parts.0)
-        (well_filled scope b parts.1)
+        and_from (is_well_formed schema scope (filled constants a)) (is_well_formed schema scope (filled constants b)) (first parts.0) (second parts.1)
 
     quantified_filled : (scope : List ℕ) (d : ℕ) (a : Formula)
+        → (is_well_formed schema (domains ++ (scope ++ d ∷ [])) a ≡ true → is_well_formed schema (scope ++ d ∷ []) (filled constants a) ≡ true)
         → (may_quantify schema (domains ++ scope) d && is_well_formed schema ((domains ++ scope) ++ d ∷ []) a) ≡ true
         → (may_quantify schema scope d && is_well_formed schema (scope ++ d ∷ []) (filled constants a)) ≡ true
-    quantified_filled scope d a well =
+    quantified_filled scope d a inner well =
         let parts = and_parts (may_quantify schema (domains ++ scope) d) (is_well_formed schema ((domains ++ scope) ++ d ∷ []) a) well in
         let body : is_well_formed schema (domains ++ (scope ++ d ∷ [])) a ≡ true =
         subst (λ all. is_well_formed schema all a ≡ true) (append_assoc domains scope (d ∷ [])) parts.1 in
-        and_from (may_quantify schema scope d) (is_well_formed schema (scope ++ d ∷ []) (filled constants a)) (quantify_fewer scope d parts.0)
-        (well_filled (scope ++ d ∷ []) a body)
+        and_from (may_quantify schema scope d) (is_well_formed schema (scope ++ d ∷ []) (filled constants a)) (quantify_fewer scope d parts.0) (inner body)
+
+    well_filled : (scope : List ℕ) (a : Formula) → is_well_formed schema (domains ++ scope) a ≡ true → is_well_formed schema scope (filled constants a) ≡ true
     well_filled scope verum well = refl
     well_filled scope falsum well = refl
     well_filled scope (atom r terms) well = relation_filled scope terms (columns_of schema r) ∙ well
     well_filled scope (equality s t) well = (λ i. have_one_domain (term_filled scope s i) (term_filled scope t i)) ∙ well
     well_filled scope (inequality s t) well = (λ i. have_one_domain (term_filled scope s i) (term_filled scope t i)) ∙ well
     well_filled scope (negation a) well = well_filled scope a well
-    well_filled scope (conjunction a b) well = both_filled scope a b well
-    well_filled scope (disjunction a b) well = both_filled scope a b well
-    well_filled scope (implication a b) well = both_filled scope a b well
-    well_filled scope (biconditional a b) well = both_filled scope a b well
-    well_filled scope (universal d a) well = quantified_filled scope d a well
-    well_filled scope (existential d a) well = quantified_filled scope d a well
+    well_filled scope (conjunction a b) well = both_filled scope a b (well_filled scope a) (well_filled scope b) well
+    well_filled scope (disjunction a b) well = both_filled scope a b (well_filled scope a) (well_filled scope b) well
+    well_filled scope (implication a b) well = both_filled scope a b (well_filled scope a) (well_filled scope b) well
+    well_filled scope (biconditional a b) well = both_filled scope a b (well_filled scope a) (well_filled scope b) well
+    well_filled scope (universal d a) well = quantified_filled scope d a (well_filled (scope ++ d ∷ []) a) well
+    well_filled scope (existential d a) well = quantified_filled scope d a (well_filled (scope ++ d ∷ []) a) well
 
     -- with a constant of each domain the body is a sentence
     pub filled_is_sentence : (a : Formula) → is_well_formed schema domains a ≡ true → is_well_formed schema [] (filled constants a) ≡ true

@@ -1,7 +1,7 @@
 -- Taking `exists` off a sentence.
 use Rattle.std.proofs.Common.{◌≡◌, ℕ, zero, suc, ◌+◌, ◌<◌, ◌≤◌, Bool, true, ◌&&◌, List, [], ◌∷◌, ◌++◌, length, refl, sym, ap, subst, ◌∙◌, arith}
 use Rattle.std.proofs.Common.{append_assoc, append-nil}
-use Rattle.std.specs.Prelude.{Some, None, nat_lt}
+use Rattle.std.specs.Prelude.{Option, Some, None, nat_lt}
 use Rattle.std.specs.List.{list_all}
 use Rattle.std.proofs.lemmas.Bool.{and_parts, and_from}
 use Rattle.cqe_base.specs.Schema.{DatabaseSchema}
@@ -16,6 +16,11 @@ pub one_more : (domains : List ℕ) (d : ℕ) (a : Formula) → exists_over (dom
 one_more [] d a = refl
 one_more (e ∷ domains) d a = ap (existential e) (one_more domains d a)
 
+-- the sentence of these parts
+of_parts : Option (ℕ × Formula) → Formula
+of_parts (Some parts) = existential parts.0 parts.1
+of_parts None = verum
+
 -- what parts a sentence has, it is made of
 pub made_of_parts : (a : Formula) (d : ℕ) (b : Formula) → Some (d, b) ≡ existential_parts a → a ≡ existential d b
 made_of_parts verum d b is = absurd (cc)
@@ -29,7 +34,7 @@ made_of_parts (disjunction a c) d b is = absurd (cc)
 made_of_parts (implication a c) d b is = absurd (cc)
 made_of_parts (biconditional a c) d b is = absurd (cc)
 made_of_parts (universal e a) d b is = absurd (cc)
-made_of_parts (existential e a) d b is = cc
+made_of_parts (existential e a) d b is = ap of_parts (sym is)
 
 -- where no `exists` follows, there are no more
 pub none_follows : (domains others : List ℕ) (a b : Formula) → length domains < length others → None ≡ existential_parts a

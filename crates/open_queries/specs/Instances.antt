@@ -1,6 +1,7 @@
 -- Open queries, and their instances.
 use Rattle.std.specs.Prelude.{◌≡◌, ◌≤◌, ◌<◌, ◌*◌, ◌/◌, ◌%◌, ◌-◌, ◌++◌, ℕ, Bool, true, nat_lt}
-use Rattle.std.specs.Prelude.{List, [], ◌∷◌, length, map, replicate, slice_get, Option, Some, None}
+use Rattle.std.specs.Prelude.{List, [], ◌∷◌, length, map, replicate, slice_get, Option}
+use Rattle.std.specs.Prelude.{Some, None, Ok}
 use Rattle.std.specs.List.{list_all}
 use Rattle.std.specs.FinSet as set
 use Rattle.cqe_base.specs.declared.sentence.Constant.{Constant}
@@ -12,7 +13,8 @@ use Rattle.cqe_base.specs.Formula.{Formula, verum, falsum, atom, equality, inequ
 use Rattle.cqe_base.specs.Formula.{conjunction, disjunction, implication, biconditional, universal}
 use Rattle.cqe_base.specs.Formula.{existential, is_well_formed}
 use Rattle.cqe_base.specs.Truth.{constant_at, true_at, true_in}
-use Rattle.cqe_base.specs.Canonical.{canonical}
+use Rattle.cqe_base.specs.Canonical.{canonical, enclosing_constructs}
+use Rattle.cqe_base.specs.Reading.{reading}
 
 -- an open query: a body with a free variable for each of these domains. `Place i` of the body is
 -- the variable of the i-th domain; the places behind these are those of the body's quantifiers
@@ -107,3 +109,8 @@ abbrev pub SaysOf : DatabaseSchema → List Constant → Formula → Formula →
 SaysOf schema constants body sentence =
     (world : FactSet)
     → true_in schema world sentence ≡ true_at schema (set.contains world) constants body
+
+-- a text reads as a sentence, where at most 64 constructs enclose a place of that
+abbrev pub ReadsBackAs : DatabaseSchema → Text → Formula → Type 0
+ReadsBackAs schema text sentence =
+    enclosing_constructs sentence ≤ 64 → reading schema text ≡ Ok sentence

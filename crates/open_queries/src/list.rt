@@ -1,12 +1,10 @@
 //! The instances of an open query.
 
-ghost use Rattle.std.specs.Prelude.{◌≡◌, ◌≤◌, ◌<◌, ◌^◌, Ok, IfOk, length, string_bytes};
-ghost use Rattle.cqe_base.specs.Formula.{formula_of, is_sentence_of};
-ghost use Rattle.cqe_base.specs.Canonical.{enclosing_constructs};
-ghost use Rattle.cqe_base.specs.Reading.{reading};
-ghost use Rattle.open_queries.specs.Instances.{IsOpenQueryOf, SaysOf, instances, combinations};
-ghost use Rattle.open_queries.specs.Instances.{digits, in_four, chosen, constants_of_instance};
-ghost use Rattle.open_queries.specs.Instances.{instance_of, instance_text};
+ghost use Rattle.std.specs.Prelude.{◌≡◌, ◌≤◌, ◌<◌, ◌^◌, IfOk, length, string_bytes};
+ghost use Rattle.cqe_base.specs.Formula.{formula_of};
+ghost use Rattle.open_queries.specs.Instances.{IsOpenQueryOf, SaysOf, ReadsBackAs, instances};
+ghost use Rattle.open_queries.specs.Instances.{combinations, digits, in_four, chosen};
+ghost use Rattle.open_queries.specs.Instances.{constants_of_instance, instance_of, instance_text};
 ghost use Rattle.open_queries.specs.Memory.{open_query};
 
 use crate::filling::filled;
@@ -56,9 +54,8 @@ impl OpenList {
         ensures text { IfOk result (λ text. string_bytes text
             ≡ instance_text schema.now (open_query self.now) number) }
         // It reads as the instance, where at most 64 constructs enclose a place of it.
-        ensures read_back { enclosing_constructs (instance_of schema.now (open_query self.now) number) ≤ 64
-            → IfOk result (λ text. reading schema.now (string_bytes text)
-            ≡ Ok (instance_of schema.now (open_query self.now) number)) }
+        ensures read_back { IfOk result (λ text. ReadsBackAs schema.now (string_bytes text)
+            (instance_of schema.now (open_query self.now) number)) }
         // The instance is true exactly where the body with its constants is.
         ensures truth { SaysOf schema.now
             (constants_of_instance schema.now (open_query self.now) number)
