@@ -1,3 +1,5 @@
 pub mod Filled
 pub mod Choices
 pub mod Quantifiers
+pub mod Printed
+pub mod Refusing

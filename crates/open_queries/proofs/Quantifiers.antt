@@ -23,6 +23,7 @@ of_parts None = verum
 
 -- what parts a sentence has, it is made of
 pub made_of_parts : (a : Formula) (d : ℕ) (b : Formula) → Some (d, b) ≡ existential_parts a → a ≡ existential d b
+unfolding of_parts
 made_of_parts verum d b is = absurd (cc)
 made_of_parts falsum d b is = absurd (cc)
 made_of_parts (atom r terms) d b is = absurd (cc)
@@ -74,3 +75,9 @@ module _ (schema : DatabaseSchema) where
         few_instances = fit;
         body = of.1;
       }
+
+-- what isn't so begun, opens to nothing
+pub nothing_opens : (count : ℕ) (domains : List ℕ) (body sentence : Formula) → exists_over domains body ≡ sentence → length domains < count
+    → None ≡ existential_parts body → (query : OpenQuery) → Opens count sentence query → ⊥
+nothing_opens count domains body sentence begins fewer none query opens =
+    none_follows domains query.domains body query.body (subst (λ n. length domains < n) (sym opens.quantifiers) fewer) none (begins ∙ opens.begins)

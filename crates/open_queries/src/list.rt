@@ -61,10 +61,20 @@ impl OpenList {
             (constants_of_instance schema.now (open_query self.now) number)
             (formula_of self.now.body) (instance_of schema.now (open_query self.now) number) }
     {
+        let instance = self.sentence(alloc, schema, number)?;
+        print_sentence(alloc, schema, &instance)
+    }
+
+    /// An instance, in memory of its own.
+    fn sentence(&self, alloc: Global, schema: &Schema, number: u32) -> Result<Sentence, AllocError>
+        requires of_schema { IsOpenQueryOf schema.now (open_query self.now) }
+        requires number { number < instances schema.now (open_query self.now) }
+        ensures { IfOk result (λ instance.
+            formula_of instance ≡ instance_of schema.now (open_query self.now) number) }
+    {
         let indices = self.constants(schema, number);
         let constants = chosen(alloc, self.domains.as_slice(), &indices)?;
-        let instance = filled(alloc, constants.as_slice(), &self.body)?;
-        print_sentence(alloc, schema, &instance)
+        filled(alloc, constants.as_slice(), &self.body)
     }
 }
 

@@ -1,7 +1,7 @@
 //! Opening a query: its first quantifiers are taken off.
 
-ghost use Rattle.std.specs.Prelude.{◌≡◌, ◌≤◌, ◌<◌, ◌⊎◌, ℕ, true, false, IfOk, IfErr, length};
-ghost use Rattle.std.specs.Prelude.{option_map};
+ghost use Rattle.std.specs.Prelude.{◌≡◌, ◌≤◌, ◌<◌, ℕ, true, false, IfOk, IfErr, IfSome, IfNone};
+ghost use Rattle.std.specs.Prelude.{length, option_map};
 ghost use Rattle.cqe_base.specs.Formula.{formula_of, is_sentence_of};
 ghost use Rattle.cqe_base.specs.Reading.{reading};
 ghost use Rattle.open_queries.specs.Instances.{OpenQuery, IsOpenQueryOf, instances, instance_of};
@@ -64,7 +64,9 @@ fn open_sentence(
     ensures refused { IfErr result
         (RefusesSentence schema.now count (formula_of sentence.now)) }
 {
-    let list = without_quantifiers(alloc, count, sentence)?;
+    let Some(list) = without_quantifiers(alloc, count, sentence)? else {
+        return Err(OpenQueryError::Shape(NO_QUANTIFIERS));
+    };
     if combinations(schema, list.domains.as_slice()) > GREATEST_INSTANCES {
         return Err(OpenQueryError::Shape(TOO_MANY_INSTANCES));
     }
@@ -74,28 +76,28 @@ fn open_sentence(
     Ok(list)
 }
 
-/// Takes so many `exists` off a sentence.
+/// Takes so many `exists` off a sentence, if it begins with them.
 fn without_quantifiers(
     alloc: Global,
     count: u32,
     sentence: &Sentence,
-) -> Result<OpenList, OpenQueryError>
-    ensures opens { IfOk result (λ list. Opens count (formula_of sentence.now) (open_query list)) }
-    ensures refused { IfErr result (λ why. (why ≡ OpenQueryError.Memory)
-        ⊎ ((why ≡ OpenQueryError.Shape 1)
-        × ((query : OpenQuery) → Opens count (formula_of sentence.now) query → ⊥))) }
+) -> Result<Option<OpenList>, AllocError>
+    ensures opens { IfOk result (λ found. IfSome found (λ list.
+        Opens count (formula_of sentence.now) (open_query list))) }
+    ensures none { IfOk result (λ found. IfNone found ((query : OpenQuery)
+        → Opens count (formula_of sentence.now) query → ⊥)) }
 {
     let mut domains = Vec::new(alloc);
     let mut body = sentence;
     for _ in 0..count {
         let Some((domain, inner)) = existential_parts(body) else {
-            return Err(OpenQueryError::Shape(NO_QUANTIFIERS));
+            return Ok(None);
         };
         domains.push(domain)?;
         body = inner;
     }
     let body = body.copy(alloc)?;
-    Ok(OpenList { domains, body })
+    Ok(Some(OpenList { domains, body }))
 }
 
 /// The domain and the body of a sentence that begins with `exists`.
