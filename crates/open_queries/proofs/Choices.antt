@@ -1,10 +1,11 @@
 -- The constants of an instance are of the list's domains, one of each.
 use Rattle.std.proofs.Common.{◌≡◌, ℕ, zero, suc, ◌+◌, ◌-◌, ◌*◌, ◌/◌, ◌%◌, ◌^◌, ◌<◌, ◌≤◌, List, [], ◌∷◌, ◌++◌, length, replicate, refl, sym, ap, subst, ◌∙◌}
 use Rattle.std.proofs.Common.{arith}
-use Rattle.std.proofs.Common.{get_or, take, drop, set, min, append_assoc, append-nil, length-append, Fits, w32, w64}
+use Rattle.std.proofs.Common.{get_or, take, drop, set, min, append_assoc, append-nil, length-append, Fits, w32, w64, add-one}
 use Rattle.std.proofs.Math.Nat.{pow-le-pow_right}
+use Rattle.std.proofs.Math.Seq.{take-length}
 use Rattle.std.proofs.lemmas.Nat.{div_below, mod_below, mul-le, div-add-mod'}
-use Rattle.std.proofs.lemmas.List.{at_drop_more, drop_all, take_more_set, drop-set-lt, drop-replicate, length-set}
+use Rattle.std.proofs.lemmas.List.{at_drop_more, drop_all, take_more_set, drop-set-lt, drop-replicate, length-set, length-drop}
 use Rattle.cqe_base.specs.declared.sentence.Constant.{Constant}
 use Rattle.cqe_base.specs.Schema.{DatabaseSchema, domain_size}
 use Rattle.cqe_base.specs.Truth.{constant_at}
@@ -67,10 +68,18 @@ quotient_less n (suc k) some =
     let once : n / suc k * 1 ≤ n / suc k * suc k = mul-le (n / suc k) 1 (n / suc k) (suc k) (omega arith) (omega arith) in
     omega arith
 
-drop_twice : {X : Type 0} (k : ℕ) (xs : List X) → drop (k + 1) xs ≡ drop 1 (drop k xs)
+pub rest_less : (n k m : ℕ) → 0 < k → n ≤ m → n % k ≤ m
+rest_less n k m some low =
+    let whole : n / k * k + n % k ≡ n = div-add-mod' n k in
+    omega arith
+
+drop_twice : {X : Type 0} (k : ℕ) (xs : List X) → drop (suc k) xs ≡ drop 1 (drop k xs)
 drop_twice zero xs = refl
 drop_twice (suc k) [] = refl
 drop_twice (suc k) (x ∷ xs) = drop_twice k xs
+
+drop_next : {X : Type 0} (k : ℕ) (xs : List X) → drop (k + 1) xs ≡ drop 1 (drop k xs)
+drop_next k xs = ap (λ n. drop n xs) (add-one k) ∙ drop_twice k xs
 
 -- how a number of a place and its rest lie
 pub record AtPlace (schema : DatabaseSchema) (domains : List ℕ) (place rest others : ℕ) : Type 0 where
@@ -79,9 +88,13 @@ pub record AtPlace (schema : DatabaseSchema) (domains : List ℕ) (place rest ot
   pub left : rest % others < combinations schema (drop (place + 1) domains)
 
 pub at_place : (schema : DatabaseSchema) (domains : List ℕ) (place rest others : ℕ) → place < length domains
-    → others ≡ combinations schema (drop (place + 1) domains) → rest < combinations schema (drop place domains)
+    → others ≡ combinations schema (take (length domains - (place + 1)) (drop (place + 1) domains)) → rest < combinations schema (drop place domains)
     → AtPlace schema domains place rest others
-at_place schema domains place rest others within is low =
+at_place schema domains place rest others within of low =
+    let all : length (drop (place + 1) domains) ≡ length domains - (place + 1) = length-drop (place + 1) domains in
+    let whole : take (length domains - (place + 1)) (drop (place + 1) domains) ≡ drop (place + 1) domains =
+    ap (λ n. take n (drop (place + 1) domains)) (sym all) ∙ take-length (drop (place + 1) domains) in
+    let is : others ≡ combinations schema (drop (place + 1) domains) = of ∙ ap (combinations schema) whole in
     let size = domain_size schema (get_or domains place 0) in
     let product : combinations schema (drop place domains) ≡ size * combinations schema (drop (place + 1) domains) =
     at_drop_more (λ ds. combinations schema ds) domains place 0 within in
@@ -110,5 +123,5 @@ pub zeros_behind : (made : List ℕ) (place digit : ℕ) → drop place made ≡
     → drop (place + 1) (set made place digit) ≡ replicate (4 - (place + 1)) 0
 zeros_behind made place digit zeros =
     let less : (4 - place) - 1 ≡ 4 - (place + 1) = omega arith in
-    drop-set-lt (place + 1) made place digit (omega arith) ∙ drop_twice place made ∙ ap (drop 1) zeros ∙ drop-replicate 1 (4 - place) 0
+    drop-set-lt (place + 1) made place digit (omega arith) ∙ drop_next place made ∙ ap (drop 1) zeros ∙ drop-replicate 1 (4 - place) 0
     ∙ ap (λ n. replicate n 0) less

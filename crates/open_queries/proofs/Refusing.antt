@@ -12,10 +12,10 @@ use Rattle.open_queries.specs.Opening.{IsRefused, no_sentence, other_shape, no_m
 use Rattle.open_queries.specs.Memory.{RefusesSentence, refusal_of}
 
 -- a text that isn't read
-pub refused_reading : {X : Type 0} (schema : DatabaseSchema) (count : ℕ) (text : Text) (e : ReadError)
-    → IfRefused (Err {X} e) (λ refusal. reading schema text ≡ Err refusal) → IsRefused schema count text (refusal_of e)
-refused_reading schema count text (reading_errors.Text refusal) is = no_sentence refusal is
-refused_reading schema count text reading_errors.Memory is = no_memory
+pub refused_reading : (X : Type 0) (schema : DatabaseSchema) (count : ℕ) (text : Text) (e : ReadError)
+    → IfRefused {X = X} (Err e) (λ refusal. reading schema text ≡ Err refusal) → IsRefused schema count text (refusal_of e)
+refused_reading X schema count text (reading_errors.Text refusal) is = no_sentence refusal is
+refused_reading X schema count text reading_errors.Memory is = no_memory
 
 -- a sentence that isn't opened
 refused_by : (schema : DatabaseSchema) (count : ℕ) (text : Text) (sentence : Formula) (why : OpenQueryError) → reading schema text ≡ Ok sentence

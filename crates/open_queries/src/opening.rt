@@ -90,11 +90,13 @@ fn without_quantifiers(
     let mut domains = Vec::new(alloc);
     let mut body = sentence;
     for _ in 0..count {
-        let Some((domain, inner)) = existential_parts(body) else {
-            return Ok(None);
-        };
-        domains.push(domain)?;
-        body = inner;
+        match existential_parts(body) {
+            Some((domain, inner)) => {
+                domains.push(domain)?;
+                body = inner;
+            }
+            None => return Ok(None),
+        }
     }
     let body = body.copy(alloc)?;
     Ok(Some(OpenList { domains, body }))
