@@ -3,3 +3,4 @@ pub mod Choices
 pub mod Quantifiers
 pub mod Printed
 pub mod Refusing
+pub mod Grids

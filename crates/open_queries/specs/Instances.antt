@@ -2,7 +2,7 @@
 use Rattle.std.specs.Prelude.{◌≡◌, ◌≤◌, ◌<◌, ◌*◌, ◌/◌, ◌%◌, ◌-◌, ◌++◌, ℕ, Bool, true, nat_lt}
 use Rattle.std.specs.Prelude.{List, [], ◌∷◌, length, map, replicate, slice_get, Option}
 use Rattle.std.specs.Prelude.{Some, None, Ok}
-use Rattle.std.specs.List.{list_all}
+use Rattle.std.specs.List.{list_all, list_any, range_with_len}
 use Rattle.std.specs.FinSet as set
 use Rattle.cqe_base.specs.declared.sentence.Constant.{Constant}
 use Rattle.cqe_base.specs.declared.sentence.Term.{Term}
@@ -114,3 +114,11 @@ SaysOf schema constants body sentence =
 abbrev pub ReadsBackAs : DatabaseSchema → Text → Formula → Type 0
 ReadsBackAs schema text sentence =
     enclosing_constructs sentence ≤ 64 → reading schema text ≡ Ok sentence
+
+-- a sentence that begins with `exists` is true in a world exactly where some instance of what it
+-- opens to is
+abbrev pub ExistsIsSomeInstance : Type 0
+ExistsIsSomeInstance = (schema : DatabaseSchema) (query : OpenQuery) (world : FactSet)
+    → true_in schema world (exists_over query.domains query.body)
+    ≡ list_any (λ number. true_in schema world (instance_of schema query number))
+    (range_with_len 0 (instances schema query))
