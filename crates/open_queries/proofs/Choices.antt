@@ -1,12 +1,11 @@
 -- The constants of an instance are of the list's domains, one of each.
 use Rattle.std.proofs.Common.{◌≡◌, ℕ, zero, suc, ◌+◌, ◌-◌, ◌*◌, ◌/◌, ◌%◌, ◌^◌, ◌<◌, ◌≤◌, List, [], ◌∷◌, ◌++◌, length, replicate, refl, sym, ap, subst, ◌∙◌}
 use Rattle.std.proofs.Common.{arith}
-use Rattle.std.proofs.Common.{get_or, take, drop, set, min, append_assoc, append-nil, length-append, Fits, w32, w64, add-one}
+use Rattle.std.proofs.Common.{get_or, take, drop, set, min, append_assoc, Fits, w64, add-one}
 use Rattle.std.proofs.Math.Nat.{pow-le-pow_right}
 use Rattle.std.proofs.Math.Seq.{take-length}
 use Rattle.std.proofs.lemmas.Nat.{div_below, mod_below, mul-le, div-add-mod'}
-use Rattle.std.proofs.lemmas.List.{at_drop_more, drop_all, take_more_set, drop-set-lt, drop-replicate, length-set, length-drop}
-use Rattle.cqe_base.specs.declared.sentence.Constant.{Constant}
+use Rattle.std.proofs.lemmas.List.{at_drop_more, take_more_set, drop-set-lt, drop-replicate, length-drop}
 use Rattle.cqe_base.specs.Schema.{DatabaseSchema, domain_size}
 use Rattle.cqe_base.specs.Truth.{constant_at}
 use Rattle.open_queries.specs.Instances.{combinations, digits, chosen, in_four}
@@ -123,5 +122,6 @@ pub zeros_behind : (made : List ℕ) (place digit : ℕ) → drop place made ≡
     → drop (place + 1) (set made place digit) ≡ replicate (4 - (place + 1)) 0
 zeros_behind made place digit zeros =
     let less : (4 - place) - 1 ≡ 4 - (place + 1) = omega arith in
-    drop-set-lt (place + 1) made place digit (omega arith) ∙ drop_next place made ∙ ap (drop 1) zeros ∙ drop-replicate 1 (4 - place) 0
-    ∙ ap (λ n. replicate n 0) less
+    let behind : drop (place + 1) made ≡ replicate ((4 - place) - 1) 0 =
+    drop_next place made ∙ ap (drop 1) zeros ∙ drop-replicate 1 (4 - place) 0 in
+    drop-set-lt (place + 1) made place digit (omega arith) ∙ subst (λ n. drop (place + 1) made ≡ replicate n 0) less behind

@@ -1,5 +1,5 @@
 -- A body with constants in its first places: what it says, that it is a sentence, and how deep it is.
-use Rattle.std.proofs.Common.{◌≡◌, ℕ, zero, suc, ◌+◌, ◌-◌, ◌<◌, Bool, true, false, ◌&&◌, ◌||◌, not, List, [], ◌∷◌, ◌++◌, map, length, refl, sym, ap, subst, ◌∙◌}
+use Rattle.std.proofs.Common.{◌≡◌, ℕ, zero, suc, ◌+◌, ◌-◌, ◌<◌, Bool, true, ◌&&◌, ◌||◌, not, List, [], ◌∷◌, ◌++◌, map, length, refl, sym, ap, subst, ◌∙◌}
 use Rattle.std.proofs.Common.{arith, max, append_assoc, append-nil, length-append}
 use Rattle.std.specs.Prelude.{Option, Some, None, nat_lt, slice_get, if◌then◌else◌}
 use Rattle.std.specs.List.{list_all, list_any}
@@ -57,8 +57,10 @@ module _ (schema : DatabaseSchema) (facts : Fact → Bool) where
   true_filled constants places (disjunction a b) = λ i. true_filled constants places a i || true_filled constants places b i
   true_filled constants places (implication a b) = λ i. not (true_filled constants places a i) || true_filled constants places b i
   true_filled constants places (biconditional a b) = λ i. same_truth (true_filled constants places a i) (true_filled constants places b i)
-  true_filled constants places (universal d a) = λ i. list_all (λ c. true_behind constants places a c (true_filled constants (places ++ c ∷ []) a) i) (constants_of schema d)
-  true_filled constants places (existential d a) = λ i. list_any (λ c. true_behind constants places a c (true_filled constants (places ++ c ∷ []) a) i) (constants_of schema d)
+  true_filled constants places (universal d a) =
+      λ i. list_all (λ c. true_behind constants places a c (true_filled constants (places ++ c ∷ []) a) i) (constants_of schema d)
+  true_filled constants places (existential d a) =
+      λ i. list_any (λ c. true_behind constants places a c (true_filled constants (places ++ c ∷ []) a) i) (constants_of schema d)
 
 pub says_of : (schema : DatabaseSchema) (constants : List Constant) (body : Formula) → SaysOf schema constants body (filled constants body)
 unfolding true_in

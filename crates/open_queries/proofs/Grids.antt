@@ -1,5 +1,5 @@
 -- Some choice of constants passes exactly where that of some number does.
-use Rattle.std.proofs.Common.{◌≡◌, ℕ, zero, suc, ◌+◌, ◌*◌, ◌/◌, ◌%◌, ◌<◌, ◌≤◌, Bool, true, false, ◌||◌, List, [], ◌∷◌, ◌++◌, map, refl, sym, ap, ◌∙◌}
+use Rattle.std.proofs.Common.{◌≡◌, ℕ, zero, suc, ◌+◌, ◌*◌, ◌/◌, ◌%◌, ◌≤◌, Bool, true, false, ◌||◌, List, [], ◌∷◌, ◌++◌, map, refl, sym, ap, ◌∙◌}
 use Rattle.std.proofs.Common.{arith, append_assoc, append-nil}
 use Rattle.std.specs.List.{list_any, range_with_len}
 use Rattle.std.specs.FinSet as set
@@ -10,7 +10,7 @@ use Rattle.cqe_base.specs.declared.sentence.Constant.{Constant}
 use Rattle.cqe_base.specs.Schema.{DatabaseSchema, domain_size}
 use Rattle.cqe_base.specs.Formula.{Formula}
 use Rattle.cqe_base.specs.Truth.{true_at, true_in, constant_at, constants_of}
-use Rattle.open_queries.specs.Instances.{OpenQuery, ExistsIsSomeInstance, exists_over, combinations, digits, chosen, constants_of_instance, instances}
+use Rattle.open_queries.specs.Instances.{ExistsIsSomeInstance, exists_over, combinations, digits, chosen, constants_of_instance, instances}
 use Rattle.open_queries.proofs.Filled.{says_of}
 
 -- ---- numbers by rows
@@ -39,7 +39,8 @@ module _ (f : ℕ → ℕ → Bool) (k : ℕ) where
   By n = f (n / k) (n % k)
 
   -- the numbers of one row, from a column on
-  one_row : (row column count : ℕ) → column + count ≤ k → list_any By (range_with_len (row * k + column) count) ≡ list_any (f row) (range_with_len column count)
+  one_row : (row column count : ℕ) → column + count ≤ k
+      → list_any By (range_with_len (row * k + column) count) ≡ list_any (f row) (range_with_len column count)
   one_row row column zero within = refl
   one_row row column (suc count) within =
       let here : By (row * k + column) ≡ f row column =
@@ -48,7 +49,8 @@ module _ (f : ℕ → ℕ → Bool) (k : ℕ) where
       (λ i. here i || list_any By (range_with_len (next i) count)) ∙ ap (λ b. f row column || b) (one_row row (column + 1) count (omega arith))
 
   -- all numbers, row by row
-  all_rows : (row count : ℕ) → list_any By (range_with_len (row * k) (count * k)) ≡ list_any (λ r. list_any (f r) (range_with_len 0 k)) (range_with_len row count)
+  all_rows : (row count : ℕ)
+      → list_any By (range_with_len (row * k) (count * k)) ≡ list_any (λ r. list_any (f r) (range_with_len 0 k)) (range_with_len row count)
   all_rows row zero =
       let none : 0 * k ≡ 0 = omega arith in
       ap (λ n. list_any By (range_with_len (row * k) n)) none

@@ -1,5 +1,6 @@
 -- An instance is a sentence, and its text reads back as it.
-use Rattle.std.proofs.Common.{◌≡◌, ℕ, ◌+◌, ◌-◌, ◌^◌, ◌<◌, ◌≤◌, min, Bool, true, false, length, Result, Ok, Err, IfOk, String, string_bytes, string_len, refl, sym, ap, ◌∙◌}
+use Rattle.std.proofs.Common.{◌≡◌, ℕ, ◌+◌, ◌-◌, ◌^◌, ◌<◌, ◌≤◌, min, Bool, true, false}
+use Rattle.std.proofs.Common.{length, Result, Ok, Err, IfOk, String, string_bytes, string_len, refl, sym, ap}
 use Rattle.std.proofs.Common.{subst, ltb, arith}
 use Rattle.std.proofs.lemmas.Bool.{ltb-true, ltb-false}
 use Rattle.std.specs.declared.alloc.Global.{Global}
@@ -32,7 +33,8 @@ bytes_counted text = text.bytes.ok.0
 
 module _ (schema : DatabaseSchema) (query : OpenQuery) (number : ℕ) where
   -- one of a body that is too deep can't
-  pub is_too_deep : (depth : ℕ) → depth ≡ min (enclosing_constructs query.body) (2 ^ 32 - 1) → 64 < depth → CanBeAsked schema (instance_of schema query number) → ⊥
+  pub is_too_deep : (depth : ℕ) → depth ≡ min (enclosing_constructs query.body) (2 ^ 32 - 1) → 64 < depth
+      → CanBeAsked schema (instance_of schema query number) → ⊥
   is_too_deep depth is deep asked =
       let same = filled_constructs (constants_of_instance schema query number) query.body in
       let shallow : enclosing_constructs (instance_of schema query number) ≤ 64 = asked.shallow in

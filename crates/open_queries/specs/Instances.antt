@@ -1,5 +1,5 @@
 -- Open queries, and their instances.
-use Rattle.std.specs.Prelude.{◌≡◌, ◌≤◌, ◌<◌, ◌*◌, ◌/◌, ◌%◌, ◌-◌, ◌++◌, ℕ, Bool, true, nat_lt}
+use Rattle.std.specs.Prelude.{◌≡◌, ◌≤◌, ◌*◌, ◌/◌, ◌%◌, ◌-◌, ◌++◌, ℕ, true, nat_lt}
 use Rattle.std.specs.Prelude.{List, [], ◌∷◌, length, map, replicate, slice_get, Option}
 use Rattle.std.specs.Prelude.{Some, None, Ok}
 use Rattle.std.specs.List.{list_all, list_any, range_with_len}

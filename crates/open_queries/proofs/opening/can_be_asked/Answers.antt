@@ -1,4 +1,4 @@
-use Rattle.std.proofs.Common.{◌≡◌, ◌<◌, ◌∙◌, subst, arith}
+use Rattle.std.proofs.Common.{◌<◌, subst}
 use Rattle.open_queries.specs.Memory.{open_query}
 use Rattle.open_queries.proofs.Printed.{is_too_deep, is_too_long, is_short, one_more_asked}
 use Rattle.open_queries.proofs.opening.can_be_asked.Goals.{then-is_deep-via-then-is_deep, then-is_deep-via-else-is_deep+then-len-gt-GREATEST_TEXT}
@@ -13,8 +13,8 @@ returns-then-is_deep-clause-one c =
         | then-is_deep-via-then-is_deep w ↦
             is_too_deep c.args.schema.now (open_query c.args.list.now) c.loop-number.number _ c.enclosing_constructs-is_deep.ensures w.if-is_deep.true
         | then-is_deep-via-else-is_deep+then-len-gt-GREATEST_TEXT w ↦
-            is_too_long c.args.schema.now (open_query c.args.list.now) c.loop-number.number c.in_ok-text.text c.in_ok-text.ensures.text w.len.result w.len.ensures
-            w.if-len-gt-GREATEST_TEXT.true
+            is_too_long c.args.schema.now (open_query c.args.list.now) c.loop-number.number c.in_ok-text.text c.in_ok-text.ensures.text w.len.result
+            w.len.ensures w.if-len-gt-GREATEST_TEXT.true
       ],
     )
 

@@ -1,4 +1,4 @@
-use Rattle.std.proofs.Common.{◌≡◌, ◌<◌, ◌≤◌, ◌∙◌, ap, arith}
+use Rattle.std.proofs.Common.{◌≡◌, ◌∙◌, ap, arith}
 use Rattle.cqe_base.specs.Formula.{formula_of}
 use Rattle.open_queries.specs.Instances.{combinations, instances}
 use Rattle.open_queries.specs.Opening.{no_quantifiers, too_many, not_asked}

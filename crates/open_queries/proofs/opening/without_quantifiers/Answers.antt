@@ -1,5 +1,5 @@
-use Rattle.std.proofs.Common.{◌≡◌, ◌<◌, ◌∷◌, [], sym, ◌∙◌, ap, arith, length, length-append}
-use Rattle.cqe_base.specs.Formula.{formula_of, existential}
+use Rattle.std.proofs.Common.{◌∷◌, [], sym, ◌∙◌, ap, arith, length, length-append}
+use Rattle.cqe_base.specs.Formula.{formula_of}
 use Rattle.open_queries.specs.Instances.{exists_over}
 use Rattle.open_queries.proofs.Quantifiers.{one_more, made_of_parts, nothing_opens}
 use Rattle.open_queries.proofs.opening.without_quantifiers.Goals as goal

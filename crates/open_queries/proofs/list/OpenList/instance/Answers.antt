@@ -1,6 +1,5 @@
 use Rattle.std.proofs.Common.{◌≡◌, true, sym, subst}
 use Rattle.cqe_base.specs.Formula.{formula_of, is_sentence_of}
-use Rattle.open_queries.specs.Instances.{constants_of_instance, instance_of}
 use Rattle.open_queries.specs.Memory.{open_query}
 use Rattle.open_queries.proofs.Filled.{says_of}
 use Rattle.open_queries.proofs.Printed.{instance_is_sentence, reads_back}
