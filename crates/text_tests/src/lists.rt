@@ -1,4 +1,8 @@
 //! The instances of open queries, and what is refused. Each text was worked out by hand.
+ghost use Rattle.std.specs.Prelude.{IfOk};
+ghost use Rattle.open_queries.specs.Instances.{IsOpenQueryOf};
+ghost use Rattle.open_queries.specs.Memory.{open_query};
+
 use cqe_base::schema::Schema;
 use cqe_base::text::TextError;
 use open_queries::{OpenList, OpenQueryError, opened};
@@ -55,7 +59,9 @@ fn schema(rt: &impl Abort, alloc: Global) -> Schema {
 }
 
 /// The instances of a text, one a line, each behind the places of its constants.
-fn said(alloc: Global, schema: &Schema, list: &OpenList) -> Result<String, Fail> {
+fn said(alloc: Global, schema: &Schema, list: &OpenList) -> Result<String, Fail>
+    requires { IsOpenQueryOf schema.now (open_query list.now) }
+{
     let mut said = String::new(alloc);
     for number in 0..list.instances(schema) {
         let [a, b, c, d] = list.constants(schema, number);
@@ -66,10 +72,26 @@ fn said(alloc: Global, schema: &Schema, list: &OpenList) -> Result<String, Fail>
     Ok(said)
 }
 
-/// The same of a text, of which so many quantifiers are opened.
+/// Opens so many quantifiers of a text.
+fn open_text(
+    rt: &impl Abort,
+    alloc: Global,
+    schema: &Schema,
+    count: u32,
+    text: &str,
+) -> Result<OpenList, OpenQueryError>
+    ensures { IfOk result (λ list. IsOpenQueryOf schema.now (open_query list)) }
+{
+    assert!(rt; 1 <= count);
+    assert!(rt; count <= 4);
+    assert!(rt; text.len() <= 4096);
+    opened(alloc, schema, count, text)
+}
+
+/// The instances of a text, of which so many quantifiers are opened.
 fn listed(rt: &impl Abort, alloc: Global, count: u32, text: &str) -> Result<String, Fail> {
     let schema = schema(rt, alloc);
-    match opened(alloc, &schema, count, text) {
+    match open_text(rt, alloc, &schema, count, text) {
         Ok(list) => said(alloc, &schema, &list),
         Err(_) => panic!(rt; "refused"),
     }
@@ -77,7 +99,7 @@ fn listed(rt: &impl Abort, alloc: Global, count: u32, text: &str) -> Result<Stri
 
 /// The shape for which a text is refused, or 0 where it isn't.
 fn shape(rt: &impl Abort, alloc: Global, count: u32, text: &str) -> u8 {
-    match opened(alloc, &schema(rt, alloc), count, text) {
+    match open_text(rt, alloc, &schema(rt, alloc), count, text) {
         Ok(_) => 0,
         Err(OpenQueryError::Shape(shape)) => shape,
         Err(_) => panic!(rt; "another refusal"),
@@ -142,7 +164,13 @@ fn quantifiers_that_stay_are_numbered_anew(rt: HostRuntime) -> Result<(), Fail> 
 fn refusals_come_in_order(rt: HostRuntime) -> Result<(), Fail> {
     let alloc = rt.alloc();
     // At the end of the text, also where the shape is wrong.
-    match opened(alloc, &schema(&rt, alloc), 3, "exists x: person . drug(") {
+    match open_text(
+        &rt,
+        alloc,
+        &schema(&rt, alloc),
+        3,
+        "exists x: person . drug(",
+    ) {
         Err(OpenQueryError::Text(why)) => {
             assert_eq!(rt; why, TextError { kind: 2, place: 24 });
         }
