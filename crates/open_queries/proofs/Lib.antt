@@ -1,0 +1,6 @@
+pub mod Filled
+pub mod Choices
+pub mod Quantifiers
+pub mod Printed
+pub mod Refusing
+pub mod Grids
