@@ -353,9 +353,11 @@ fn ask_one_desk<'w, R: Threads + Wait + Sync>(
     alloc: Global,
     counter: Counter<'w, MemoryDisk>,
     pass: DeskPass<MemoryDisk>,
+    questions: ((&str, Mark), (&str, Mark)),
 ) -> Option<Beside>
     requires pass { IsPassOf pass counter }
     requires all { (shares_of pass ≡ 65) × (turns pass ≡ 65 * 2 ^ 57) }
+    requires short { (length questions.0.0.now ≤ 4096) × (length questions.1.0.now ≤ 4096) }
 {
     let mut first = pass;
     let second = counter.split(&mut first).ok()?;
@@ -364,24 +366,8 @@ fn ask_one_desk<'w, R: Threads + Wait + Sync>(
         answered: AtomicU64::new(0),
         given_up: AtomicU64::new(0),
     };
-    let one = session_at(
-        alloc,
-        &counter,
-        first,
-        64,
-        ("drug(ann)", Mark::No),
-        1,
-        &hold,
-    );
-    let two = session_at(
-        alloc,
-        &counter,
-        second,
-        1,
-        ("not hiv(bob)", Mark::Yes),
-        1,
-        &hold,
-    );
+    let one = session_at(alloc, &counter, first, 64, questions.0, 1, &hold);
+    let two = session_at(alloc, &counter, second, 1, questions.1, 1, &hold);
     Some(ask_while_held(rt, one, two))
 }
 
@@ -399,7 +385,8 @@ fn sessions_of_one_user_do_not_wait_for_each_others_examinations(
         saw_held: true,
         gave_up: false,
     };
-    assert_eq!(rt; ask_one_desk(&rt, alloc, counter, pass), Some(beside));
+    let questions = (("drug(ann)", Mark::No), ("not hiv(bob)", Mark::Yes));
+    assert_eq!(rt; ask_one_desk(&rt, alloc, counter, pass, questions), Some(beside));
     Ok(())
 }
 
