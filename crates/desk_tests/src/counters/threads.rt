@@ -386,7 +386,10 @@ fn sessions_of_one_user_do_not_wait_for_each_others_examinations(
         gave_up: false,
     };
     let questions = (("drug(ann)", Mark::No), ("not hiv(bob)", Mark::Yes));
-    assert_eq!(rt; ask_one_desk(&rt, alloc, counter, pass, questions), Some(beside));
+    assert_eq!(rt;
+        ask_one_desk(&rt, alloc, counter, pass, questions),
+        Some(beside)
+    );
     Ok(())
 }
 
