@@ -19,8 +19,10 @@ use Rattle.desk_crew.specs.Openings.{OpensWith}
 use Rattle.desk_crew.specs.Shelved.{Journals}
 use Rattle.batch_engine.specs.Batch.{ServesUser, AppendsAll, unopened, with_opening}
 use Rattle.batch_engine.specs.BatchLines.{BatchItem}
+use Rattle.std.proofs.lemmas.List.Folds.{list_any-append}
+use Rattle.std.proofs.lemmas.Bool.{or_left}
 use Rattle.batch_engine.specs.Lives.{is_opened}
-use Rattle.batch_engine.specs.Joining.{call_of, IsNamed, IsAnsweredTo, BatchesAreCalls, BatchesAreSpans, CutBatchesAreCalls, BatchesJoin}
+use Rattle.batch_engine.specs.Joining.{call_of, IsNamed, IsAnsweredTo, BatchesAreCalls, BatchesAreSpans, CutBatchesAreCalls, LaterCutsAreCalls, BatchesJoin}
 
 -- what holds a state holds its entries and the one in flight at any standing
 held_anyhow : (schema : DatabaseSchema) (world : FactSet) (user : UserProfile) (header c : List ℕ) (state : UserState)
@@ -119,6 +121,18 @@ cut_batches_are_calls journals schema world header users script user serves held
       rest = amid.further;
       split = amid.split;
       over = record { opens = opens_at schema world header journals users script user serves held; replied = refl; holds = amid.holds };
+    }
+
+pub later_cuts_are_calls : (journals : Journals) → LaterCutsAreCalls journals
+later_cuts_are_calls journals schema world header users script user serves front rest split ends held left at =
+    let behind = (serves.closings front rest split ends held).behind left at in
+    let some : list_any is_opened (own_events user.name script) ≡ true =
+    ap (list_any is_opened) split ∙ list_any-append is_opened front rest ∙ or_left (list_any is_opened front) (list_any is_opened rest) held in
+    record {
+      more = behind.more;
+      further = behind.further;
+      split = behind.split;
+      over = record { opens = opens_at schema world header journals users script user serves some; replied = refl; holds = behind.holds };
     }
 
 -- a batch that was answered, as a call over what the journal of the user's name read
