@@ -1,5 +1,6 @@
 -- What the lines of a batch mean for its users, once their disks are back.
 use Rattle.std.proofs.Common.{◌≡◌, inl, inr, ℕ, ◌≤◌, Bool, true, false, List, [], ◌∷◌, ◌++◌, take, map, refl, sym, ap, subst, ◌∙◌, append_assoc}
+use Rattle.std.proofs.Common.{append-nil}
 use Rattle.std.specs.Prelude.{Option, Some, None, find, bytes_eq, All, if◌then◌else◌, option_map, IfSome, ◌⊎◌, ◌&&◌}
 use Rattle.std.specs.List.{list_any, AllByRecursion}
 use Rattle.std.proofs.lemmas.List.Elements.{All-head, All-tail}
@@ -20,13 +21,12 @@ use Rattle.user_desk.specs.Entries.{IsNoLonger}
 use Rattle.log_journal.specs.Names.{journal_name}
 use Rattle.batch_engine.specs.BatchLines.{BatchItem}
 use Rattle.desk_crew.specs.Openings.{OpensNone, OpensWith}
-use Rattle.batch_engine.specs.Lives.{RoseBy, is_opened, is_ask, failures}
-use Rattle.batch_engine.specs.Batch.{ServesUser, AnswersBatch, AreRefusals, AppendsAll, AppendsSome, line_bytes, unopened, with_opening}
+use Rattle.batch_engine.specs.Lives.{RoseBy, is_opened, is_ask, failures, IsStretchEnd}
+use Rattle.batch_engine.specs.Batch.{StandsAmid, StandsBehind, ServesUser, AnswersBatch, AreRefusals, AppendsAll, AppendsSome, line_bytes, unopened, with_opening}
 use Rattle.desk_crew.specs.Crew.{named_user, seat_standing, seat_state, IsLeft, IsClosed}
-use Rattle.cqe_base.specs.Run.{opening}
-use Rattle.user_desk.specs.Lives.{HoldsAmid}
-use Rattle.desk_crew.specs.Shelved.{since_on, journals_by, StandsAllAlong, IsBack, AreBack}
-use Rattle.batch_engine.proofs.Along.{Clock, IsAlong, along_on, amid_all}
+use Rattle.cqe_base.specs.Run.{Event}
+use Rattle.desk_crew.specs.Shelved.{Journals, since_on, journals_by, StandsAllAlong, ClosedBehind, IsBack, AreBack}
+use Rattle.batch_engine.proofs.Along.{Clock, IsAlongClosed, IsClosedBehind, BeginsLife, at_end, along_still}
 use Rattle.desk_crew.proofs.Lasting.{if_some_on}
 use Rattle.desk_crew.specs.Seats.{DeskSeat}
 use Rattle.batch_engine.proofs.Courses.{Course, course_on, Fits, Stays, stays_on, IsRunning}
@@ -127,8 +127,9 @@ module _ (schema : DatabaseSchema) (world : FactSet) (users : List NamedUser) (h
         (count' (journal_name directory user.name)) seat.refusal
     began : ℕ
     began_is : IfSome (option_map Disk.moment (disk (journal_name directory user.name))) (λ begun. begun ≡ began)
-    along : IsAlong schema world user.profile header (images_of Disk.image directory disk user.name) user.opened began (own_events user.name script)
-        (Disk.moment now) (Disk.image_since now)
+    opens_at : ℕ
+    all_along : IsAlongClosed schema world user.profile header (images_of Disk.image directory disk user.name) user.opened began opens_at
+        (own_events user.name script) (Disk.moment now) (Disk.image_since now)
 
   back : (user : NamedUser) (script : List ScriptEvent) (seat : DeskSeat D g h) → Seated user script seat → IsBack S Disk disk' count' seat
       → Back user script seat
@@ -172,38 +173,80 @@ module _ (schema : DatabaseSchema) (world : FactSet) (users : List NamedUser) (h
             (subst (λ n. Disk.faults left.closed ≤ n) (sym counted) left.left.later) running.course;
         began = seated.began;
         began_is = seated.began_is;
-        along = along_on schema world user.profile header (images_of Disk.image directory disk user.name) user.opened seated.began (own_events user.name script)
+        opens_at = seated.opens_at;
+        all_along = along_still schema world user.profile header (images_of Disk.image directory disk user.name) user.opened seated.began seated.opens_at
+            (own_events user.name script)
             (Disk.moment left.closed) (Disk.moment is.now) (Disk.image_since left.closed) (Disk.image_since is.now) left.left.time
-            (λ some c at. amid_all schema world user.profile header (opening schema world user.profile user.opened) (own_events user.name script) c
-            (running.stays.stands some c (left.left.rests c at)))
+            (λ some c at. running.stays.stands some c (left.left.rests c at))
             (λ none c at. (running.stays.kept (ap (λ b. b && list_any is_ask (own_events user.name script)) none)).1 c (left.left.rests c at))
             (along_at schema world header directory T Disk t read_is_image
             (clock_of Disk only_now directory disk) (bytes_of Disk.reads directory disk) (count_of directory count)
             (images_of Disk.image directory disk) user (own_events user.name script) seat left.closed seated closed);
       }
 
-  -- what each crash could leave at each moment
-  all_along : (user : NamedUser) (script : List ScriptEvent) (seat : DeskSeat D g h) → Back user script seat
-      → StandsAllAlong (journals_by Disk.reads Disk.image Disk.moment Disk.image_since directory disk disk' count count') user.name
-      (list_any is_opened (own_events user.name script))
-      (HoldsAmid schema world user.profile header (opening schema world user.profile user.opened) (own_events user.name script))
-  all_along user script seat at =
-      let along = at.along in
+  abbrev these_journals : Journals
+  these_journals = journals_by Disk.reads Disk.image Disk.moment Disk.image_since directory disk disk' count count'
+
+  -- what each crash could leave at each moment, and since the end of each stretch
+  record Moments (user : NamedUser) (events : List Event) : Type 0 where
+    moments : StandsAllAlong these_journals user.name (list_any is_opened events) (StandsAmid schema world header user events)
+    closings : (front rest : List Event) → events ≡ front ++ rest → IsStretchEnd rest → list_any is_opened front ≡ true
+        → ClosedBehind these_journals user.name moments.opening (StandsAmid schema world header user front) (StandsBehind schema world header user front rest)
+
+  -- a stretch that ended, by the disk that is back
+  closed_at : (user : NamedUser) (script : List ScriptEvent) (seat : DeskSeat D g h) (at : Back user script seat) (front rest : List Event)
+      → IsClosedBehind schema world user.profile header (images_of Disk.image directory disk user.name) user.opened at.began at.opens_at front rest
+      (Disk.moment at.now) (Disk.image_since at.now)
+      → ClosedBehind these_journals user.name at.opens_at (StandsAmid schema world header user front) (StandsBehind schema world header user front rest)
+  closed_at user script seat at front rest closed = record {
+    closing = closed.closed_at;
+    later = closed.opened_first;
+    within = subst (λ o. IfSome (option_map Disk.moment o) (λ ended. closed.closed_at ≤ ended)) (sym at.held) closed.passed;
+    before = λ c here.
+        subst (λ o. StandsAmid schema world header user front c ⊎ since_on Disk.image_since o closed.closed_at c) (sym at.held)
+        (closed.up_to c (subst (λ o. since_on Disk.image_since o at.opens_at c) at.held here));
+    behind = λ c here. closed.behind c (subst (λ o. since_on Disk.image_since o closed.closed_at c) at.held here);
+  }
+
+  -- it ended with the events, or before an opening
+  closed_by : (user : NamedUser) (script : List ScriptEvent) (seat : DeskSeat D g h) (at : Back user script seat) (front rest : List Event)
+      → own_events user.name script ≡ front ++ rest → IsStretchEnd rest → list_any is_opened front ≡ true
+      → IsClosedBehind schema world user.profile header (images_of Disk.image directory disk user.name) user.opened at.began at.opens_at front rest
+      (Disk.moment at.now) (Disk.image_since at.now)
+  closed_by user script seat at front rest split ends some = by (at_end rest ends)
+    where
+      by : (rest ≡ []) ⊎ BeginsLife rest
+          → IsClosedBehind schema world user.profile header (images_of Disk.image directory disk user.name) user.opened at.began at.opens_at front rest
+          (Disk.moment at.now) (Disk.image_since at.now)
+      by (inr begins) = at.all_along.along.closed front rest split begins some
+      by (inl none) =
+          let same : own_events user.name script ≡ front = split ∙ ap (λ r. front ++ r) none ∙ append-nil front in
+          subst (λ r. IsClosedBehind schema world user.profile header (images_of Disk.image directory disk user.name) user.opened at.began at.opens_at front r
+          (Disk.moment at.now) (Disk.image_since at.now)) (sym none)
+          (subst (λ f. IsClosedBehind schema world user.profile header (images_of Disk.image directory disk user.name) user.opened at.began at.opens_at f []
+          (Disk.moment at.now) (Disk.image_since at.now)) same (at.all_along.last (ap (list_any is_opened) same ∙ some)))
+
+  all_moments : (user : NamedUser) (script : List ScriptEvent) (seat : DeskSeat D g h) → Back user script seat → Moments user (own_events user.name script)
+  all_moments user script seat at =
+      let along = at.all_along.along in
       record {
-        opening = along.opens_at;
-        before = if_some_on (option_map Disk.moment (disk (journal_name directory user.name))) (λ begun. begun ≡ at.began)
-            (λ begun. (begun ≤ along.opens_at) × ((c : List ℕ) → since_on Disk.image_since (disk' (journal_name directory user.name)) begun c
-            → image_on Disk.image (disk (journal_name directory user.name)) c
-            ⊎ since_on Disk.image_since (disk' (journal_name directory user.name)) along.opens_at c))
-            (λ begun same. subst (λ b. (b ≤ along.opens_at) × ((c : List ℕ) → since_on Disk.image_since (disk' (journal_name directory user.name)) b c
-            → image_on Disk.image (disk (journal_name directory user.name)) c
-            ⊎ since_on Disk.image_since (disk' (journal_name directory user.name)) along.opens_at c)) (sym same) (
-              along.begun,
-              subst (λ o. (c : List ℕ) → since_on Disk.image_since o at.began c → image_on Disk.image (disk (journal_name directory user.name)) c
-                  ⊎ since_on Disk.image_since o along.opens_at c) (sym at.held) along.before,
-            )) at.began_is;
-        behind = λ some c here. along.behind some c (subst (λ o. since_on Disk.image_since o along.opens_at c) at.held here);
-        never = λ none c here. along.never none c (subst (λ o. since_on Disk.image_since o along.opens_at c) at.held here);
+        moments = record {
+          opening = at.opens_at;
+          before = if_some_on (option_map Disk.moment (disk (journal_name directory user.name))) (λ begun. begun ≡ at.began)
+              (λ begun. (begun ≤ at.opens_at) × ((c : List ℕ) → since_on Disk.image_since (disk' (journal_name directory user.name)) begun c
+              → image_on Disk.image (disk (journal_name directory user.name)) c
+              ⊎ since_on Disk.image_since (disk' (journal_name directory user.name)) at.opens_at c))
+              (λ begun same. subst (λ b. (b ≤ at.opens_at) × ((c : List ℕ) → since_on Disk.image_since (disk' (journal_name directory user.name)) b c
+              → image_on Disk.image (disk (journal_name directory user.name)) c
+              ⊎ since_on Disk.image_since (disk' (journal_name directory user.name)) at.opens_at c)) (sym same) (
+                along.begun,
+                subst (λ o. (c : List ℕ) → since_on Disk.image_since o at.began c → image_on Disk.image (disk (journal_name directory user.name)) c
+                    ⊎ since_on Disk.image_since o at.opens_at c) (sym at.held) along.before,
+              )) at.began_is;
+          behind = λ some c here. along.behind some c (subst (λ o. since_on Disk.image_since o at.opens_at c) at.held here);
+          never = λ none c here. along.never none c (subst (λ o. since_on Disk.image_since o at.opens_at c) at.held here);
+        };
+        closings = λ front rest split ends some. closed_at user script seat at front rest (closed_by user script seat at front rest split ends some);
       }
 
   module _ (empty : EmptyHistoryIsLegal) (runs : RunsStayLegal) (hide : ScriptsHide) (alone : TranscriptIsPrivate) (valid : is_valid_schema schema ≡ true) where
@@ -213,6 +256,7 @@ module _ (schema : DatabaseSchema) (world : FactSet) (users : List NamedUser) (h
         → ServesUser schema world header (journals_by Disk.reads Disk.image Disk.moment Disk.image_since directory disk disk' count count') users script user
     serves user script seat found limits opening_is seated is =
         let at : Back user script seat = back user script seat seated is in
+        let all : Moments user (own_events user.name script) = all_moments user script seat at in
         let legal = legal_opening schema world header (bytes_of Disk.reads directory disk user.name) user empty opening_is in
         record {
           opening_is = opening_is;
@@ -233,7 +277,8 @@ module _ (schema : DatabaseSchema) (world : FactSet) (users : List NamedUser) (h
                 λ c here. (at.stays.kept idle).1 c (subst
                     (λ o. image_on Disk.image o c) at.held here),
               );
-          moments = all_along user script seat at;
+          moments = all.moments;
+          closings = all.closings;
         }
       where
         refused_at : (at : Back user script seat) → OpensNone schema world user.profile header (bytes_of Disk.reads directory disk user.name)
