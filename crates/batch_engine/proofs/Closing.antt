@@ -95,6 +95,12 @@ legal_opening : (schema : DatabaseSchema) (world : FactSet) (header c : List ℕ
 legal_opening schema world header c user empty (inl opens) = opens.legal
 legal_opening schema world header c user empty (inr (none, is)) = subst (IsLegal schema world user.profile) (sym is) (empty schema world user.profile)
 
+-- what each crash could leave of a user's journal at each moment, and since the end of each stretch
+record Moments (schema : DatabaseSchema) (world : FactSet) (header : List ℕ) (journals : Journals) (user : NamedUser) (events : List Event) : Type 0 where
+  moments : StandsAllAlong journals user.name (list_any is_opened events) (StandsAmid schema world header user events)
+  closings : (front rest : List Event) → events ≡ front ++ rest → IsStretchEnd rest → list_any is_opened front ≡ true
+      → ClosedBehind journals user.name moments.opening (StandsAmid schema world header user front) (StandsBehind schema world header user front rest)
+
 module _ (schema : DatabaseSchema) (world : FactSet) (users : List NamedUser) (header directory : List ℕ) {D : Type 0} {g h : _} (T S : Type 0) (s : S)
     (Disk : DiskGhosts D) (t : T)
     (read_is_image : (d : D) → T → Disk.image d (Disk.reads d)) (only_now : (d : D) (c : List ℕ) → Disk.image_since d (Disk.moment d) c → Disk.image d c)
@@ -184,20 +190,12 @@ module _ (schema : DatabaseSchema) (world : FactSet) (users : List NamedUser) (h
             (images_of Disk.image directory disk) user (own_events user.name script) seat left.closed seated closed);
       }
 
-  abbrev these_journals : Journals
-  these_journals = journals_by Disk.reads Disk.image Disk.moment Disk.image_since directory disk disk' count count'
-
-  -- what each crash could leave at each moment, and since the end of each stretch
-  record Moments (user : NamedUser) (events : List Event) : Type 0 where
-    moments : StandsAllAlong these_journals user.name (list_any is_opened events) (StandsAmid schema world header user events)
-    closings : (front rest : List Event) → events ≡ front ++ rest → IsStretchEnd rest → list_any is_opened front ≡ true
-        → ClosedBehind these_journals user.name moments.opening (StandsAmid schema world header user front) (StandsBehind schema world header user front rest)
-
   -- a stretch that ended, by the disk that is back
   closed_at : (user : NamedUser) (script : List ScriptEvent) (seat : DeskSeat D g h) (at : Back user script seat) (front rest : List Event)
       → IsClosedBehind schema world user.profile header (images_of Disk.image directory disk user.name) user.opened at.began at.opens_at front rest
       (Disk.moment at.now) (Disk.image_since at.now)
-      → ClosedBehind these_journals user.name at.opens_at (StandsAmid schema world header user front) (StandsBehind schema world header user front rest)
+      → ClosedBehind (journals_by Disk.reads Disk.image Disk.moment Disk.image_since directory disk disk' count count') user.name at.opens_at
+      (StandsAmid schema world header user front) (StandsBehind schema world header user front rest)
   closed_at user script seat at front rest closed = record {
     closing = closed.closed_at;
     later = closed.opened_first;
@@ -226,7 +224,9 @@ module _ (schema : DatabaseSchema) (world : FactSet) (users : List NamedUser) (h
           (subst (λ f. IsClosedBehind schema world user.profile header (images_of Disk.image directory disk user.name) user.opened at.began at.opens_at f []
           (Disk.moment at.now) (Disk.image_since at.now)) same (at.all_along.last (ap (list_any is_opened) same ∙ some)))
 
-  all_moments : (user : NamedUser) (script : List ScriptEvent) (seat : DeskSeat D g h) → Back user script seat → Moments user (own_events user.name script)
+  all_moments : (user : NamedUser) (script : List ScriptEvent) (seat : DeskSeat D g h) → Back user script seat
+      → Moments schema world header (journals_by Disk.reads Disk.image Disk.moment Disk.image_since directory disk disk' count count') user
+      (own_events user.name script)
   all_moments user script seat at =
       let along = at.all_along.along in
       record {
@@ -256,7 +256,7 @@ module _ (schema : DatabaseSchema) (world : FactSet) (users : List NamedUser) (h
         → ServesUser schema world header (journals_by Disk.reads Disk.image Disk.moment Disk.image_since directory disk disk' count count') users script user
     serves user script seat found limits opening_is seated is =
         let at : Back user script seat = back user script seat seated is in
-        let all : Moments user (own_events user.name script) = all_moments user script seat at in
+        let all = all_moments user script seat at in
         let legal = legal_opening schema world header (bytes_of Disk.reads directory disk user.name) user empty opening_is in
         record {
           opening_is = opening_is;
