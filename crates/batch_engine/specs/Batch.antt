@@ -1,5 +1,5 @@
 -- What a batch writes, and what its lines mean for each of its users.
-use Rattle.std.specs.Prelude.{◌≡◌, ◌⊎◌, ◌&&◌, ◌≤◌, ℕ, Bool, true, false, List, [], ◌∷◌, ◌++◌}
+use Rattle.std.specs.Prelude.{◌≡◌, ◌⊎◌, ◌&&◌, ℕ, Bool, true, false, List, [], ◌∷◌, ◌++◌}
 use Rattle.std.specs.Prelude.{length, take, map, Option, Some, Ok, Err}
 use Rattle.std.specs.List.{flat_map, list_any, AllByRecursion}
 use Rattle.cqe_base.specs.Schema.{Text, DatabaseSchema}
@@ -45,6 +45,12 @@ abbrev pub AreEventsOf : List BatchItem → List ScriptEvent → Type 0
 AreEventsOf [] [] = Unit {0}
 AreEventsOf (item ∷ items) (event ∷ events) = IsEventOf item event × AreEventsOf items events
 AreEventsOf items events = ⊥
+
+-- items of one stretch: asks, and maybe the restart that ends it
+abbrev pub IsStretch : List BatchItem → Type 0
+IsStretch [] = Unit {0}
+IsStretch (asked ask ∷ items) = IsStretch items
+IsStretch (restarted ∷ items) = items ≡ []
 
 -- the bytes of lines, each with its line feed
 abbrev pub line_bytes : List Line → List ℕ
@@ -171,18 +177,21 @@ module _ (schema : DatabaseSchema) (world : FactSet) (header : List ℕ) (journa
           (transcript schema world answers.users
           (with_opening answers.found answers.opened answers.events))
 
-    -- what was appended are the lines that answer the first of these items, of the last line maybe
-    -- only a part; so no item was answered behind a line that wasn't written
+    -- What was appended are the lines that answer some first stretches of these items: those of all
+    -- of them but the last, and of those of the last maybe only a part. So no item was answered
+    -- behind a stretch of which a line wasn't written.
     pub record AppendsSome (items : List BatchItem) (old new : List ℕ) : Type 0 where
-      pub front : List BatchItem
+      pub earlier : List BatchItem
+      pub stretch : List BatchItem
       pub back : List BatchItem
-      pub split : items ≡ front ++ back
+      pub split : items ≡ (earlier ++ stretch) ++ back
+      pub one : IsStretch stretch
       pub whole : List Line
       pub last : List Line
-      pub one : length last ≤ 1
+      pub each : length last ≡ length stretch
       pub part : ℕ
       pub appended : new ≡ old ++ (line_bytes whole ++ take part (line_bytes last))
-      pub answers : AnswersBatch policy front (line_bytes (whole ++ last))
+      pub answers : AnswersBatch policy (earlier ++ stretch) (line_bytes (whole ++ last))
       pub lines : transcript schema world answers.users
           (with_opening answers.found answers.opened answers.events) ≡ whole ++ last
 
@@ -195,7 +204,7 @@ module _ (schema : DatabaseSchema) (world : FactSet) (header : List ℕ) (journa
       pub appended : new ≡ old ++ written
       pub answers : AnswersBatch policy front written
 
-    -- the bytes are a batch, and its first items were answered so, the last line maybe in part
+    -- the bytes are a batch, and some first stretches were answered so
     abbrev pub BreaksBatch : List ℕ → List ℕ → List ℕ → Type 0
     BreaksBatch bytes old new =
         (items : List BatchItem) × (batch_of bytes ≡ Ok items) × AppendsSome items old new
