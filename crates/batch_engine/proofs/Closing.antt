@@ -1,7 +1,7 @@
 -- What the lines of a batch mean for its users, once their disks are back.
 use Rattle.std.proofs.Common.{◌≡◌, inl, inr, ℕ, ◌≤◌, Bool, true, false, List, [], ◌∷◌, ◌++◌, take, map, refl, sym, ap, subst, ◌∙◌, append_assoc}
 use Rattle.std.proofs.Common.{append-nil}
-use Rattle.std.specs.Prelude.{Option, Some, None, find, bytes_eq, All, if◌then◌else◌, option_map, IfSome, ◌⊎◌, ◌&&◌}
+use Rattle.std.specs.Prelude.{length, Option, Some, None, find, bytes_eq, All, if◌then◌else◌, option_map, IfSome, ◌⊎◌, ◌&&◌}
 use Rattle.std.specs.List.{list_any, AllByRecursion}
 use Rattle.std.proofs.lemmas.List.Elements.{All-head, All-tail}
 use Rattle.outside.specs.Shelf.{bytes_on, image_on}
@@ -12,7 +12,7 @@ use Rattle.cqe_base.specs.History.{profile_of}
 use Rattle.cqe_base.specs.Limits.{KeepsLimits}
 use Rattle.cqe_base.specs.Censor.{EmptyHistoryIsLegal, IsLegal}
 use Rattle.cqe_base.specs.Headline.{RunsStayLegal, ScriptsHide}
-use Rattle.cqe_base.specs.Transcript.{NamedUser, ScriptEvent, own_events, state_after, TranscriptIsPrivate}
+use Rattle.cqe_base.specs.Transcript.{NamedUser, ScriptEvent, own_events, state_after, transcript, TranscriptIsPrivate}
 use Rattle.cqe_base.specs.declared.user.User.{User}
 use Rattle.cqe_base.proofs.Lists.{text_is}
 use Rattle.cqe_base.proofs.Truths.{or_first, or_second}
@@ -22,7 +22,7 @@ use Rattle.log_journal.specs.Names.{journal_name}
 use Rattle.batch_engine.specs.BatchLines.{BatchItem}
 use Rattle.desk_crew.specs.Openings.{OpensNone, OpensWith}
 use Rattle.batch_engine.specs.Lives.{RoseBy, is_opened, is_ask, failures, IsStretchEnd}
-use Rattle.batch_engine.specs.Batch.{StandsAmid, StandsBehind, ServesUser, AnswersBatch, AreRefusals, AppendsAll, AppendsSome, line_bytes, unopened, with_opening}
+use Rattle.batch_engine.specs.Batch.{StandsAmid, StandsBehind, ServesUser, AnswersBatch, AreRefusals, AppendsAll, AppendsSome, IsStretch, line_bytes, unopened, with_opening}
 use Rattle.desk_crew.specs.Crew.{named_user, seat_standing, seat_state, IsLeft, IsClosed}
 use Rattle.cqe_base.specs.Run.{Event}
 use Rattle.desk_crew.specs.Shelved.{Journals, since_on, journals_by, StandsAllAlong, ClosedBehind, IsBack, AreBack}
@@ -31,7 +31,7 @@ use Rattle.desk_crew.proofs.Lasting.{if_some_on}
 use Rattle.desk_crew.specs.Seats.{DeskSeat}
 use Rattle.batch_engine.proofs.Courses.{Course, course_on, Fits, Stays, stays_on, IsRunning}
 use Rattle.batch_engine.proofs.Seating.{names, IsSeated, AreSeated, close_at, along_at}
-use Rattle.batch_engine.proofs.Telling.{SoFar, LastLine}
+use Rattle.batch_engine.proofs.Telling.{SoFar, Adds, as_lines}
 
 -- ---- users by their names
 
@@ -361,24 +361,37 @@ module _ (schema : DatabaseSchema) (world : FactSet) (users : List NamedUser) (h
         broken = so_far.broken;
       }
 
-      -- the first items were answered, and of the last line a part was written
-      pub answered_some : (front back all : List BatchItem) (n : ℕ) (old output line new : List ℕ) (seats : List (DeskSeat D g h))
-          → LastLine schema world users header directory T Disk t read_is_image
+      -- some first stretches were answered, and of the lines of the last a part was written
+      pub answered_some : (earlier stretch back all : List BatchItem) (n : ℕ) (old output lines new : List ℕ) (mid seats : List (DeskSeat D g h))
+          (was is_broken : Bool)
+          (so_far : SoFar schema world users header directory T Disk t read_is_image
           (clock_of Disk only_now directory disk) (bytes_of Disk.reads directory disk) (count_of directory count)
-          (images_of Disk.image directory disk) found opened front output line seats
-          → AreBack S Disk disk' count' seats → new ≡ (old ++ output) ++ take n line → all ≡ front ++ back
+          (images_of Disk.image directory disk) found opened earlier output mid was)
+          → Adds schema world users header directory T Disk t read_is_image
+          (clock_of Disk only_now directory disk) (bytes_of Disk.reads directory disk) (count_of directory count)
+          (images_of Disk.image directory disk) found opened so_far.events (earlier ++ stretch) (length stretch) lines seats is_broken
+          → AreBack S Disk disk' count' seats → new ≡ (old ++ output) ++ take n lines → all ≡ (earlier ++ stretch) ++ back → IsStretch stretch
           → AppendsSome schema world header (journals_by Disk.reads Disk.image Disk.moment Disk.image_since directory disk disk' count count')
           policy all old new
-      answered_some front back all n old output line new seats told is appended split = record {
-        front = front;
-        back = back;
-        split = split;
-        whole = told.whole;
-        last = told.last;
-        one = told.one;
-        part = n;
-        appended = appended ∙ append_assoc old output (take n line) ∙ ap (λ o. old ++ (o ++ take n line)) told.output_is
-            ∙ ap (λ l. old ++ (line_bytes told.whole ++ take n l)) told.line_is;
-        answers = answers front (line_bytes (told.whole ++ told.last)) seats told.is_broken told.so_far is;
-        lines = told.lines;
-      }
+      unfolding as_lines
+      answered_some earlier stretch back all n old output lines new mid seats was is_broken so_far adds is appended split one =
+          let whole = transcript schema world users (with_opening found opened so_far.events) in
+          record {
+            earlier = earlier;
+            stretch = stretch;
+            back = back;
+            split = split;
+            one = one;
+            whole = whole;
+            last = adds.said;
+            each = adds.each;
+            part = n;
+            appended = appended ∙ append_assoc old output (take n lines) ∙ ap (λ o. old ++ (o ++ take n lines)) so_far.lines
+                ∙ ap (λ l. old ++ (line_bytes whole ++ take n l)) adds.lines_are;
+            answers = answers (earlier ++ stretch) (line_bytes (whole ++ adds.said)) seats is_broken
+                (as_lines schema world users header directory T Disk t read_is_image
+                (clock_of Disk only_now directory disk) (bytes_of Disk.reads directory disk) (count_of directory count)
+                (images_of Disk.image directory disk) found opened earlier (earlier ++ stretch) output lines mid seats was is_broken (length stretch) so_far
+                adds) is;
+            lines = adds.transcript_is;
+          }
