@@ -31,7 +31,7 @@ use Rattle.desk_crew.proofs.Lasting.{if_some_on}
 use Rattle.desk_crew.specs.Seats.{DeskSeat}
 use Rattle.batch_engine.proofs.Courses.{Course, course_on, Fits, Stays, stays_on, IsRunning}
 use Rattle.batch_engine.proofs.Seating.{names, IsSeated, AreSeated, close_at, along_at}
-use Rattle.batch_engine.proofs.Telling.{SoFar, Adds, as_lines}
+use Rattle.batch_engine.proofs.Telling.{SoFar, Adds, joined}
 
 -- ---- users by their names
 
@@ -373,9 +373,11 @@ module _ (schema : DatabaseSchema) (world : FactSet) (users : List NamedUser) (h
           → AreBack S Disk disk' count' seats → new ≡ (old ++ output) ++ take n lines → all ≡ (earlier ++ stretch) ++ back → IsStretch stretch
           → AppendsSome schema world header (journals_by Disk.reads Disk.image Disk.moment Disk.image_since directory disk disk' count count')
           policy all old new
-      unfolding as_lines
       answered_some earlier stretch back all n old output lines new mid seats was is_broken so_far adds is appended split one =
           let whole = transcript schema world users (with_opening found opened so_far.events) in
+          let both = joined schema world users header directory T Disk t read_is_image
+          (clock_of Disk only_now directory disk) (bytes_of Disk.reads directory disk) (count_of directory count)
+          (images_of Disk.image directory disk) found opened earlier (earlier ++ stretch) output lines mid seats was is_broken (length stretch) so_far adds in
           record {
             earlier = earlier;
             stretch = stretch;
@@ -388,10 +390,6 @@ module _ (schema : DatabaseSchema) (world : FactSet) (users : List NamedUser) (h
             part = n;
             appended = appended ∙ append_assoc old output (take n lines) ∙ ap (λ o. old ++ (o ++ take n lines)) so_far.lines
                 ∙ ap (λ l. old ++ (line_bytes whole ++ take n l)) adds.lines_are;
-            answers = answers (earlier ++ stretch) (line_bytes (whole ++ adds.said)) seats is_broken
-                (as_lines schema world users header directory T Disk t read_is_image
-                (clock_of Disk only_now directory disk) (bytes_of Disk.reads directory disk) (count_of directory count)
-                (images_of Disk.image directory disk) found opened earlier (earlier ++ stretch) output lines mid seats was is_broken (length stretch) so_far
-                adds) is;
-            lines = adds.transcript_is;
+            answers = answers (earlier ++ stretch) (line_bytes (whole ++ adds.said)) seats is_broken both.so_far is;
+            lines = both.lines;
           }

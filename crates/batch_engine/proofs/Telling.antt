@@ -91,16 +91,16 @@ module _ (schema : DatabaseSchema) (world : FactSet) (users : List NamedUser) wh
     -- what items behind others add: their events, and a line for each of them
     pub record Adds (earlier : List ScriptEvent) (items : List BatchItem) (count : ℕ) (lines : List ℕ) (seats : List (DeskSeat D g h)) (is_broken : Bool) :
         Type 0 where
-      pub more : List ScriptEvent
-      pub of_items : AreEventsOf items (earlier ++ more)
+      pub added : List ScriptEvent
+      pub of_items : AreEventsOf items (earlier ++ added)
       pub said : List Line
       pub each : length said ≡ count
       pub lines_are : lines ≡ line_bytes said
-      pub transcript_is : transcript schema world users (with_opening found opened (earlier ++ more))
+      pub transcript_is : transcript schema world users (with_opening found opened (earlier ++ added))
           ≡ transcript schema world users (with_opening found opened earlier) ++ said
       pub seated : AreSeated schema world header directory T Disk t read_is_image clock bytes before images
-          (with_opening found opened (earlier ++ more)) users seats
-      pub broken : is_broken ≡ list_any is_broken_line (transcript schema world users (with_opening found opened (earlier ++ more)))
+          (with_opening found opened (earlier ++ added)) users seats
+      pub broken : is_broken ≡ list_any is_broken_line (transcript schema world users (with_opening found opened (earlier ++ added)))
 
     -- no item
     pub adds_none : (items : List BatchItem) (output : List ℕ) (seats : List (DeskSeat D g h)) (is_broken : Bool)
@@ -108,7 +108,7 @@ module _ (schema : DatabaseSchema) (world : FactSet) (users : List NamedUser) wh
     adds_none items output seats is_broken so_far =
         let same : so_far.events ++ [] ≡ so_far.events = append-nil so_far.events in
         record {
-          more = [];
+          added = [];
           of_items = subst (AreEventsOf items) (sym same) so_far.of_items;
           said = [];
           each = refl;
@@ -120,16 +120,23 @@ module _ (schema : DatabaseSchema) (world : FactSet) (users : List NamedUser) wh
           broken = so_far.broken ∙ ap (λ es. list_any is_broken_line (transcript schema world users (with_opening found opened es))) (sym same);
         }
 
-    -- all of them together
-    pub as_lines : (first items : List BatchItem) (output lines : List ℕ) (old new : List (DeskSeat D g h)) (was is_broken : Bool) (count : ℕ)
+    -- all of them, with the lines of those before and their own
+    pub record Joined (items : List BatchItem) (whole said : List Line) (seats : List (DeskSeat D g h)) (is_broken : Bool) : Type 0 where
+      pub so_far : SoFar items (line_bytes (whole ++ said)) seats is_broken
+      pub lines : transcript schema world users (with_opening found opened so_far.events) ≡ whole ++ said
+
+    pub joined : (first items : List BatchItem) (output lines : List ℕ) (old new : List (DeskSeat D g h)) (was is_broken : Bool) (count : ℕ)
         (so_far : SoFar first output old was) (adds : Adds so_far.events items count lines new is_broken)
-        → SoFar items (line_bytes (transcript schema world users (with_opening found opened so_far.events) ++ adds.said)) new is_broken
-    as_lines first items output lines old new was is_broken count so_far adds = record {
-      events = so_far.events ++ adds.more;
-      of_items = adds.of_items;
-      lines = ap line_bytes (sym adds.transcript_is);
-      seated = adds.seated;
-      broken = adds.broken;
+        → Joined items (transcript schema world users (with_opening found opened so_far.events)) adds.said new is_broken
+    joined first items output lines old new was is_broken count so_far adds = record {
+      so_far = record {
+        events = so_far.events ++ adds.added;
+        of_items = adds.of_items;
+        lines = ap line_bytes (sym adds.transcript_is);
+        seated = adds.seated;
+        broken = adds.broken;
+      };
+      lines = adds.transcript_is;
     }
 
     pub so_far_first : (seats : List (DeskSeat D g h))
@@ -211,12 +218,12 @@ module _ (schema : DatabaseSchema) (world : FactSet) (users : List NamedUser) wh
           → Adds earlier items count lines old is_broken → Carries schema world header T Disk item old new line says_broken
           → Adds earlier (items ++ item ∷ []) (count + 1) (lines ++ line) new (is_broken || says_broken)
       adds_more earlier items count lines line old new is_broken says_broken item adds carried =
-          let events = earlier ++ adds.more in
+          let events = earlier ++ adds.added in
           let next : OneMore events item line new says_broken = one_more events old new says_broken item line adds.seated carried in
-          let same : events ++ next.event ∷ [] ≡ earlier ++ (adds.more ++ next.event ∷ []) = append_assoc earlier adds.more (next.event ∷ []) in
+          let same : events ++ next.event ∷ [] ≡ earlier ++ (adds.added ++ next.event ∷ []) = append_assoc earlier adds.added (next.event ∷ []) in
           let script = with_opening found opened events in
           record {
-            more = adds.more ++ next.event ∷ [];
+            added = adds.added ++ next.event ∷ [];
             of_items = subst (AreEventsOf (items ++ item ∷ [])) same (events-push items events item next.event adds.of_items next.is_event);
             said = adds.said ++ next.said ∷ [];
             each = length-append adds.said (next.said ∷ []) ∙ ap (λ n. n + 1) adds.each;

@@ -1,13 +1,12 @@
 //! A batch from its first byte to its last line.
 
 ghost use Rattle.std.specs.Prelude.{◌≡◌, ◌<◌, ◌≤◌, ◌++◌, ◌∷◌, [], true, false, map, length, All};
-ghost use Rattle.std.specs.Prelude.{option_map, IfOk, OnOk, vec_capacity};
-ghost use Rattle.std.specs.List.{AllByRecursion, flat_map, list_all};
+ghost use Rattle.std.specs.Prelude.{List, ℕ, option_map, IfOk, vec_len, vec_capacity};
+ghost use Rattle.std.specs.List.{AllByRecursion};
 ghost use Rattle.outside.specs.Faults.{Rose};
 ghost use Rattle.outside.specs.Shelf.{SameNames};
 ghost use Rattle.cqe_base.specs.Schema.{DatabaseSchema, has_duplicate};
 ghost use Rattle.cqe_base.specs.Facts.{FactSet};
-ghost use Rattle.std.specs.Prelude.{List, ℕ};
 ghost use Rattle.cqe_base.specs.Transcript.{reply_line, line_text};
 ghost use Rattle.log_journal.specs.Opening.{header_bytes};
 ghost use Rattle.user_log.specs.Replies.{reply_of};
@@ -140,7 +139,7 @@ fn answer_stretch<R: Wait, G: Gate, D: Disk>(
         → AllByRecursion (IsSeatServed schema world header) seats.old.items
         → Runs schema world header D.tells D.Disk (stretch_in asks.now)
         seats.old.items (output_bytes lines.new.items) seats.new.items result }
-    ensures spare { length lines.new.items < vec_capacity lines.new }
+    ensures spare { vec_len lines.new < vec_capacity lines.new }
     ensures capacity { vec_capacity lines.new ≡ vec_capacity lines.old }
 {
     lines.clear();
@@ -151,7 +150,8 @@ fn answer_stretch<R: Wait, G: Gate, D: Disk>(
         lines.push_reserved(OutputLine {
             text: line_of(ask, reply),
         });
-        is_broken = is_broken || is_broken_reply(reply);
+        let says_broken = is_broken_reply(reply);
+        is_broken = is_broken || says_broken;
     }
     is_broken
 }
@@ -172,7 +172,7 @@ fn restart<'w, F: Shelf, K: Sink>(
     requires distinct { has_duplicate (journals seats.items) ≡ false }
     requires out { AllOut (journals seats.items) (F.is_out shelf.old) }
     requires later { AreLater F.D.faults (F.disk_faults shelf.old) seats.items }
-    requires spare { length lines.old.items < vec_capacity lines.old }
+    requires spare { vec_len lines.old < vec_capacity lines.old }
     ensures ended { IsEnded registry.now.schema.now registry.now.world.now
         (header_bytes registry.now.header.now) F.D.tells F.D.Disk K.tells
         (λ left. AreBack F.tells F.D.Disk (F.disk shelf.new) (F.disk_faults shelf.new) left)
