@@ -15,7 +15,9 @@ use Rattle.std.specs.Prelude.{Vec}
 use Rattle.std.specs.declared.alloc.Global.{Global}
 use Rattle.std.proofs.Math.Bool.{or-false}
 use Rattle.std.proofs.lemmas.List.{take_more}
-use Rattle.cqe_base.proofs.Lists.{or_assoc}
+use Rattle.cqe_base.proofs.Lists.{or_assoc, all_at}
+use Rattle.std.proofs.Common.{All}
+use Rattle.std.proofs.lemmas.List.Elements.{recursion_from_All}
 use Rattle.batch_engine.specs.BatchLines.{BatchItem, asked, restarted}
 use Rattle.batch_engine.specs.Batch.{IsStretch}
 use Rattle.batch_engine.specs.Batches.{ask_in, stretch_in, stretches_in, items_in}
@@ -27,9 +29,15 @@ use Rattle.batch_engine.proofs.Seating.{flat_map-append}
 use Rattle.desk_counter.specs.declared.item.Fixed.{Fixed}
 use Rattle.desk_crew.specs.Crew.{seat_user, seat_journal, seat_disk, IsSeatServed, AreReopened, Tells, nobody, here, further}
 use Rattle.desk_crew.specs.Shelved.{journals, AreLater}
-use Rattle.batch_engine.specs.Steps.{restart_bytes, Carries, Runs, nothing, more, RunsAll, RunsSome, RunsTo}
+use Rattle.batch_engine.specs.Steps.{restart_bytes, MaybeReopened, Carries, Runs, nothing, more, RunsAll, RunsSome, RunsTo}
 use Rattle.desk_crew.proofs.Asking.{still_served}
 use Rattle.desk_crew.specs.Seats.{DeskSeat}
+
+-- items up to a restart
+pub before_restart : (items done asks others : List BatchItem) → items ≡ (done ++ (asks ++ restarted ∷ [])) ++ others
+    → items ≡ (done ++ asks) ++ restarted ∷ others
+before_restart items done asks others split =
+    split ∙ ap (λ l. l ++ others) (sym (append_assoc done asks (restarted ∷ []))) ∙ append_assoc (done ++ asks) (restarted ∷ []) others
 
 module _ (schema : DatabaseSchema) (world : FactSet) (header : List ℕ) {D : Type 0} {g h : _} (told : Type 0) (Disk : DiskGhosts D) where
   abbrev pub Limits : List (DeskSeat D g h) → Type 0
@@ -174,6 +182,22 @@ module _ (schema : DatabaseSchema) (world : FactSet) (header : List ℕ) {D : Ty
     appended = λ w. ((part w).0, (part w).1 ∙ ap (λ l. l ++ take (part w).0 lines) (so_far.appended w));
   }
 
+  -- a write failed as a stretch ended, behind its restart or without it
+  pub cut_off : (wrote : Type 0) (items done asks others : List BatchItem) (old mid last : List (DeskSeat D g h)) (was says : Bool)
+      (before after final lines : List ℕ) → items ≡ (done ++ (asks ++ restarted ∷ [])) ++ others → IsStretch asks → IsStretch (asks ++ restarted ∷ [])
+      → RunsAll schema world header told Disk wrote done old mid was before after → Runs schema world header told Disk asks mid lines last says
+      → (is_again : Bool) (new : List (DeskSeat D g h)) → MaybeReopened schema world header told Disk is_again last new
+      → (wrote → (n : ℕ) × (final ≡ after ++ take n (lines ++ restart_bytes is_again)))
+      → RunsSome schema world header told Disk wrote items old new before final
+  cut_off wrote items done asks others old mid last was says before after final lines split one whole so_far runs true new again part =
+      some_cut wrote items done (asks ++ restarted ∷ []) others old mid new was (says || false) before after final (lines ++ restart_bytes true) split whole
+      so_far (restarted_more asks mid last new lines says runs again) part
+  cut_off wrote items done asks others old mid last was says before after final lines split one whole so_far runs false new same part =
+      some_cut wrote items done asks (restarted ∷ others) old mid new was says before after final (lines ++ restart_bytes false)
+      (before_restart items done asks others split) one so_far
+      (subst (λ n. Runs schema world header told Disk asks mid (lines ++ []) n says) (sym same)
+      (subst (λ o. Runs schema world header told Disk asks mid o last says) (sym (append-nil lines)) runs)) part
+
   -- memory was wanting at a restart
   pub to_restart : (wrote : Type 0) (items front rest : List BatchItem) (old new : List (DeskSeat D g h)) (is_broken : Bool) (before after : List ℕ)
       → items ≡ front ++ restarted ∷ rest → RunsAll schema world header told Disk wrote front old new is_broken before after
@@ -197,6 +221,13 @@ pub stretch_more : (asks : List BatchAsk) (i : ℕ) (ask : BatchAsk) → i < len
     → stretch_in (take (i + 1) asks) ≡ stretch_in (take i asks) ++ asked (ask_in ask) ∷ []
 stretch_more asks i ask low is =
     ap (map asked) (map_more ask_in asks i ask low is) ∙ map-append asked (map ask_in (take i asks)) (ask_in ask ∷ [])
+
+-- what holds of each stretch holds of the next
+pub asks_at : (P : List BatchAsk → Type 0) (ended : List (Vec BatchAsk Global)) (i : ℕ) (asks : Vec BatchAsk Global) → i < length ended
+    → asks ≡ get_or ended i asks → All (λ (a : Vec BatchAsk Global). P a.items) ended → P asks.items
+asks_at P ended i asks low is all =
+    subst (λ (a : Vec BatchAsk Global). P a.items) (sym is)
+    (all_at (λ (a : Vec BatchAsk Global). P a.items) ended i asks low (recursion_from_All (λ (a : Vec BatchAsk Global). P a.items) ended all))
 
 -- one more line of the output
 pub output_more : (lines new : List OutputLine) (line : OutputLine) → new ≡ lines ++ line ∷ [] → output_bytes new ≡ output_bytes lines ++ line.text
