@@ -129,13 +129,16 @@ module _ (schema : DatabaseSchema) (world : FactSet) (header : List ℕ) {D : Ty
       (subst (λ o. Runs schema world header told Disk first old o mid (was || false)) (sym (append-nil output))
       (subst (λ b. Runs schema world header told Disk first old output mid b) (sym (or-false was)) runs))
   runs_then first second old mid new output lines was says runs (more items old' middle new' before line broke says_broken item earlier carried) =
-      let step : Runs schema world header told Disk ((first ++ items) ++ item ∷ []) old ((output ++ before) ++ line) new ((was || broke) || says_broken) =
+      let step : Runs schema world header told Disk ((first ++ items) ++ item ∷ []) old ((output ++ before) ++ line) new
+      ((was || broke) || says_broken) =
       more (first ++ items) old middle new' (output ++ before) line (was || broke) says_broken item
       (runs_then first items old mid middle output before was broke runs earlier) carried in
-      subst (λ l. Runs schema world header told Disk l old (output ++ (before ++ line)) new (was || (broke || says_broken))) (append_assoc first items (item ∷ []))
+      subst (λ l. Runs schema world header told Disk l old (output ++ (before ++ line)) new (was || (broke || says_broken)))
+      (append_assoc first items (item ∷ []))
       (subst (λ o. Runs schema world header told Disk ((first ++ items) ++ item ∷ []) old o new (was || (broke || says_broken)))
       (append_assoc output before line)
-      (subst (λ b. Runs schema world header told Disk ((first ++ items) ++ item ∷ []) old ((output ++ before) ++ line) new b) (or_assoc was broke says_broken) step))
+      (subst (λ b. Runs schema world header told Disk ((first ++ items) ++ item ∷ []) old ((output ++ before) ++ line) new b)
+      (or_assoc was broke says_broken) step))
 
   -- nothing was carried out, and nothing appended
   pub all_first : (wrote : Type 0) (seats : List (DeskSeat D g h)) (before : List ℕ)

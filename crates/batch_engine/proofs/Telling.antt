@@ -227,7 +227,8 @@ module _ (schema : DatabaseSchema) (world : FactSet) (users : List NamedUser) wh
             of_items = subst (AreEventsOf (items ++ item ∷ [])) same (events-push items events item next.event adds.of_items next.is_event);
             said = adds.said ++ next.said ∷ [];
             each = length-append adds.said (next.said ∷ []) ∙ ap (λ n. n + 1) adds.each;
-            lines_are = ap (λ l. l ++ line) adds.lines_are ∙ ap (λ l. line_bytes adds.said ++ l) (next.line_is ∙ sym (append-nil (line_text next.said ++ 10 ∷ [])))
+            lines_are = ap (λ l. l ++ line) adds.lines_are
+                ∙ ap (λ l. line_bytes adds.said ++ l) (next.line_is ∙ sym (append-nil (line_text next.said ++ 10 ∷ [])))
                 ∙ sym (flat_map-append (λ l. line_text l ++ 10 ∷ []) adds.said (next.said ∷ []));
             transcript_is = ap (λ es. transcript schema world users (with_opening found opened es)) (sym same)
                 ∙ transcript-push script next.event ∙ ap (λ l. transcript schema world users script ++ l) next.one

@@ -128,8 +128,8 @@ module _ (schema : DatabaseSchema) (world : FactSet) (header : List ℕ) (journa
     pub moments : StandsAllAlong journals user.name
         (list_any is_opened (own_events user.name events))
         (StandsAmid schema world header user (own_events user.name events))
-    -- Each stretch of his events ends at a restart or with the script. Once an opening has held, his
-    -- journal is closed there. Since then each crash leaves his history behind all events up to
+    -- Each stretch of his events ends at a restart or with the script. Once an opening has held,
+    -- his journal is closed there. Since then each crash leaves his history behind all events up to
     -- there and some first of those behind them, or this and the entry in flight; so no entry whose
     -- mark he was told in the stretch is lost at any moment since. Before that, since his journal
     -- was first opened, each leaves his history behind some first of the events up to there.

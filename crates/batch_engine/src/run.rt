@@ -150,8 +150,8 @@ fn answer_stretch<R: Wait, G: Gate, D: Disk>(
         lines.push_reserved(OutputLine {
             text: line_of(ask, reply),
         });
-        let says_broken = is_broken_reply(reply);
-        is_broken = is_broken || says_broken;
+        let is_failed = is_broken_reply(reply);
+        is_broken = is_broken || is_failed;
     }
     is_broken
 }
@@ -253,8 +253,7 @@ fn answer_all<'w, R: Wait, G: Gate, F: Shelf, K: Sink>(
     let (room, mut lines) = rooms;
     let mut is_broken = false;
     for asks in batch.ended() {
-        let says_broken =
-            answer_stretch(rt, alloc, &mut seats, asks.as_slice(), &mut lines, gate);
+        let says_broken = answer_stretch(rt, alloc, &mut seats, asks.as_slice(), &mut lines, gate);
         is_broken = is_broken || says_broken;
         match restart(alloc, registry, shelf, seats, &mut lines, sink) {
             Ended::Again(next) => seats = next,

@@ -14,7 +14,8 @@ use Rattle.batch_engine.specs.BatchOf.{items_of, ended_of, last_of}
 use Rattle.batch_engine.specs.Batches.{AreShort, stretch_in, stretches_in, items_in}
 use Rattle.batch_engine.specs.Outputs.{output_bytes}
 use Rattle.batch_engine.specs.Steps.{Runs, RunsAll, restart_bytes}
-use Rattle.batch_engine.proofs.Running.{Stay, stay_run, runs_then, all_first, all_more, some_cut, cut_off, before_restart, to_restart, restarted_more, asks_one, ended_one, stretch_split, stretches_more, asks_at}
+use Rattle.batch_engine.proofs.Running.{Stay, stay_run, runs_then, all_first, all_more, some_cut, cut_off, before_restart, to_restart, restarted_more}
+use Rattle.batch_engine.proofs.Running.{asks_one, ended_one, stretch_split, stretches_more, asks_at}
 use Rattle.batch_engine.proofs.run.answer_all.Goals.{then-is_broken, else-is_broken}
 use Rattle.batch_engine.proofs.run.answer_all.Goals as goal
 
@@ -278,8 +279,8 @@ returns-in-Ok-clause-answered g c = (
   c.refusals_of-refusals.ensures ∙ ap (map (λ s. s.refusal)) c.as_slice.ensures.value,
 )
 
-pub returns-in-Err-clause-answered : goal.returns-in-Err-clause-answered
-returns-in-Err-clause-answered g c = (
+pub returns-clause-answered : goal.returns-clause-answered
+returns-clause-answered g c = (
   c.answer_stretch-says_broken-2.new.seats.items,
   some_cut c.args.registry.now.schema.now c.args.registry.now.world.now
       (header_bytes c.args.registry.now.header.now) g.F.D.Disk.tells g.F.D.Disk g.K.Sink.tells (items_of c.args.batch.now)
@@ -295,7 +296,7 @@ returns-in-Err-clause-answered g c = (
   c.give_back.ensures.back,
 )
 
-pub returns-in-Err-clause-cause : goal.returns-in-Err-clause-cause
-returns-in-Err-clause-cause g c =
+pub returns-clause-cause : goal.returns-clause-cause
+returns-clause-cause g c =
     λ u. rose_wide (g.K.Sink.faults c.args.sink.now) (g.K.Sink.faults c.loop-asks.sink) (g.K.Sink.faults c.write_parts.new.sink)
     (g.K.Sink.faults c.write_parts.new.sink) c.loop-asks.invariant.later (omega arith) (c.in-Err.ensures.cause.failed refl)

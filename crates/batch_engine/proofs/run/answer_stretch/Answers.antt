@@ -55,12 +55,12 @@ loop-ask-preserved g c =
     let i = c.loop-ask.ask-index in
     let next = stretch_more asks i c.ask-item.result c.loop-ask-test.true c.ask-item.is in
     let output = output_more c.loop-ask.lines.items c.push_reserved.new.self.items (record { text = c.line_of-text.result }) c.push_reserved.ensures.items in
-    let joined : c.if-is_broken.is_broken ≡ (c.loop-ask.is_broken || c.is_broken_reply-says_broken.result) =
+    let joined : c.if-is_broken.is_broken ≡ (c.loop-ask.is_broken || c.is_broken_reply-is_failed.result) =
     elim c.if-is_broken.branch [
       | then-is_broken w ↦ w.is_broken-is ∙ w.if-is_broken.true
-          ∙ sym (ap (λ b. b || c.is_broken_reply-says_broken.result) w.if-is_broken.true)
+          ∙ sym (ap (λ b. b || c.is_broken_reply-is_failed.result) w.if-is_broken.true)
       | else-is_broken w ↦ w.is_broken-is
-          ∙ sym (ap (λ b. b || c.is_broken_reply-says_broken.result) w.if-is_broken.false)
+          ∙ sym (ap (λ b. b || c.is_broken_reply-is_failed.result) w.if-is_broken.false)
     ] in
     let count = so_far.count in
     let grown = c.push_reserved.ensures.len in
@@ -69,14 +69,14 @@ loop-ask-preserved g c =
           let runs = so_far.runs schema world header served in
           let now = (stay_run schema world header _ _ _ _ _ _ _ runs).served served in
           let step = more (stretch_in (take i asks)) c.args.seats.now.items c.loop-ask.seats.items c.answer-reply.new.seats.items
-          (output_bytes c.loop-ask.lines.items) c.line_of-text.result c.loop-ask.is_broken c.is_broken_reply-says_broken.result
+          (output_bytes c.loop-ask.lines.items) c.line_of-text.result c.loop-ask.is_broken c.is_broken_reply-is_failed.result
           (asked (ask_in c.ask-item.result)) runs (
             option_map reply_of c.answer-reply.result,
             told_here schema world c.as_str-name.result.now c.as_str-text.result.now c.loop-ask.seats.items c.answer-reply.new.seats.items
                 (option_map reply_of c.answer-reply.result) c.as_str-name.ensures.value c.as_str-text.ensures.value
                 (c.answer-reply.ensures.replied schema world header now),
             c.line_of-text.ensures,
-            c.is_broken_reply-says_broken.ensures,
+            c.is_broken_reply-is_failed.ensures,
           ) in
           subst (λ l. Runs schema world header g.D.Disk.tells g.D.Disk l c.args.seats.now.items (output_bytes c.push_reserved.new.self.items)
           c.answer-reply.new.seats.items c.if-is_broken.is_broken) (sym next)

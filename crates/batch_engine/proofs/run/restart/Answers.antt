@@ -55,8 +55,8 @@ give_back-requires-clause-out g c = (can g (goal.at.give_back-requires-clause-ou
 pub give_back-requires-clause-later : goal.give_back-requires-clause-later
 give_back-requires-clause-later g c = (can g (goal.at.give_back-requires-clause-later g c).In-Err).later
 
-pub returns-in-Err-clause-ended : goal.returns-in-Err-clause-ended
-returns-in-Err-clause-ended g c = (
+pub returns-clause-ended : goal.returns-clause-ended
+returns-clause-ended g c = (
   true,
   c.in-Some.seats.items,
   c.in-Some.ensures.reopened,
@@ -67,23 +67,23 @@ returns-in-Err-clause-ended g c = (
       (part.0, part.2),
 )
 
-pub returns-in-Err-clause-inside : goal.returns-in-Err-clause-inside
-returns-in-Err-clause-inside g c = λ none. subst (λ ns. AllIn ns (g.F.Shelf.is_out c.give_back.new.shelf)) (names g c.In-Some) c.give_back.ensures.inside
+pub returns-clause-inside : goal.returns-clause-inside
+returns-clause-inside g c = λ none. subst (λ ns. AllIn ns (g.F.Shelf.is_out c.give_back.new.shelf)) (names g c.In-Some) c.give_back.ensures.inside
 
-pub returns-in-Err-clause-others_out : goal.returns-in-Err-clause-others_out
-returns-in-Err-clause-others_out g c =
+pub returns-clause-others_out : goal.returns-clause-others_out
+returns-clause-others_out g c =
     subst (λ ns. SameBeside ns (g.F.Shelf.is_out c.args.shelf.now) (g.F.Shelf.is_out c.give_back.new.shelf)) (names g c.In-Some)
     (subst (λ s. SameBeside (journals c.in-Some.seats.items) (g.F.Shelf.is_out s) (g.F.Shelf.is_out c.give_back.new.shelf)) c.in-Some.ensures.untouched
     c.give_back.ensures.others_out)
 
-pub returns-in-Err-clause-counts : goal.returns-in-Err-clause-counts
-returns-in-Err-clause-counts g c =
+pub returns-clause-counts : goal.returns-clause-counts
+returns-clause-counts g c =
     subst (λ ns. SameBeside ns (g.F.Shelf.disk_faults c.args.shelf.now) (g.F.Shelf.disk_faults c.give_back.new.shelf)) (names g c.In-Some)
     (subst (λ s. SameBeside (journals c.in-Some.seats.items) (g.F.Shelf.disk_faults s) (g.F.Shelf.disk_faults c.give_back.new.shelf))
     c.in-Some.ensures.untouched c.give_back.ensures.counts)
 
-pub returns-in-Err-clause-disks : goal.returns-in-Err-clause-disks
-returns-in-Err-clause-disks g c =
+pub returns-clause-disks : goal.returns-clause-disks
+returns-clause-disks g c =
     subst (λ ns. SameBeside ns (g.F.Shelf.disk c.args.shelf.now) (g.F.Shelf.disk c.give_back.new.shelf)) (names g c.In-Some)
     (subst (λ s. SameBeside (journals c.in-Some.seats.items) (g.F.Shelf.disk s) (g.F.Shelf.disk c.give_back.new.shelf)) c.in-Some.ensures.untouched
     c.give_back.ensures.disks)
@@ -96,8 +96,8 @@ returns-in_default-in-Ok-clause-ended g c = (
   λ told. c.in-Ok.ensures.all told ∙ ap (λ l. g.K.Sink.written c.args.sink.now ++ output_bytes l) c.as_slice.ensures.value,
 )
 
-pub returns-in_default-in-Err-clause-ended : goal.returns-in_default-in-Err-clause-ended
-returns-in_default-in-Err-clause-ended g c = (
+pub returns-in_default-clause-ended : goal.returns-in_default-clause-ended
+returns-in_default-clause-ended g c = (
   false,
   c.args.seats.items,
   refl,

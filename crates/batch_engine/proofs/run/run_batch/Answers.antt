@@ -203,14 +203,14 @@ memory_given g c =
     let left = c.in-Memory-answer_all.ensures.answered in
     given g c.After-answer_all left.0 (stay_run _ _ _ _ _ _ _ _ _ _ left.1.all.runs) left.2
 
-pub returns-in-Memory-clause-disks : goal.returns-in-Memory-clause-disks
-returns-in-Memory-clause-disks g c = (memory_given g (goal.at.returns-in-Memory-clause-disks g c).In-Memory-answer_all).disks
+pub returns-clause-disks : goal.returns-clause-disks
+returns-clause-disks g c = (memory_given g (goal.at.returns-clause-disks g c).In-Memory-answer_all).disks
 
-pub returns-in-Memory-clause-inside : goal.returns-in-Memory-clause-inside
-returns-in-Memory-clause-inside g c = (memory_given g (goal.at.returns-in-Memory-clause-inside g c).In-Memory-answer_all).inside
+pub returns-clause-inside : goal.returns-clause-inside
+returns-clause-inside g c = (memory_given g (goal.at.returns-clause-inside g c).In-Memory-answer_all).inside
 
-pub returns-in-Memory-clause-counts : goal.returns-in-Memory-clause-counts
-returns-in-Memory-clause-counts g c = (memory_given g (goal.at.returns-in-Memory-clause-counts g c).In-Memory-answer_all).counts
+pub returns-clause-counts : goal.returns-clause-counts
+returns-clause-counts g c = (memory_given g (goal.at.returns-clause-counts g c).In-Memory-answer_all).counts
 
 pub returns-clause-journals : goal.returns-clause-journals
 returns-clause-journals g c = λ shelf_told.
