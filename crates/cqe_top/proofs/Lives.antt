@@ -28,9 +28,10 @@ record IsAnsweredOver (s : Scene) (files : FileNames) (refusals : List (Option D
   all : AppendsAll policy.schema world header (journals_of s.shelf files) (new_users policy) items s.output.written s.output.written' refusals is_broken
 
 answered_over : (words : List Text) (s : Scene) (complaints : Output) (status : ℕ) (files : FileNames) (users : Vec User Global)
-    (refusals : Vec (Option DeskError) Global) (is_broken : Bool) (one : Promise words s complaints status) → reading_of words ≡ Some (runs_batch files)
+    (refusals : Vec (Option DeskError) Global) (is_broken : Bool) (workers : ℕ) (one : Promise words s complaints status)
+    → reading_of words ≡ Some (runs_batch files workers)
     → one.end ≡ end.Batch users (batch_end.Done refusals is_broken) → TellsAll s → SayOn s.shelf files (IsAnsweredOver s files refusals.items is_broken)
-answered_over words s complaints status files users refusals is_broken one read ends tells =
+answered_over words s complaints status files users refusals is_broken workers one read ends tells =
     let of_batch : OfBatch s files one.end = subst (λ r. OfReading s r one.end) read one.command in
     let runs : RunsBatch s.shelf s.input s.output files users (batch_end.Done refusals is_broken) =
     subst (λ (e : CommandEnd). BatchEnds s.shelf s.input s.output files e) ends of_batch.ends in
@@ -51,12 +52,13 @@ module _ (s' : Scene) (files : FileNames) (refusals' : List (Option DeskError)) 
       (subst (λ k. IsAnsweredOver s' files refusals' is_broken' policy' world' k) h over))
 
 pub calls_join : (s : Scene) (complaints : Output) (s' : Scene) (complaints' : Output) → BatchCallsJoin s complaints s' complaints'
-calls_join s complaints s' complaints' words words' status status' files users users' refusals refusals' is_broken is_broken' one two read read' ends ends'
+calls_join s complaints s' complaints' words words' status status' files workers workers' users users' refusals refusals' is_broken is_broken' one two read read'
+    ends ends'
     tells tells' same =
     let at : SayOn s.shelf files (IsAnsweredOver s files refusals.items is_broken) =
-    answered_over words s complaints status files users refusals is_broken one read ends tells in
+    answered_over words s complaints status files users refusals is_broken workers one read ends tells in
     let at' : SayOn s'.shelf files (IsAnsweredOver s' files refusals'.items is_broken') =
-    answered_over words' s' complaints' status' files users' refusals' is_broken' two read' ends' tells' in
+    answered_over words' s' complaints' status' files users' refusals' is_broken' workers' two read' ends' tells' in
     let first = at.4 in
     let second : IsAnsweredOver s' files refusals'.items is_broken' at.0 at.1 at.2 =
     as_said s' files refusals'.items is_broken' at.0 at'.0 at.1 at'.1 at.2 at'.2 (sym at'.3 ∙ same ∙ at.3) at'.4 in (

@@ -49,11 +49,12 @@ pub record AreJoined (s s' : Scene) (files : FileNames)
 -- are joined.
 abbrev pub BatchCallsJoin : Scene → Output → Scene → Output → Type 0
 BatchCallsJoin s complaints s' complaints' =
-    (words words' : List Text) (status status' : ℕ) (files : FileNames)
+    (words words' : List Text) (status status' : ℕ) (files : FileNames) (workers workers' : ℕ)
     (users users' : Vec User Global) (refusals refusals' : Vec (Option DeskError) Global)
     (is_broken is_broken' : Bool)
     (one : Promise words s complaints status) (two : Promise words' s' complaints' status')
-    → reading_of words ≡ Some (runs_batch files) → reading_of words' ≡ Some (runs_batch files)
+    → reading_of words ≡ Some (runs_batch files workers)
+    → reading_of words' ≡ Some (runs_batch files workers')
     → one.end ≡ command_end.Batch users (batch_end.Done refusals is_broken)
     → two.end ≡ command_end.Batch users' (batch_end.Done refusals' is_broken')
     → TellsAll s → TellsAll s' → said_on s'.shelf files ≡ said_on s.shelf files

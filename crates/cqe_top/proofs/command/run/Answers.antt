@@ -10,7 +10,7 @@ use Rattle.cqe_top.proofs.command.run.Goals as goal
 -- a task over files keeps the bounds of its reading
 bounds_of : (files : FileNames) (task : Task) → Keeps (reading_over files task) → KeepsBounds task
 bounds_of files Init keeps = tt
-bounds_of files Batch keeps = tt
+bounds_of files (Batch workers) keeps = keeps
 bounds_of files (Audit user json) keeps = tt
 bounds_of files (Serve listening) keeps = keeps
 
