@@ -15,10 +15,11 @@
 //! lives.
 #![tactic(auto)]
 
+mod answer;
 mod batch;
 pub mod laws;
 mod line;
-mod output;
+mod post;
 mod run;
 
 pub use run::{BatchEnd, run_batch};

@@ -26,7 +26,7 @@ ghost use Rattle.desk_crew.specs.Registered.{AllKeepLimits, SeatsKeepLimits};
 ghost use Rattle.desk_crew.specs.Registered.{registered_journals, HaveOwnNames};
 
 use crate::registry::Registry;
-use crate::seat::{DeskSeat, close_desk, reopen, seat_at, settle_at};
+use crate::seat::{DeskSeat, ask_at, close_desk, reopen, seat_at};
 use censors::admit;
 use cqe_base::user::User;
 use log_journal::{journal_name, law_journals_differ};
@@ -277,7 +277,7 @@ pub fn answer<R: Wait, G: Gate, D: Disk>(
 {
     let place = place_of(seats.as_slice(), name)?;
     let seat = &mut seats[place];
-    Some(settle_at(rt, alloc, seat, text, gate))
+    Some(ask_at(rt, alloc, seat, text, gate))
 }
 
 /// The first refusal of each seat, in a list with the room for them.

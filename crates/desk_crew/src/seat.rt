@@ -111,7 +111,7 @@ pub(crate) fn seat_at<'w, D: Disk>(
 }
 
 /// The reply to a text of the user of a seat.
-pub(crate) fn settle_at<R: Wait, G: Gate, D: Disk>(
+pub fn ask_at<R: Wait, G: Gate, D: Disk>(
     rt: &R,
     alloc: Global,
     seat: &mut DeskSeat<'_, D>,
