@@ -6,6 +6,8 @@ pub mod Telling
 pub mod Closing
 pub mod Shorts
 pub mod Running
+pub mod Merging
+pub mod Ordering
 pub mod Ending
 pub mod Failing
 pub mod Joining
