@@ -166,7 +166,8 @@ module _ (schema : DatabaseSchema) (world : FactSet) {D : Type 0} {g h : _} wher
       let one = answer_to number ask (Some reply) in
       subst (λ b. IsPermutation (one ∷ answers) ((if b then strange else answer_to number ask None ∷ strange) ++ owns)) (sym known)
       (IsPermutation-trans _ _ _ (IsPermutation-cons one answers (strange ++ rests) so_far)
-      (IsPermutation-trans _ _ _ (IsPermutation-sym _ _ (IsPermutation-middle strange one rests)) (IsPermutation-append_right strange (one ∷ rests) owns moved)))
+      (IsPermutation-trans _ _ _ (IsPermutation-sym _ _ (IsPermutation-middle strange one rests))
+      (IsPermutation-append_right strange (one ∷ rests) owns moved)))
 
   pub merged : (asks : List NamedAsk) (number : ℕ) (olds news : List (DeskSeat D g h)) (owns : List (List Answer))
       → has_duplicate (map seat_name olds) ≡ false → OwnRuns number asks olds news owns → Merged number asks olds news owns
@@ -246,6 +247,7 @@ pub answers_numbered : (number : ℕ) (asks : List NamedAsk) (replies : List (Op
 answers_numbered number [] replies = tt
 answers_numbered number (ask ∷ asks) [] = tt
 answers_numbered number (ask ∷ asks) (reply ∷ replies) = (
-  All-from_recursion (λ (a : Answer). number < a.number) (answers_from (number + 1) asks replies) (answers_above number (number + 1) asks replies (omega arith)),
+  All-from_recursion (λ (a : Answer). number < a.number) (answers_from (number + 1) asks replies)
+      (answers_above number (number + 1) asks replies (omega arith)),
   answers_numbered (number + 1) asks replies,
 )

@@ -31,31 +31,31 @@ above_on a b [] low each = tt
 above_on a b (n ∷ ns) low each = (omega (arith, low, each.0), above_on a b ns low each.1)
 
 -- a list whose least number is this one, and one whose least is higher, don't count the same
-differ : (a b : ℕ) (as bs : List ℕ) → a < b → AllByRecursion (λ m. b ≤ m) bs → ((f : ℕ → ℕ) → sum_by f (a ∷ as) ≡ sum_by f (b ∷ bs)) → ⊥
-differ a b as bs low each same =
+differ : (a b : ℕ) (ms ns : List ℕ) → a < b → AllByRecursion (λ m. b ≤ m) ns → ((f : ℕ → ℕ) → sum_by f (a ∷ ms) ≡ sum_by f (b ∷ ns)) → ⊥
+differ a b ms ns low each same =
     let f : ℕ → ℕ = λ m. (a + 1) - m in
-    let one = sum_by-cons f a as in
-    let two = sum_by-cons f b bs in
-    let none = none_up_to a bs (above_on a b bs low each) in
+    let one = sum_by-cons f a ms in
+    let two = sum_by-cons f b ns in
+    let none = none_up_to a ns (above_on a b ns low each) in
     let both = same f in
     omega (arith, one, two, none, both, low)
 
 -- two lists that rise and count the same are one
-rising_same : (as bs : List ℕ) → Rises as → Rises bs → ((f : ℕ → ℕ) → sum_by f as ≡ sum_by f bs) → as ≡ bs
+rising_same : (ms ns : List ℕ) → Rises ms → Rises ns → ((f : ℕ → ℕ) → sum_by f ms ≡ sum_by f ns) → ms ≡ ns
 rising_same [] [] up up' same = refl
-rising_same [] (b ∷ bs) up up' same = let one = sum_by-cons (λ m. 1) b bs in let both = same (λ m. 1) in absurd (omega (arith, one, both))
-rising_same (a ∷ as) [] up up' same = let one = sum_by-cons (λ m. 1) a as in let both = same (λ m. 1) in absurd (omega (arith, one, both))
-rising_same (a ∷ as) (b ∷ bs) up up' same = by (lower_or_same a b) (rising_same as bs up.1 up'.1)
+rising_same [] (b ∷ ns) up up' same = let one = sum_by-cons (λ m. 1) b ns in let both = same (λ m. 1) in absurd (omega (arith, one, both))
+rising_same (a ∷ ms) [] up up' same = let one = sum_by-cons (λ m. 1) a ms in let both = same (λ m. 1) in absurd (omega (arith, one, both))
+rising_same (a ∷ ms) (b ∷ ns) up up' same = by (lower_or_same a b) (rising_same ms ns up.1 up'.1)
   where
-    by : (a ≡ b) ⊎ ((a < b) ⊎ (b < a)) → (((f : ℕ → ℕ) → sum_by f as ≡ sum_by f bs) → as ≡ bs) → a ∷ as ≡ b ∷ bs
+    by : (a ≡ b) ⊎ ((a < b) ⊎ (b < a)) → (((f : ℕ → ℕ) → sum_by f ms ≡ sum_by f ns) → ms ≡ ns) → a ∷ ms ≡ b ∷ ns
     by (inl is) rest = λ i. is i ∷ rest (λ f.
-        let one = sum_by-cons f a as in
-        let two = sum_by-cons f b bs in
+        let one = sum_by-cons f a ms in
+        let two = sum_by-cons f b ns in
         let both = same f in
         let heads = ap f is in
         omega (arith, one, two, both, heads)) i
-    by (inr (inl low)) rest = absurd (differ a b as bs low up'.0 same)
-    by (inr (inr high)) rest = absurd (differ b a bs as high up.0 (λ f. sym (same f)))
+    by (inr (inl low)) rest = absurd (differ a b ms ns low up'.0 same)
+    by (inr (inr high)) rest = absurd (differ b a ns ms high up.0 (λ f. sym (same f)))
 
 -- ---- answers
 

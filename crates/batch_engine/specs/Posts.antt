@@ -33,9 +33,9 @@ names_of posts = map (λ post. seat_name post.seat) posts
 
 -- it has room for the answers to its user's asks among these, and none yet
 pub record HasRoom {D : Type 0} {g h : _} (asks : List NamedAsk) (post : DeskPost D g h) : Type 0
-    where
-  pub empty : post.answers.items ≡ []
-  pub room : asks_of (seat_name post.seat) asks ≤ vec_capacity post.answers
+  where
+    pub empty : post.answers.items ≡ []
+    pub room : asks_of (seat_name post.seat) asks ≤ vec_capacity post.answers
 
 -- these are rooms for the answers to the users of seats, each in the place of its seat
 abbrev pub HasRooms : {D : Type 0} {g h : _} → List NamedAsk → List (DeskSeat D g h)

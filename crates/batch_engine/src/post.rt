@@ -99,7 +99,8 @@ fn answer_own<R: Wait, G: Gate, D: Disk>(
         let ask = &asks[number];
         if ask.name.as_str() == post.seat.user.name.as_str() {
             let reply = ask_at(rt, alloc, &mut post.seat, ask.text.as_str(), gate);
-            post.answers.push_reserved(answer_to(number, ask, Some(reply)));
+            post.answers
+                .push_reserved(answer_to(number, ask, Some(reply)));
         }
     }
 }
@@ -199,12 +200,7 @@ fn dismiss<'w, D: Disk + Drop>(
 /// Answers the asks of a stretch, the users side by side: the seats behind it, and the answers in
 /// any order, in a list with room for one more. For want of memory, before the first ask, the seats
 /// come back as they were.
-pub(crate) fn answer_stretch<
-    'w,
-    R: Threads + Wait + Sync,
-    G: Gate + Sync,
-    D: Disk + Drop + Send,
->(
+pub(crate) fn answer_stretch<'w, R: Threads + Wait + Sync, G: Gate + Sync, D: Disk + Drop + Send>(
     rt: &R,
     alloc: Global,
     workers: u32,

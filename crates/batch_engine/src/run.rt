@@ -285,13 +285,7 @@ where
 /// disk. All disks are given back on every path. It may wait, at the counters and at the gate.
 ///
 /// No clause says how many threads run.
-pub fn run_batch<
-    R: Threads + Wait + Sync,
-    F: Shelf,
-    S: Source,
-    K: Sink,
-    G: Gate + Sync,
->(
+pub fn run_batch<R: Threads + Wait + Sync, F: Shelf, S: Source, K: Sink, G: Gate + Sync>(
     rt: &R,
     alloc: Global,
     registry: &Registry<'_>,

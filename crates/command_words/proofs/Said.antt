@@ -9,7 +9,8 @@ use Rattle.clap.specs.Words.{Row, Text, first_of}
 use Rattle.clap.specs.Walk.{with_default}
 use Rattle.command_words.specs.Uses.{OptionRow, Use, is_flag}
 use Rattle.command_words.specs.Numbers.{number_from, number_or}
-use Rattle.command_words.specs.Readings.{CommandRow, audit_row, audit_said, batch_row, batch_said, command_of, commands, files_of, files_said, init_row, is_used}
+use Rattle.command_words.specs.Readings.{CommandRow, audit_row, audit_said, batch_row, batch_said, command_of, commands, files_of, files_said, init_row}
+use Rattle.command_words.specs.Readings.{is_used}
 use Rattle.command_words.specs.Readings.{runs_init, selfrun_row, selfrun_said, serve_row, serve_said, value_of}
 use Rattle.command_words.specs.Matched.{command_with, files_in, says_true}
 use Rattle.command_words.proofs.Options.{default_is, finished_rows, rows_of_uses, row_of_use, rule_for, text_of, unused_row}

@@ -52,8 +52,8 @@ module _ (s' : Scene) (files : FileNames) (refusals' : List (Option DeskError)) 
       (subst (λ k. IsAnsweredOver s' files refusals' is_broken' policy' world' k) h over))
 
 pub calls_join : (s : Scene) (complaints : Output) (s' : Scene) (complaints' : Output) → BatchCallsJoin s complaints s' complaints'
-calls_join s complaints s' complaints' words words' status status' files workers workers' users users' refusals refusals' is_broken is_broken' one two read read'
-    ends ends'
+calls_join s complaints s' complaints' words words' status status' files workers workers' users users' refusals refusals' is_broken is_broken' one two read
+    read' ends ends'
     tells tells' same =
     let at : SayOn s.shelf files (IsAnsweredOver s files refusals.items is_broken) =
     answered_over words s complaints status files users refusals is_broken workers one read ends tells in
