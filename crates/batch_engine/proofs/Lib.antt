@@ -7,6 +7,7 @@ pub mod Closing
 pub mod Shorts
 pub mod Running
 pub mod Merging
+pub mod Posts
 pub mod Ordering
 pub mod Ending
 pub mod Failing

@@ -1,7 +1,7 @@
 -- The items of a batch, carried out one after the other: what stays of the seats.
 use Rattle.std.proofs.Common.{◌≡◌, ℕ, zero, suc, ◌≤◌, ◌<◌, ◌+◌, Bool, true, false, List, [], ◌∷◌, ◌++◌, length, take, drop, get_or, map, refl, sym, ap}
 use Rattle.std.proofs.Common.{subst, ◌∙◌, append-nil, append_assoc, arith}
-use Rattle.std.specs.Prelude.{Option, ◌||◌}
+use Rattle.std.specs.Prelude.{Option, ◌||◌, if◌then◌else◌}
 use Rattle.std.specs.List.{AllByRecursion}
 use Rattle.std.proofs.lemmas.List.{map-append}
 use Rattle.outside.specs.declared.disk.Disk.{Ghosts as DiskGhosts}
@@ -21,11 +21,8 @@ use Rattle.std.proofs.lemmas.List.Elements.{recursion_from_All}
 use Rattle.batch_engine.specs.BatchLines.{BatchItem, asked, restarted}
 use Rattle.batch_engine.specs.Batch.{IsStretch}
 use Rattle.batch_engine.specs.Batches.{ask_in, stretch_in, stretches_in, items_in}
-use Rattle.batch_engine.specs.Outputs.{output_bytes}
 use Rattle.batch_engine.specs.declared.batch.BatchAsk.{BatchAsk}
-use Rattle.batch_engine.specs.declared.output.OutputLine.{OutputLine}
 use Rattle.batch_engine.proofs.Batches.{stretches-append}
-use Rattle.batch_engine.proofs.Seating.{flat_map-append}
 use Rattle.desk_counter.specs.declared.item.Fixed.{Fixed}
 use Rattle.desk_crew.specs.Crew.{seat_user, seat_journal, seat_disk, IsSeatServed, AreReopened, Tells, nobody, here, further}
 use Rattle.desk_crew.specs.Shelved.{journals, AreLater}
@@ -201,12 +198,73 @@ module _ (schema : DatabaseSchema) (world : FactSet) (header : List ℕ) {D : Ty
       (subst (λ n. Runs schema world header told Disk asks mid (lines ++ []) n says) (sym same)
       (subst (λ o. Runs schema world header told Disk asks mid o last says) (sym (append-nil lines)) runs)) part
 
-  -- memory was wanting at a restart
-  pub to_restart : (wrote : Type 0) (items front rest : List BatchItem) (old new : List (DeskSeat D g h)) (is_broken : Bool) (before after : List ℕ)
-      → items ≡ front ++ restarted ∷ rest → RunsAll schema world header told Disk wrote front old new is_broken before after
+  -- memory was wanting where a stretch began
+  pub to_here : (wrote : Type 0) (items front back : List BatchItem) (old new : List (DeskSeat D g h)) (is_broken : Bool) (before after : List ℕ)
+      → items ≡ front ++ back → RunsAll schema world header told Disk wrote front old new is_broken before after
       → RunsTo schema world header told Disk wrote items old new before after
-  to_restart wrote items front rest old new is_broken before after split so_far =
-      record { front = front; rest = rest; split = split; is_broken = is_broken; all = so_far }
+  to_here wrote items front back old new is_broken before after split so_far = (
+    record {
+      earlier = front;
+      stretch = [];
+      back = back;
+      split = split ∙ ap (λ l. l ++ back) (sym (append-nil front));
+      one = tt;
+      mid = new;
+      output = so_far.output;
+      lines = [];
+      was_broken = is_broken;
+      says_broken = false;
+      first = so_far.runs;
+      last = nothing new;
+      appended = λ w. (0, so_far.appended w ∙ sym (append-nil (before ++ so_far.output)));
+    },
+    λ w. refl,
+  )
+
+  -- a stretch was carried out, and none of its lines written
+  pub to_unwritten : (wrote : Type 0) (items earlier stretch back : List BatchItem) (old mid new : List (DeskSeat D g h)) (was says : Bool)
+      (before after final lines : List ℕ) → items ≡ (earlier ++ stretch) ++ back → IsStretch stretch
+      → RunsAll schema world header told Disk wrote earlier old mid was before after
+      → Runs schema world header told Disk stretch mid lines new says → (wrote → final ≡ after)
+      → RunsTo schema world header told Disk wrote items old new before final
+  to_unwritten wrote items earlier stretch back old mid new was says before after final lines split one so_far runs same = (
+    record {
+      earlier = earlier;
+      stretch = stretch;
+      back = back;
+      split = split;
+      one = one;
+      mid = mid;
+      output = so_far.output;
+      lines = lines;
+      was_broken = was;
+      says_broken = says;
+      first = so_far.runs;
+      last = runs;
+      appended = λ w. (0, same w ∙ so_far.appended w ∙ sym (append-nil (before ++ so_far.output)));
+    },
+    λ w. refl,
+  )
+
+  -- memory was wanting as a stretch ended
+  pub no_memory : (wrote : Type 0) (items done asks others : List BatchItem) (old mid last : List (DeskSeat D g h)) (was says : Bool)
+      (before after final lines : List ℕ) → items ≡ (done ++ (asks ++ restarted ∷ [])) ++ others → IsStretch asks → IsStretch (asks ++ restarted ∷ [])
+      → RunsAll schema world header told Disk wrote done old mid was before after → Runs schema world header told Disk asks mid lines last says
+      → (is_again : Bool) (new : List (DeskSeat D g h)) → MaybeReopened schema world header told Disk is_again last new → (is_written : Bool)
+      → (wrote → final ≡ after ++ (if is_written then lines else [])) → (is_written ≡ true → is_again ≡ false)
+      → RunsTo schema world header told Disk wrote items old new before final
+  no_memory wrote items done asks others old mid last was says before after final lines split one whole so_far runs true new again false written only =
+      to_unwritten wrote items done (asks ++ restarted ∷ []) others old mid new was (says || false) before after final (lines ++ restart_bytes true) split
+      whole so_far (restarted_more asks mid last new lines says runs again) (λ w. written w ∙ append-nil after)
+  no_memory wrote items done asks others old mid last was says before after final lines split one whole so_far runs true new again true written only =
+      let clash : true ≡ false = only refl in absurd cc
+  no_memory wrote items done asks others old mid last was says before after final lines split one whole so_far runs false new same false written only =
+      to_unwritten wrote items done asks (restarted ∷ others) old mid new was says before after final lines (before_restart items done asks others split) one
+      so_far (subst (λ n. Runs schema world header told Disk asks mid lines n says) (sym same) runs) (λ w. written w ∙ append-nil after)
+  no_memory wrote items done asks others old mid last was says before after final lines split one whole so_far runs false new same true written only =
+      to_here wrote items (done ++ asks) (restarted ∷ others) old new (was || says) before final (before_restart items done asks others split)
+      (all_more wrote done asks old mid new was says (was || says) before after final lines refl so_far
+      (subst (λ n. Runs schema world header told Disk asks mid lines n says) (sym same) runs) written)
 
 -- ---- the asks of a stretch
 
@@ -231,11 +289,6 @@ pub asks_at : (P : List BatchAsk → Type 0) (ended : List (Vec BatchAsk Global)
 asks_at P ended i asks low is all =
     subst (λ (a : Vec BatchAsk Global). P a.items) (sym is)
     (all_at (λ (a : Vec BatchAsk Global). P a.items) ended i asks low (recursion_from_All (λ (a : Vec BatchAsk Global). P a.items) ended all))
-
--- one more line of the output
-pub output_more : (lines new : List OutputLine) (line : OutputLine) → new ≡ lines ++ line ∷ [] → output_bytes new ≡ output_bytes lines ++ line.text
-output_more lines new line is =
-    ap output_bytes is ∙ flat_map-append (λ (l : OutputLine). l.text) lines (line ∷ []) ∙ ap (λ l. output_bytes lines ++ l) (append-nil line.text)
 
 -- the asks of a stretch in front of others, as items of the batch
 pub stretch_split : (ended : List (Vec BatchAsk Global)) (last : List BatchAsk) (i : ℕ) (asks : Vec BatchAsk Global) → i < length ended

@@ -1,6 +1,6 @@
 -- What an item does to the seats, and its line.
 use Rattle.std.specs.Prelude.{◌≡◌, ℕ, Bool, true, false, ◌||◌, List, [], ◌∷◌, ◌++◌, take}
-use Rattle.std.specs.Prelude.{◌⊎◌, Option, map}
+use Rattle.std.specs.Prelude.{Option, map, if◌then◌else◌}
 use Rattle.outside.specs.declared.disk.Disk.{Ghosts as DiskGhosts}
 use Rattle.cqe_base.specs.Schema.{DatabaseSchema}
 use Rattle.cqe_base.specs.Facts.{FactSet}
@@ -109,8 +109,9 @@ module _ (schema : DatabaseSchema) (world : FactSet) (header : List ℕ) {D : Ty
       × (wrote → (n : ℕ) × (after ≡ before ++ take n (lines ++ restart_bytes is_again)))
   IsEnded {g} {h} wrote are_back old lines before after NoMemory =
       (is_again : Bool) × (new : List (DeskSeat D g h)) × MaybeReopened is_again old new
-      × are_back new
-      × (wrote → (after ≡ before) ⊎ ((is_again ≡ false) × (after ≡ before ++ lines)))
+      × are_back new × (is_written : Bool)
+      × (wrote → after ≡ before ++ (if is_written then lines else []))
+      × (is_written ≡ true → is_again ≡ false)
 
 -- a stretch goes on
 abbrev pub GoesOn : {D : Type 0} {g h : _} → DeskEnded D g h → Type 0

@@ -156,8 +156,8 @@ fn restart<'w, R: Threads + Sync, F: Shelf, K: Sink>(
     requires out { AllOut (journals seats.items) (F.is_out shelf.old) }
     requires later { AreLater F.D.faults (F.disk_faults shelf.old) seats.items }
     requires spare { vec_len answers < vec_capacity answers }
-    ensures ended { (lines : List Answer) → AreNumbered lines → length lines ≡ count
-        → IsPermutation lines answers.entry.items
+    ensures ended { (lines : List Answer) → AreNumbered lines
+        → All (λ line. line.number < count) lines → IsPermutation lines answers.entry.items
         → IsEnded registry.now.schema.now registry.now.world.now
         (header_bytes registry.now.header.now) F.D.tells F.D.Disk K.tells
         (λ left. AreBack F.tells F.D.Disk (F.disk shelf.new) (F.disk_faults shelf.new) left)
@@ -359,8 +359,9 @@ where
         Err(NotOpened::Shelf) => return BatchEnd::ShelfFault,
         Err(NotOpened::Memory) => return BatchEnd::Memory,
     };
-    let rooms = (room, lines);
-    match answer_all(rt, alloc, registry, shelf, seats, &batch, rooms, sink, gate) {
+    match answer_all(
+        rt, alloc, registry, workers, shelf, seats, &batch, room, sink, gate,
+    ) {
         Answered::All(refusals, is_broken) => BatchEnd::Done(refusals, is_broken),
         Answered::Cut => BatchEnd::WriteFault,
         Answered::Memory => BatchEnd::Memory,

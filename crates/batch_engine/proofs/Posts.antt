@@ -1,0 +1,144 @@
+-- The users of a stretch at their posts: their rooms, their answers, and what is gathered of them.
+use Rattle.std.proofs.Common.{◌≡◌, ◌⊎◌, ℕ, zero, suc, ◌+◌, ◌<◌, ◌≤◌, Bool, true, false, List, [], ◌∷◌, ◌++◌, length, take, drop, get_or, map, All, refl, sym, ap, subst, ◌∙◌, arith}
+use Rattle.std.specs.Prelude.{bytes_eq, if◌then◌else◌, Vec, vec_capacity, slice_index_or, sum_by}
+use Rattle.std.specs.List.{flat_map, list_any, AllByRecursion}
+use Rattle.std.specs.declared.alloc.Global.{Global}
+use Rattle.std.proofs.lemmas.List.{take_more, map-append}
+use Rattle.std.specs.List.Sorted.{IsPermutation}
+use Rattle.cqe_base.specs.Schema.{Text, DatabaseSchema, has_duplicate}
+use Rattle.cqe_base.specs.Facts.{FactSet}
+use Rattle.cqe_base.specs.History.{profile_of}
+use Rattle.desk_crew.specs.Crew.{seat_user, seat_name, seat_kept, IsSeatServed}
+use Rattle.desk_crew.specs.Seats.{DeskSeat}
+use Rattle.batch_engine.specs.BatchLines.{NamedAsk}
+use Rattle.outside.specs.declared.disk.Disk.{Ghosts as DiskGhosts}
+use Rattle.cqe_base.specs.Run.{Reply}
+use Rattle.std.specs.Prelude.{Option}
+use Rattle.std.proofs.lemmas.List.Elements.{All-nil, All-push, All-from_recursion}
+use Rattle.std.proofs.lemmas.List.Sorted.{list_any-IsPermutation}
+use Rattle.batch_engine.specs.Answers.{OwnRun, asks_of, answers_from, strangers_from, restarted_at, output_bytes, says_broken}
+use Rattle.batch_engine.specs.BatchLines.{asked}
+use Rattle.batch_engine.specs.Ordered.{AreNumbered}
+use Rattle.batch_engine.specs.Steps.{Runs}
+use Rattle.batch_engine.specs.Posts.{DeskPost, HasRoom, HasRooms, RunsOwn, AreAnswered, seat_of, names_of}
+use Rattle.batch_engine.specs.declared.answer.Answer.{Answer}
+use Rattle.batch_engine.proofs.Merging.{OwnRuns, Merged, merged, all_of, told_runs, answers_numbered}
+
+-- ---- how many asks
+
+pub asks_of-push : (name : Text) (asks : List NamedAsk) (ask : NamedAsk)
+    → asks_of name (asks ++ ask ∷ []) ≡ asks_of name asks + (if bytes_eq name ask.name then 1 else 0)
+asks_of-push name [] ask = let turned : (if bytes_eq name ask.name then 1 else 0) + 0 ≡ 0 + (if bytes_eq name ask.name then 1 else 0) = omega arith in turned
+asks_of-push name (first ∷ asks) ask =
+    let more = asks_of-push name asks ask in
+    omega (arith, more)
+
+pub few_asks : (name : Text) (asks : List NamedAsk) → asks_of name asks ≤ length asks
+few_asks name [] = omega arith
+few_asks name (ask ∷ asks) = by (bytes_eq name ask.name) (few_asks name asks)
+  where
+    by : (b : Bool) → asks_of name asks ≤ length asks → (if b then 1 else 0) + asks_of name asks ≤ length (ask ∷ asks)
+    by true few = omega (arith, few)
+    by false few = omega (arith, few)
+
+module _ {D : Type 0} {g h : _} where
+  -- ---- rooms
+
+  pub rooms-push : (asks : List NamedAsk) (seats : List (DeskSeat D g h)) (rooms : List (Vec Answer Global)) (seat : DeskSeat D g h) (room : Vec Answer Global)
+      → HasRooms asks seats rooms → room.items ≡ [] → asks_of (seat_name seat) asks ≤ vec_capacity room
+      → HasRooms asks (seats ++ seat ∷ []) (rooms ++ room ∷ [])
+  rooms-push asks [] [] seat room has empty fits = (empty, fits, tt)
+  rooms-push asks [] (r ∷ rooms) seat room has empty fits = absurd has
+  rooms-push asks (s ∷ seats) [] seat room has empty fits = absurd has
+  rooms-push asks (s ∷ seats) (r ∷ rooms) seat room has empty fits = (has.0, has.1, rooms-push asks seats rooms seat room has.2 empty fits)
+
+  -- ---- what is gathered
+
+  -- the posts before and behind, place by place, as one run for all
+  pub own_runs : (schema : DatabaseSchema) (world : FactSet) (header : List ℕ) (asks : List NamedAsk) (olds news : List (DeskPost D g h))
+      → length news ≡ length olds → AllByRecursion (λ (p : DeskPost D g h). IsSeatServed schema world header p.seat) olds
+      → ((k : ℕ) (d : DeskPost D g h) → k < length olds → RunsOwn asks (slice_index_or olds k d) (slice_index_or news k d))
+      → OwnRuns schema world 0 asks (map seat_of olds) (map seat_of news) (map (λ (p : DeskPost D g h). p.answers.items) news)
+  own_runs schema world header asks [] [] many served each = tt
+  own_runs schema world header asks [] (new ∷ news) many served each = absurd (omega (arith, many))
+  own_runs schema world header asks (old ∷ olds) [] many served each = absurd (omega (arith, many))
+  own_runs schema world header asks (old ∷ olds) (new ∷ news) many served each = (
+    each 0 old (omega arith) schema world header served.0,
+    own_runs schema world header asks olds news (omega (arith, many)) served.1 (λ k d low. each (suc k) d (omega (arith, low))),
+  )
+
+  pub served_posts : (schema : DatabaseSchema) (world : FactSet) (header : List ℕ) (posts : List (DeskPost D g h)) (seats : List (DeskSeat D g h))
+      → map seat_of posts ≡ seats → AllByRecursion (IsSeatServed schema world header) seats
+      → AllByRecursion (λ (p : DeskPost D g h). IsSeatServed schema world header p.seat) posts
+  served_posts schema world header [] seats same all = tt
+  served_posts schema world header (post ∷ posts) [] same all = absurd cc
+  served_posts schema world header (post ∷ posts) (seat ∷ seats) same all =
+      let head : post.seat ≡ seat = cc in
+      let tail : map seat_of posts ≡ seats = cc in
+      (subst (IsSeatServed schema world header) (sym head) all.0, served_posts schema world header posts seats tail all.1)
+
+  -- no answer is taken out of the lists of answers or put into them
+  pub all_are : (posts : List (DeskPost D g h)) → flat_map (λ (p : DeskPost D g h). p.answers.items) posts
+      ≡ all_of (map (λ (p : DeskPost D g h). p.answers.items) posts)
+  all_are [] = refl
+  all_are (post ∷ posts) = ap (λ l. post.answers.items ++ l) (all_are posts)
+
+  -- the names of the users stay
+  pub same_names : (posts : List (DeskPost D g h)) → names_of posts ≡ map seat_name (map seat_of posts)
+  same_names [] = refl
+  same_names (post ∷ posts) = ap (λ l. seat_name post.seat ∷ l) (same_names posts)
+
+  -- the asks of a stretch are answered, and these are the answers
+  pub are_answered : (schema : DatabaseSchema) (world : FactSet) (asks : List NamedAsk) (olds news : List (DeskSeat D g h)) (owns : List (List Answer))
+      (names : List Text) (answers : List Answer) → has_duplicate (map seat_name olds) ≡ false → names ≡ map seat_name olds
+      → OwnRuns schema world 0 asks olds news owns → answers ≡ strangers_from 0 asks names ++ all_of owns → AreAnswered schema world asks olds news answers
+  are_answered schema world asks olds news owns names answers distinct same runs are =
+      let all : Merged schema world 0 asks olds news owns = merged schema world asks 0 olds news owns distinct runs in
+      record {
+        replies = all.replies;
+        each = all.each;
+        all = subst (IsPermutation (answers_from 0 asks all.replies)) (sym (are ∙ ap (λ ns. strangers_from 0 asks ns ++ all_of owns) same)) all.moved;
+      }
+
+-- ---- the answers of a stretch, in order
+
+-- numbered lines, so many, whose numbers are those from the first on, lie below their count
+pub below_count : (number : ℕ) (asks : List NamedAsk) (replies : List (Option Reply))
+    → AllByRecursion (λ (a : Answer). a.number < number + length asks) (answers_from number asks replies)
+below_count number [] replies = tt
+below_count number (ask ∷ asks) [] = tt
+below_count number (ask ∷ asks) (reply ∷ replies) = (
+  omega arith,
+  subst (λ n. AllByRecursion (λ (a : Answer). a.number < n) (answers_from (number + 1) asks replies)) (omega arith) (below_count (number + 1) asks replies),
+)
+
+-- the lines of a stretch whose asks were answered, in the order of the script, of which these are the answers in some order
+pub record InOrder (schema : DatabaseSchema) (world : FactSet) (header : List ℕ) {D : Type 0} {g h : _} (told : Type 0) (Disk : DiskGhosts D)
+    (asks : List NamedAsk) (old new : List (DeskSeat D g h)) (answers : List Answer) : Type 0 where
+  pub lines : List Answer
+  pub numbered : AreNumbered lines
+  pub below : All (λ (a : Answer). a.number < length asks) lines
+  pub moved : IsPermutation lines answers
+  pub runs : Runs schema world header told Disk (map asked asks) old (output_bytes lines) new (says_broken answers)
+
+pub in_lines : (schema : DatabaseSchema) (world : FactSet) (header : List ℕ) {D : Type 0} {g h : _} (told : Type 0) (Disk : DiskGhosts D)
+    (asks : List NamedAsk) (old new : List (DeskSeat D g h)) (answers : List Answer) → AreAnswered schema world asks old new answers
+    → InOrder schema world header told Disk asks old new answers
+in_lines schema world header told Disk asks old new answers all = record {
+  lines = answers_from 0 asks all.replies;
+  numbered = answers_numbered 0 asks all.replies;
+  below = All-from_recursion (λ (a : Answer). a.number < length asks) (answers_from 0 asks all.replies) (below_count 0 asks all.replies);
+  moved = all.all;
+  runs = subst (Runs schema world header told Disk (map asked asks) old (output_bytes (answers_from 0 asks all.replies)) new)
+      (list_any-IsPermutation (λ (a : Answer). a.is_broken) (answers_from 0 asks all.replies) answers all.all)
+      (told_runs schema world header told Disk 0 asks old new all.replies all.each);
+}
+
+-- with the line of the restart behind them
+pub with_restart : (lines : List Answer) (count : ℕ) → AreNumbered lines → AllByRecursion (λ (a : Answer). a.number < count) lines
+    → AreNumbered (lines ++ restarted_at count ∷ [])
+with_restart [] count are below = (All-nil (λ (a : Answer). count < a.number), tt)
+with_restart (line ∷ lines) count are below = (
+  All-push (λ (a : Answer). line.number < a.number) lines (restarted_at count) are.0 below.0,
+  with_restart lines count are.1 below.1,
+)
