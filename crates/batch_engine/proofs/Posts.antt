@@ -1,14 +1,12 @@
 -- The users of a stretch at their posts: their rooms, their answers, and what is gathered of them.
-use Rattle.std.proofs.Common.{◌≡◌, ◌⊎◌, ℕ, zero, suc, ◌+◌, ◌<◌, ◌≤◌, Bool, true, false, List, [], ◌∷◌, ◌++◌, length, take, drop, get_or, map, All, refl, sym, ap, subst, ◌∙◌, arith}
-use Rattle.std.specs.Prelude.{bytes_eq, if◌then◌else◌, Vec, vec_capacity, slice_index_or, sum_by}
-use Rattle.std.specs.List.{flat_map, list_any, AllByRecursion}
+use Rattle.std.proofs.Common.{◌≡◌, ℕ, suc, ◌+◌, ◌<◌, ◌≤◌, Bool, true, false, List, [], ◌∷◌, ◌++◌, length, map, All, refl, sym, ap, subst, ◌∙◌, append-nil, arith}
+use Rattle.std.specs.Prelude.{bytes_eq, if◌then◌else◌, Vec, vec_capacity, slice_index_or}
+use Rattle.std.specs.List.{flat_map, AllByRecursion}
 use Rattle.std.specs.declared.alloc.Global.{Global}
-use Rattle.std.proofs.lemmas.List.{take_more, map-append}
 use Rattle.std.specs.List.Sorted.{IsPermutation}
 use Rattle.cqe_base.specs.Schema.{Text, DatabaseSchema, has_duplicate}
 use Rattle.cqe_base.specs.Facts.{FactSet}
-use Rattle.cqe_base.specs.History.{profile_of}
-use Rattle.desk_crew.specs.Crew.{seat_user, seat_name, seat_kept, IsSeatServed}
+use Rattle.desk_crew.specs.Crew.{seat_name, IsSeatServed}
 use Rattle.desk_crew.specs.Seats.{DeskSeat}
 use Rattle.batch_engine.specs.BatchLines.{NamedAsk}
 use Rattle.outside.specs.declared.disk.Disk.{Ghosts as DiskGhosts}
@@ -19,7 +17,8 @@ use Rattle.std.proofs.lemmas.List.Sorted.{list_any-IsPermutation}
 use Rattle.batch_engine.specs.Answers.{OwnRun, asks_of, answers_from, strangers_from, restarted_at, output_bytes, says_broken}
 use Rattle.batch_engine.specs.BatchLines.{asked}
 use Rattle.batch_engine.specs.Ordered.{AreNumbered}
-use Rattle.batch_engine.specs.Steps.{Runs}
+use Rattle.batch_engine.specs.Steps.{Runs, restart_bytes}
+use Rattle.batch_engine.proofs.Seating.{flat_map-append}
 use Rattle.batch_engine.specs.Posts.{DeskPost, HasRoom, HasRooms, RunsOwn, AreAnswered, seat_of, names_of}
 use Rattle.batch_engine.specs.declared.answer.Answer.{Answer}
 use Rattle.batch_engine.proofs.Merging.{OwnRuns, Merged, merged, all_of, told_runs, answers_numbered}
@@ -142,3 +141,8 @@ with_restart (line ∷ lines) count are below = (
   All-push (λ (a : Answer). line.number < a.number) lines (restarted_at count) are.0 below.0,
   with_restart lines count are.1 below.1,
 )
+
+-- and the bytes of its line
+pub output_last : (lines : List Answer) (count : ℕ) → output_bytes (lines ++ restarted_at count ∷ []) ≡ output_bytes lines ++ restart_bytes true
+output_last lines count =
+    flat_map-append (λ (a : Answer). a.line) lines (restarted_at count ∷ []) ∙ ap (λ l. output_bytes lines ++ l) (append-nil (restart_bytes true))

@@ -24,7 +24,9 @@ use Rattle.batch_engine.specs.Batches.{ask_in, stretch_in, stretches_in, items_i
 use Rattle.batch_engine.specs.declared.batch.BatchAsk.{BatchAsk}
 use Rattle.batch_engine.proofs.Batches.{stretches-append}
 use Rattle.desk_counter.specs.declared.item.Fixed.{Fixed}
-use Rattle.desk_crew.specs.Crew.{seat_user, seat_journal, seat_disk, IsSeatServed, AreReopened, Tells, nobody, here, further}
+use Rattle.std.specs.Prelude.{string_bytes}
+use Rattle.cqe_base.specs.declared.user.User.{User}
+use Rattle.desk_crew.specs.Crew.{seat_user, seat_name, seat_journal, seat_disk, IsSeatServed, AreReopened, Tells, nobody, here, further}
 use Rattle.desk_crew.specs.Shelved.{journals, AreLater}
 use Rattle.batch_engine.specs.Steps.{restart_bytes, MaybeReopened, Carries, Runs, nothing, more, RunsAll, RunsSome, RunsTo}
 use Rattle.desk_crew.proofs.Asking.{still_served}
@@ -43,16 +45,18 @@ module _ (schema : DatabaseSchema) (world : FactSet) (header : List ℕ) {D : Ty
   -- what stays of the seats: their journals, and with their users their limits; and their counts didn't fall
   pub record Stay (old new : List (DeskSeat D g h)) : Type 0 where
     pub names : journals new ≡ journals old
+    pub users : map seat_name new ≡ map seat_name old
     pub limits : Limits old → Limits new
     pub served : AllByRecursion (IsSeatServed schema world header) old → AllByRecursion (IsSeatServed schema world header) new
     pub later : (count : Text → ℕ) → AreLater Disk.faults count old → AreLater Disk.faults count new
 
   stay : (seats : List (DeskSeat D g h)) → Stay seats seats
-  stay seats = record { names = refl; limits = λ l. l; served = λ s. s; later = λ count l. l }
+  stay seats = record { names = refl; users = refl; limits = λ l. l; served = λ s. s; later = λ count l. l }
 
   stay_on : (a b c : List (DeskSeat D g h)) → Stay a b → Stay b c → Stay a c
   stay_on a b c first second = record {
     names = second.names ∙ first.names;
+    users = second.users ∙ first.users;
     limits = λ l. second.limits (first.limits l);
     served = λ s. second.served (first.served s);
     later = λ count l. second.later count (first.later count l);
@@ -72,6 +76,7 @@ module _ (schema : DatabaseSchema) (world : FactSet) (header : List ℕ) {D : Ty
       let kept = answer.kept_is in
       record {
         names = ap (λ j. j ∷ journals others) answer.journal_is;
+        users = ap (λ (u : User). string_bytes u.name ∷ map seat_name others) answer.user_is;
         limits = λ l. (limit_at first next answer.user_is l.0, l.1);
         served = λ s. (still_served schema world header first next text _ answer s.0, s.1);
         later = λ count l. (
@@ -84,6 +89,7 @@ module _ (schema : DatabaseSchema) (world : FactSet) (header : List ℕ) {D : Ty
       let tail : Stay others after = stay_told name text others after told_reply rest in
       record {
         names = ap (λ js. seat_journal seat ∷ js) tail.names;
+        users = ap (λ ns. seat_name seat ∷ ns) tail.users;
         limits = λ l. (l.0, tail.limits l.1);
         served = λ s. (s.0, tail.served s.1);
         later = λ count l. (l.0, tail.later count l.1);
@@ -97,6 +103,7 @@ module _ (schema : DatabaseSchema) (world : FactSet) (header : List ℕ) {D : Ty
       let tail : Stay old new = stay_reopened old new are.1 in
       record {
         names = ap (λ j. j ∷ journals new) are.0.journal_is ∙ ap (λ js. seat_journal o ∷ js) tail.names;
+        users = ap (λ (u : User). string_bytes u.name ∷ map seat_name new) are.0.user_is ∙ ap (λ ns. seat_name o ∷ ns) tail.users;
         limits = λ l. (limit_at o n are.0.user_is l.0, tail.limits l.1);
         served = λ s. (are.0.opened.served, tail.served s.1);
         later = λ count l.

@@ -3,7 +3,6 @@ use Rattle.std.specs.Prelude.{vec_capacity}
 use Rattle.std.proofs.lemmas.List.{take_all}
 use Rattle.std.proofs.Math.Bool.{or-false}
 use Rattle.outside.proofs.Rises.{rose_wide}
-use Rattle.outside.specs.Streams.{AppendsPart}
 use Rattle.cqe_base.specs.Schema.{has_duplicate}
 use Rattle.log_journal.specs.Opening.{header_bytes}
 use Rattle.outside.specs.Shelf.{SameBeside, AllOut, AllIn}
@@ -11,11 +10,14 @@ use Rattle.desk_crew.specs.Shelved.{journals, AreLater}
 use Rattle.desk_crew.proofs.Opening.{length-journals}
 use Rattle.batch_engine.specs.BatchLines.{restarted}
 use Rattle.batch_engine.specs.BatchOf.{items_of, ended_of, last_of}
-use Rattle.batch_engine.specs.Batches.{AreShort, stretch_in, stretches_in, items_in}
-use Rattle.batch_engine.specs.Outputs.{output_bytes}
+use Rattle.batch_engine.specs.Batches.{AreShort, asks_in, stretch_in, stretches_in, items_in}
+use Rattle.batch_engine.specs.Answers.{output_bytes, says_broken}
+use Rattle.batch_engine.specs.Posts.{AreAnswered}
+use Rattle.batch_engine.proofs.Posts.{InOrder, in_lines}
 use Rattle.batch_engine.specs.Steps.{Runs, RunsAll, restart_bytes}
-use Rattle.batch_engine.proofs.Running.{Stay, stay_run, runs_then, all_first, all_more, some_cut, cut_off, before_restart, to_restart, restarted_more}
+use Rattle.batch_engine.proofs.Running.{Stay, stay_run, runs_then, all_first, all_more, some_cut, cut_off, no_memory, to_here, to_unwritten, restarted_more}
 use Rattle.batch_engine.proofs.Running.{asks_one, ended_one, stretch_split, stretches_more, asks_at}
+use Rattle.batch_engine.proofs.run.answer_all.Given.{Over}
 use Rattle.batch_engine.proofs.run.answer_all.Goals.{then-is_broken, else-is_broken}
 use Rattle.batch_engine.proofs.run.answer_all.Goals as goal
 
@@ -28,19 +30,19 @@ loop-asks-init g c =
           (g.K.Sink.written c.args.sink.now);
       same = refl;
       later = omega arith;
-      room = refl;
+      named = refl;
     }
 
 -- ---- a stretch that a restart ends: its asks
 
-pub answer_stretch-says_broken-requires-clause-short : goal.answer_stretch-says_broken-requires-clause-short
-answer_stretch-says_broken-requires-clause-short g c =
-    subst AreShort (sym c.as_slice.ensures.value)
+pub answer_stretch-requires-clause-short : goal.answer_stretch-requires-clause-short
+answer_stretch-requires-clause-short g c κs within =
+    subst AreShort (sym c.as_slice-asks.ensures.value)
     (asks_at AreShort c.ended-asks-ended.result.now c.loop-asks.asks-index c.asks-item.result c.loop-asks-test.true c.asks-item.is
     c.ended-asks-ended.ensures.short)
 
-pub answer_stretch-says_broken-requires-clause-served : goal.answer_stretch-says_broken-requires-clause-served
-answer_stretch-says_broken-requires-clause-served g c =
+pub answer_stretch-requires-clause-served : goal.answer_stretch-requires-clause-served
+answer_stretch-requires-clause-served g c κs within =
     let stay = stay_run _ _ _ _ _ _ _ _ _ _ c.loop-asks.invariant.so_far.runs in (
       c.args.registry.now.schema.now,
       c.args.registry.now.world.now,
@@ -48,95 +50,110 @@ answer_stretch-says_broken-requires-clause-served g c =
       stay.served c.requires.served,
     )
 
-pub answer_stretch-says_broken-requires-clause-room : goal.answer_stretch-says_broken-requires-clause-room
-answer_stretch-says_broken-requires-clause-room g c =
-    let small = asks_at (λ asks. length asks < vec_capacity c.args.rooms.1) (ended_of c.args.batch.now) c.loop-asks.asks-index c.asks-item.result
-    c.loop-asks-test.true c.asks-item.is c.requires.ended in
-    let room = c.loop-asks.invariant.room in
-    omega (arith, small, room, ap length c.as_slice.ensures.value)
+pub answer_stretch-requires-clause-distinct : goal.answer_stretch-requires-clause-distinct
+answer_stretch-requires-clause-distinct g c κs within = ap has_duplicate c.loop-asks.invariant.named ∙ c.requires.names
 
--- what it did to the seats
-runs : (g : _) (c : goal.After-answer_stretch-says_broken g)
-    → Runs c.args.registry.now.schema.now c.args.registry.now.world.now (header_bytes c.args.registry.now.header.now) g.F.D.Disk.tells g.F.D.Disk
-    (stretch_in c.asks-item.result.items) c.loop-asks.seats.items (output_bytes c.answer_stretch-says_broken.new.lines.items)
-    c.answer_stretch-says_broken.new.seats.items c.answer_stretch-says_broken.result
-runs g c =
+-- what it did to the seats, and its lines in order
+order : (g : Over) (c : goal.In-Ok-answer_stretch g)
+    → InOrder c.args.registry.now.schema.now c.args.registry.now.world.now (header_bytes c.args.registry.now.header.now) g.F.D.Disk.tells g.F.D.Disk
+    (asks_in c.asks-item.result.items) c.loop-asks.seats.items c.in-Ok-answer_stretch.told.0.items c.in-Ok-answer_stretch.told.1.items
+order g c =
     let stay = stay_run _ _ _ _ _ _ _ _ _ _ c.loop-asks.invariant.so_far.runs in
-    subst (λ l. Runs c.args.registry.now.schema.now c.args.registry.now.world.now (header_bytes c.args.registry.now.header.now) g.F.D.Disk.tells g.F.D.Disk
-    (stretch_in l) c.loop-asks.seats.items (output_bytes c.answer_stretch-says_broken.new.lines.items)
-    c.answer_stretch-says_broken.new.seats.items c.answer_stretch-says_broken.result) c.as_slice.ensures.value
-    (c.answer_stretch-says_broken.ensures.answered c.args.registry.now.schema.now c.args.registry.now.world.now
-    (header_bytes c.args.registry.now.header.now) (stay.served c.requires.served))
+    in_lines c.args.registry.now.schema.now c.args.registry.now.world.now (header_bytes c.args.registry.now.header.now) g.F.D.Disk.tells g.F.D.Disk
+    (asks_in c.asks-item.result.items) c.loop-asks.seats.items c.in-Ok-answer_stretch.told.0.items c.in-Ok-answer_stretch.told.1.items
+    (subst (λ l. AreAnswered c.args.registry.now.schema.now c.args.registry.now.world.now (asks_in l) c.loop-asks.seats.items
+    c.in-Ok-answer_stretch.told.0.items c.in-Ok-answer_stretch.told.1.items) c.as_slice-asks.ensures.value
+    (c.in-Ok-answer_stretch.ensures.answered c.args.registry.now.schema.now c.args.registry.now.world.now
+    (header_bytes c.args.registry.now.header.now) (stay.served c.requires.served)))
+
+runs : (g : Over) (c : goal.After-says_broken-says_broken g)
+    → Runs c.args.registry.now.schema.now c.args.registry.now.world.now (header_bytes c.args.registry.now.header.now) g.F.D.Disk.tells g.F.D.Disk
+    (stretch_in c.asks-item.result.items) c.loop-asks.seats.items (output_bytes (order g c.In-Ok-answer_stretch).lines)
+    c.in-Ok-answer_stretch.told.0.items c.says_broken-says_broken.result
+runs g c =
+    subst (Runs c.args.registry.now.schema.now c.args.registry.now.world.now (header_bytes c.args.registry.now.header.now) g.F.D.Disk.tells g.F.D.Disk
+    (stretch_in c.asks-item.result.items) c.loop-asks.seats.items (output_bytes (order g c.In-Ok-answer_stretch).lines)
+    c.in-Ok-answer_stretch.told.0.items)
+    (sym (c.says_broken-says_broken.ensures ∙ ap says_broken c.as_slice.ensures.value)) (order g c.In-Ok-answer_stretch).runs
+
+-- what the end of the stretch says of its lines
+ended : (g : Over) (c : goal.After-restart g) → _
+ended g c =
+    let o = order g c.In-Ok-answer_stretch in
+    c.restart.ensures.ended o.lines o.numbered
+    (subst (λ n. All (λ a. a.number < n) o.lines) (ap length (sym c.as_slice-asks.ensures.value) ∙ sym c.len.ensures) o.below) o.moved
 
 -- ---- its restart
 
 -- what stays of the first seats
-stay : (g : _) (c : goal.After-answer_stretch-says_broken g)
+stay : (g : Over) (c : goal.After-says_broken-says_broken g)
     → Stay c.args.registry.now.schema.now c.args.registry.now.world.now (header_bytes c.args.registry.now.header.now) g.F.D.Disk.tells g.F.D.Disk
-    c.args.seats.items c.answer_stretch-says_broken.new.seats.items
+    c.args.seats.items c.in-Ok-answer_stretch.told.0.items
 stay g c =
     stay_run _ _ _ _ _ _ _ _ _ _
-    (runs_then _ _ _ g.F.D.Disk.tells g.F.D.Disk _ _ c.args.seats.items c.loop-asks.seats.items c.answer_stretch-says_broken.new.seats.items _ _ _ _
+    (runs_then _ _ _ g.F.D.Disk.tells g.F.D.Disk _ _ c.args.seats.items c.loop-asks.seats.items c.in-Ok-answer_stretch.told.0.items _ _ _ _
     c.loop-asks.invariant.so_far.runs (runs g c))
 
 pub restart-requires-clause-limits : goal.restart-requires-clause-limits
-restart-requires-clause-limits g c = (stay g c.After-answer_stretch-says_broken).limits c.requires.limits
+restart-requires-clause-limits g c = (stay g c.After-says_broken-says_broken).limits c.requires.limits
 
 pub restart-requires-clause-served : goal.restart-requires-clause-served
-restart-requires-clause-served g c = (stay g c.After-answer_stretch-says_broken).served c.requires.served
+restart-requires-clause-served g c = (stay g c.After-says_broken-says_broken).served c.requires.served
 
 pub restart-requires-clause-distinct : goal.restart-requires-clause-distinct
-restart-requires-clause-distinct g c = ap has_duplicate (stay g c.After-answer_stretch-says_broken).names ∙ c.requires.distinct
+restart-requires-clause-distinct g c = ap has_duplicate (stay g c.After-says_broken-says_broken).names ∙ c.requires.distinct
 
 pub restart-requires-clause-out : goal.restart-requires-clause-out
 restart-requires-clause-out g c =
-    subst (λ s. AllOut (journals c.answer_stretch-says_broken.new.seats.items) (g.F.Shelf.is_out s)) (sym c.loop-asks.invariant.same)
-    (subst (λ ns. AllOut ns (g.F.Shelf.is_out c.args.shelf.now)) (sym (stay g c.After-answer_stretch-says_broken).names) c.requires.out)
+    subst (λ s. AllOut (journals c.in-Ok-answer_stretch.told.0.items) (g.F.Shelf.is_out s)) (sym c.loop-asks.invariant.same)
+    (subst (λ ns. AllOut ns (g.F.Shelf.is_out c.args.shelf.now)) (sym (stay g c.After-says_broken-says_broken).names) c.requires.out)
 
 pub restart-requires-clause-later : goal.restart-requires-clause-later
 restart-requires-clause-later g c =
-    (stay g c.After-answer_stretch-says_broken).later (g.F.Shelf.disk_faults c.loop-asks.shelf)
+    (stay g c.After-says_broken-says_broken).later (g.F.Shelf.disk_faults c.loop-asks.shelf)
     (subst (λ s. AreLater g.F.D.Disk.faults (g.F.Shelf.disk_faults s) c.args.seats.items) (sym c.loop-asks.invariant.same) c.requires.later)
 
 -- it went on
 pub loop-asks-preserved : goal.loop-asks-preserved
 loop-asks-preserved g c =
     let so_far = c.loop-asks.invariant.so_far in
-    let ended = c.ended-asks-ended.result.now in
+    let stretches = c.ended-asks-ended.result.now in
     let i = c.loop-asks.asks-index in
-    let joined : c.if-is_broken.is_broken ≡ (c.loop-asks.is_broken || c.answer_stretch-says_broken.result) =
+    let joined : c.if-is_broken.is_broken ≡ (c.loop-asks.is_broken || c.says_broken-says_broken.result) =
     elim c.if-is_broken.branch [
       | then-is_broken w ↦ w.is_broken-is ∙ w.if-is_broken.true
-          ∙ sym (ap (λ b. b || c.answer_stretch-says_broken.result) w.if-is_broken.true)
+          ∙ sym (ap (λ b. b || c.says_broken-says_broken.result) w.if-is_broken.true)
       | else-is_broken w ↦ w.is_broken-is
-          ∙ sym (ap (λ b. b || c.answer_stretch-says_broken.result) w.if-is_broken.false)
+          ∙ sym (ap (λ b. b || c.says_broken-says_broken.result) w.if-is_broken.false)
     ] in
     let before = c.loop-asks.invariant.later in
     let on = c.restart.ensures.sink_later in
-    let again = c.in-Again.ensures.ended in
+    let again = ended g c.After-restart in
     record {
       so_far = subst (λ l.
           RunsAll c.args.registry.now.schema.now c.args.registry.now.world.now
           (header_bytes c.args.registry.now.header.now) g.F.D.Disk.tells g.F.D.Disk g.K.Sink.tells l
           c.args.seats.items c.in-Again.next.items c.if-is_broken.is_broken (g.K.Sink.written c.args.sink.now) (g.K.Sink.written c.restart.new.sink))
-          (sym (stretches_more ended i c.asks-item.result c.loop-asks-test.true c.asks-item.is))
+          (sym (stretches_more stretches i c.asks-item.result c.loop-asks-test.true c.asks-item.is))
           (all_more c.args.registry.now.schema.now c.args.registry.now.world.now
           (header_bytes c.args.registry.now.header.now) g.F.D.Disk.tells g.F.D.Disk g.K.Sink.tells
-          (stretches_in (take i ended)) (stretch_in c.asks-item.result.items ++ restarted ∷ []) c.args.seats.items c.loop-asks.seats.items
-          c.in-Again.next.items c.loop-asks.is_broken (c.answer_stretch-says_broken.result || false) c.if-is_broken.is_broken _ _ _
-          (output_bytes c.answer_stretch-says_broken.new.lines.items ++ restart_bytes true)
-          (joined ∙ ap (λ b. c.loop-asks.is_broken || b) (sym (or-false c.answer_stretch-says_broken.result))) so_far
+          (stretches_in (take i stretches)) (stretch_in c.asks-item.result.items ++ restarted ∷ []) c.args.seats.items c.loop-asks.seats.items
+          c.in-Again.next.items c.loop-asks.is_broken (c.says_broken-says_broken.result || false) c.if-is_broken.is_broken _ _ _
+          (output_bytes (order g c.In-Ok-answer_stretch).lines ++ restart_bytes true)
+          (joined ∙ ap (λ b. c.loop-asks.is_broken || b) (sym (or-false c.says_broken-says_broken.result))) so_far
           (restarted_more c.args.registry.now.schema.now c.args.registry.now.world.now
           (header_bytes c.args.registry.now.header.now) g.F.D.Disk.tells g.F.D.Disk (stretch_in c.asks-item.result.items) c.loop-asks.seats.items
-          c.answer_stretch-says_broken.new.seats.items c.in-Again.next.items (output_bytes c.answer_stretch-says_broken.new.lines.items)
-          c.answer_stretch-says_broken.result (runs g c.After-answer_stretch-says_broken) again.0) again.1);
+          c.in-Ok-answer_stretch.told.0.items c.in-Again.next.items (output_bytes (order g c.In-Ok-answer_stretch).lines)
+          c.says_broken-says_broken.result (runs g c.After-says_broken-says_broken) again.0) again.1);
       same = c.restart.ensures.untouched tt ∙ c.loop-asks.invariant.same;
       later = omega (arith, before, on);
-      room = c.restart.ensures.capacity ∙ c.answer_stretch-says_broken.ensures.capacity ∙ c.loop-asks.invariant.room;
+      named = (stay_run _ _ _ _ _ _ _ _ _ _ (all_more _ _ _ g.F.D.Disk.tells g.F.D.Disk g.K.Sink.tells (stretches_in (take i stretches))
+          (stretch_in c.asks-item.result.items ++ restarted ∷ []) c.args.seats.items c.loop-asks.seats.items c.in-Again.next.items _ _ _ _ _ _ _ ? so_far ?
+          again.1).runs).users;
     }
 
 -- the items of the batch: those of the stretches so far, of this one with its restart, and the others
-items_here : (g : _) (c : goal.After-answer_stretch-says_broken g)
+items_here : (g : Over) (c : goal.After-says_broken-says_broken g)
     → items_of c.args.batch.now
     ≡ (stretches_in (take c.loop-asks.asks-index c.ended-asks-ended.result.now) ++ (stretch_in c.asks-item.result.items ++ restarted ∷ []))
     ++ items_in (drop (c.loop-asks.asks-index + 1) c.ended-asks-ended.result.now) (last_of c.args.batch.now)
@@ -147,15 +164,15 @@ items_here g c =
 -- a write failed, behind the restart or without it
 pub returns-in-CutOff-clause-answered : goal.returns-in-CutOff-clause-answered
 returns-in-CutOff-clause-answered g c =
-    let cut = c.in-CutOff.ensures.ended in (
+    let cut = ended g c.After-restart in (
       cut.1,
       cut_off c.args.registry.now.schema.now c.args.registry.now.world.now
           (header_bytes c.args.registry.now.header.now) g.F.D.Disk.tells g.F.D.Disk g.K.Sink.tells (items_of c.args.batch.now)
           (stretches_in (take c.loop-asks.asks-index c.ended-asks-ended.result.now)) (stretch_in c.asks-item.result.items)
           (items_in (drop (c.loop-asks.asks-index + 1) c.ended-asks-ended.result.now) (last_of c.args.batch.now)) c.args.seats.items c.loop-asks.seats.items
-          c.answer_stretch-says_broken.new.seats.items c.loop-asks.is_broken c.answer_stretch-says_broken.result _ _ _
-          (output_bytes c.answer_stretch-says_broken.new.lines.items) (items_here g c.After-answer_stretch-says_broken) (asks_one c.asks-item.result.items)
-          (ended_one c.asks-item.result.items) c.loop-asks.invariant.so_far (runs g c.After-answer_stretch-says_broken) cut.0 cut.1 cut.2 cut.4,
+          c.in-Ok-answer_stretch.told.0.items c.loop-asks.is_broken c.says_broken-says_broken.result _ _ _
+          (output_bytes (order g c.In-Ok-answer_stretch).lines) (items_here g c.After-says_broken-says_broken) (asks_one c.asks-item.result.items)
+          (ended_one c.asks-item.result.items) c.loop-asks.invariant.so_far (runs g c.After-says_broken-says_broken) cut.0 cut.1 cut.2 cut.4,
       cut.3,
     )
 
@@ -167,93 +184,90 @@ returns-in-CutOff-clause-cause g c =
 -- memory was wanting at the restart
 pub returns-in-NoMemory-clause-answered : goal.returns-in-NoMemory-clause-answered
 returns-in-NoMemory-clause-answered g c =
-    let ended = c.in-NoMemory.ensures.ended in
-    let asks = stretch_in c.asks-item.result.items in
-    let done = stretches_in (take c.loop-asks.asks-index c.ended-asks-ended.result.now) in
-    let others = items_in (drop (c.loop-asks.asks-index + 1) c.ended-asks-ended.result.now) (last_of c.args.batch.now) in (
-      c.answer_stretch-says_broken.new.seats.items,
-      to_restart c.args.registry.now.schema.now c.args.registry.now.world.now
-          (header_bytes c.args.registry.now.header.now) g.F.D.Disk.tells g.F.D.Disk g.K.Sink.tells (items_of c.args.batch.now) (done ++ asks) others
-          c.args.seats.items c.answer_stretch-says_broken.new.seats.items (c.loop-asks.is_broken || c.answer_stretch-says_broken.result) _ _
-          (before_restart (items_of c.args.batch.now) done asks others (items_here g c.After-answer_stretch-says_broken))
-          (all_more c.args.registry.now.schema.now c.args.registry.now.world.now
-          (header_bytes c.args.registry.now.header.now) g.F.D.Disk.tells g.F.D.Disk g.K.Sink.tells done asks c.args.seats.items c.loop-asks.seats.items
-          c.answer_stretch-says_broken.new.seats.items c.loop-asks.is_broken c.answer_stretch-says_broken.result _ _ _ _
-          (output_bytes c.answer_stretch-says_broken.new.lines.items) refl c.loop-asks.invariant.so_far (runs g c.After-answer_stretch-says_broken) ended.1),
-      ended.0,
+    let at = ended g c.After-restart in (
+      at.1,
+      no_memory c.args.registry.now.schema.now c.args.registry.now.world.now
+          (header_bytes c.args.registry.now.header.now) g.F.D.Disk.tells g.F.D.Disk g.K.Sink.tells (items_of c.args.batch.now)
+          (stretches_in (take c.loop-asks.asks-index c.ended-asks-ended.result.now)) (stretch_in c.asks-item.result.items)
+          (items_in (drop (c.loop-asks.asks-index + 1) c.ended-asks-ended.result.now) (last_of c.args.batch.now)) c.args.seats.items c.loop-asks.seats.items
+          c.in-Ok-answer_stretch.told.0.items c.loop-asks.is_broken c.says_broken-says_broken.result _ _ _
+          (output_bytes (order g c.In-Ok-answer_stretch).lines) (items_here g c.After-says_broken-says_broken) (asks_one c.asks-item.result.items)
+          (ended_one c.asks-item.result.items) c.loop-asks.invariant.so_far (runs g c.After-says_broken-says_broken) at.0 at.1 at.2 at.4 at.5 at.6,
+      at.3,
     )
+
+-- memory was wanting before the first ask of the stretch: `to_here` at the stretches so far, with `c.give_back.ensures.back`
+pub returns-in-Err-answer_stretch-clause-answered : goal.returns-in-Err-answer_stretch-clause-answered
+returns-in-Err-answer_stretch-clause-answered g c = (
+  c.in-Err-answer_stretch.seats.items,
+  to_here c.args.registry.now.schema.now c.args.registry.now.world.now
+      (header_bytes c.args.registry.now.header.now) g.F.D.Disk.tells g.F.D.Disk g.K.Sink.tells (items_of c.args.batch.now)
+      (stretches_in (take c.loop-asks.asks-index c.ended-asks-ended.result.now)) ? c.args.seats.items c.in-Err-answer_stretch.seats.items
+      c.loop-asks.is_broken _ _ ? (subst (λ n. RunsAll _ _ _ g.F.D.Disk.tells g.F.D.Disk g.K.Sink.tells _ c.args.seats.items n c.loop-asks.is_broken _ _)
+      (sym (ap (λ v. v.items) c.in-Err-answer_stretch.ensures.refused)) c.loop-asks.invariant.so_far),
+  c.give_back.ensures.back,
+)
 
 -- the clauses on the shelf where it didn't go on: `inside`, `others_out`, `counts` and `disks` of `in-CutOff` and of `in-NoMemory` each, as
 pub returns-in-CutOff-clause-inside : goal.returns-in-CutOff-clause-inside
 returns-in-CutOff-clause-inside g c =
-    subst (λ ns. AllIn ns (g.F.Shelf.is_out c.restart.new.shelf)) (stay g c.After-answer_stretch-says_broken).names (c.restart.ensures.inside (λ none. none))
+    subst (λ ns. AllIn ns (g.F.Shelf.is_out c.restart.new.shelf)) (stay g c.After-says_broken-says_broken).names (c.restart.ensures.inside (λ none. none))
 
 pub returns-in-CutOff-clause-others_out : goal.returns-in-CutOff-clause-others_out
 returns-in-CutOff-clause-others_out g c =
-    subst (λ ns. SameBeside ns (g.F.Shelf.is_out c.args.shelf.now) (g.F.Shelf.is_out c.restart.new.shelf)) (stay g c.After-answer_stretch-says_broken).names
-    (subst (λ s. SameBeside (journals c.answer_stretch-says_broken.new.seats.items) (g.F.Shelf.is_out s) (g.F.Shelf.is_out c.restart.new.shelf))
+    subst (λ ns. SameBeside ns (g.F.Shelf.is_out c.args.shelf.now) (g.F.Shelf.is_out c.restart.new.shelf)) (stay g c.After-says_broken-says_broken).names
+    (subst (λ s. SameBeside (journals c.in-Ok-answer_stretch.told.0.items) (g.F.Shelf.is_out s) (g.F.Shelf.is_out c.restart.new.shelf))
     c.loop-asks.invariant.same c.restart.ensures.others_out)
 
 pub returns-in-CutOff-clause-counts : goal.returns-in-CutOff-clause-counts
 returns-in-CutOff-clause-counts g c =
     subst (λ ns. SameBeside ns (g.F.Shelf.disk_faults c.args.shelf.now) (g.F.Shelf.disk_faults c.restart.new.shelf))
-    (stay g c.After-answer_stretch-says_broken).names
-    (subst (λ s. SameBeside (journals c.answer_stretch-says_broken.new.seats.items) (g.F.Shelf.disk_faults s) (g.F.Shelf.disk_faults c.restart.new.shelf))
+    (stay g c.After-says_broken-says_broken).names
+    (subst (λ s. SameBeside (journals c.in-Ok-answer_stretch.told.0.items) (g.F.Shelf.disk_faults s) (g.F.Shelf.disk_faults c.restart.new.shelf))
     c.loop-asks.invariant.same c.restart.ensures.counts)
 
 pub returns-in-CutOff-clause-disks : goal.returns-in-CutOff-clause-disks
 returns-in-CutOff-clause-disks g c =
-    subst (λ ns. SameBeside ns (g.F.Shelf.disk c.args.shelf.now) (g.F.Shelf.disk c.restart.new.shelf)) (stay g c.After-answer_stretch-says_broken).names
-    (subst (λ s. SameBeside (journals c.answer_stretch-says_broken.new.seats.items) (g.F.Shelf.disk s) (g.F.Shelf.disk c.restart.new.shelf))
+    subst (λ ns. SameBeside ns (g.F.Shelf.disk c.args.shelf.now) (g.F.Shelf.disk c.restart.new.shelf)) (stay g c.After-says_broken-says_broken).names
+    (subst (λ s. SameBeside (journals c.in-Ok-answer_stretch.told.0.items) (g.F.Shelf.disk s) (g.F.Shelf.disk c.restart.new.shelf))
     c.loop-asks.invariant.same c.restart.ensures.disks)
 
 -- ---- the last stretch
 
-last_runs : (g : _) (c : goal.After-answer_stretch-says_broken-2 g)
+-- the same of the last stretch: `last_order` and `last_runs` as `order` and `runs`, by `c.last.ensures.stretch` in the place of
+-- `c.as_slice-asks.ensures.value`
+last_order : (g : Over) (c : goal.In-Ok-answer_stretch-2 g)
+    → InOrder c.args.registry.now.schema.now c.args.registry.now.world.now (header_bytes c.args.registry.now.header.now) g.F.D.Disk.tells g.F.D.Disk
+    (asks_in (last_of c.args.batch.now)) c.loop-asks.seats.items c.in-Ok-answer_stretch-2.told.0.items c.in-Ok-answer_stretch-2.told.1.items
+last_order g c = ?
+
+last_runs : (g : Over) (c : goal.After-says_broken-says_broken-2 g)
     → Runs c.args.registry.now.schema.now c.args.registry.now.world.now (header_bytes c.args.registry.now.header.now) g.F.D.Disk.tells g.F.D.Disk
-    (stretch_in (last_of c.args.batch.now)) c.loop-asks.seats.items (output_bytes c.answer_stretch-says_broken-2.new.lines.items)
-    c.answer_stretch-says_broken-2.new.seats.items c.answer_stretch-says_broken-2.result
-last_runs g c =
-    let stay = stay_run _ _ _ _ _ _ _ _ _ _ c.loop-asks.invariant.so_far.runs in
-    subst (λ l. Runs c.args.registry.now.schema.now c.args.registry.now.world.now (header_bytes c.args.registry.now.header.now) g.F.D.Disk.tells g.F.D.Disk
-    (stretch_in l) c.loop-asks.seats.items (output_bytes c.answer_stretch-says_broken-2.new.lines.items)
-    c.answer_stretch-says_broken-2.new.seats.items c.answer_stretch-says_broken-2.result) c.last.ensures.stretch
-    (c.answer_stretch-says_broken-2.ensures.answered c.args.registry.now.schema.now c.args.registry.now.world.now
-    (header_bytes c.args.registry.now.header.now) (stay.served c.requires.served))
+    (stretch_in (last_of c.args.batch.now)) c.loop-asks.seats.items (output_bytes (last_order g c.In-Ok-answer_stretch-2).lines)
+    c.in-Ok-answer_stretch-2.told.0.items c.says_broken-says_broken-2.result
+last_runs g c = ?
 
 -- the stretches that ended are all of them
-all_ended : (g : _) (c : goal.After-answer_stretch-says_broken-2 g)
+all_ended : (g : Over) (c : goal.After-says_broken-says_broken-2 g)
     → stretches_in (take c.loop-asks.asks-index c.ended-asks-ended.result.now) ≡ stretches_in (ended_of c.args.batch.now)
 all_ended g c =
     ap stretches_in (take_all c.loop-asks.asks-index c.ended-asks-ended.result.now (omega (arith, c.loop-asks-test.false))
     ∙ c.ended-asks-ended.ensures.stretches)
 
-last_stay : (g : _) (c : goal.After-answer_stretch-says_broken-2 g)
+last_stay : (g : Over) (c : goal.After-says_broken-says_broken-2 g)
     → Stay c.args.registry.now.schema.now c.args.registry.now.world.now (header_bytes c.args.registry.now.header.now) g.F.D.Disk.tells g.F.D.Disk
-    c.args.seats.items c.answer_stretch-says_broken-2.new.seats.items
+    c.args.seats.items c.in-Ok-answer_stretch-2.told.0.items
 last_stay g c =
     stay_run _ _ _ _ _ _ _ _ _ _
-    (runs_then _ _ _ g.F.D.Disk.tells g.F.D.Disk _ _ c.args.seats.items c.loop-asks.seats.items c.answer_stretch-says_broken-2.new.seats.items _ _ _ _
+    (runs_then _ _ _ g.F.D.Disk.tells g.F.D.Disk _ _ c.args.seats.items c.loop-asks.seats.items c.in-Ok-answer_stretch-2.told.0.items _ _ _ _
     c.loop-asks.invariant.so_far.runs (last_runs g c))
 
-pub answer_stretch-says_broken-2-requires-clause-served : goal.answer_stretch-says_broken-2-requires-clause-served
-answer_stretch-says_broken-2-requires-clause-served g c =
-    let stay = stay_run _ _ _ _ _ _ _ _ _ _ c.loop-asks.invariant.so_far.runs in (
-      c.args.registry.now.schema.now,
-      c.args.registry.now.world.now,
-      header_bytes c.args.registry.now.header.now,
-      stay.served c.requires.served,
-    )
-
-pub answer_stretch-says_broken-2-requires-clause-room : goal.answer_stretch-says_broken-2-requires-clause-room
-answer_stretch-says_broken-2-requires-clause-room g c =
-    let room = c.loop-asks.invariant.room in
-    omega (arith, room, c.requires.last, ap length c.last.ensures.stretch)
+-- answer_stretch-2-requires-clause-{served, distinct}: as those of the loop
 
 pub refusals_of-refusals-requires-clause-room : goal.refusals_of-refusals-requires-clause-room
 refusals_of-refusals-requires-clause-room g c =
-    let names = ap length (last_stay g c.After-answer_stretch-says_broken-2).names in
-    let whole = length-journals c.answer_stretch-says_broken-2.new.seats.items in
+    let names = ap length (last_stay g c.After-says_broken-says_broken-2).names in
+    let whole = length-journals c.in-Ok-answer_stretch-2.told.0.items in
     let first = length-journals c.args.seats.items in
     let read = ap length c.as_slice.ensures.value in
     omega (arith, c.requires.refusals, names, whole, first, read)
@@ -263,40 +277,55 @@ refusals_of-refusals-requires-clause-room g c =
 
 pub returns-in-Ok-clause-answered : goal.returns-in-Ok-clause-answered
 returns-in-Ok-clause-answered g c = (
-  c.answer_stretch-says_broken-2.new.seats.items,
+  c.in-Ok-answer_stretch-2.told.0.items,
   subst (λ l. RunsAll c.args.registry.now.schema.now c.args.registry.now.world.now
       (header_bytes c.args.registry.now.header.now) g.F.D.Disk.tells g.F.D.Disk g.K.Sink.tells (l ++ stretch_in (last_of c.args.batch.now))
-      c.args.seats.items c.answer_stretch-says_broken-2.new.seats.items _ (g.K.Sink.written c.args.sink.now) (g.K.Sink.written c.write_parts.new.sink))
-      (all_ended g c.After-answer_stretch-says_broken-2)
+      c.args.seats.items c.in-Ok-answer_stretch-2.told.0.items _ (g.K.Sink.written c.args.sink.now) (g.K.Sink.written c.write_in_order.new.sink))
+      (all_ended g c.After-says_broken-says_broken-2)
       (all_more c.args.registry.now.schema.now c.args.registry.now.world.now
       (header_bytes c.args.registry.now.header.now) g.F.D.Disk.tells g.F.D.Disk g.K.Sink.tells
       (stretches_in (take c.loop-asks.asks-index c.ended-asks-ended.result.now)) (stretch_in (last_of c.args.batch.now)) c.args.seats.items
-      c.loop-asks.seats.items c.answer_stretch-says_broken-2.new.seats.items c.loop-asks.is_broken c.answer_stretch-says_broken-2.result _ _ _ _
-      (output_bytes c.answer_stretch-says_broken-2.new.lines.items) refl c.loop-asks.invariant.so_far (last_runs g c.After-answer_stretch-says_broken-2)
-      (λ told. c.in-Ok.ensures.all told
-      ∙ ap (λ l. g.K.Sink.written c.loop-asks.sink ++ output_bytes l) c.as_slice-2.ensures.value)),
+      c.loop-asks.seats.items c.in-Ok-answer_stretch-2.told.0.items c.loop-asks.is_broken c.says_broken-says_broken-2.result _ _ _ _
+      (output_bytes (last_order g c.In-Ok-answer_stretch-2).lines) refl c.loop-asks.invariant.so_far (last_runs g c.After-says_broken-says_broken-2)
+      (λ told. c.write_in_order.ensures.all told (last_order g c.In-Ok-answer_stretch-2).lines (last_order g c.In-Ok-answer_stretch-2).numbered
+      (last_order g c.In-Ok-answer_stretch-2).moved)),
   c.give_back.ensures.back,
   c.refusals_of-refusals.ensures ∙ ap (map (λ s. s.refusal)) c.as_slice.ensures.value,
 )
 
 pub returns-clause-answered : goal.returns-clause-answered
 returns-clause-answered g c = (
-  c.answer_stretch-says_broken-2.new.seats.items,
+  c.in-Ok-answer_stretch-2.told.0.items,
   some_cut c.args.registry.now.schema.now c.args.registry.now.world.now
       (header_bytes c.args.registry.now.header.now) g.F.D.Disk.tells g.F.D.Disk g.K.Sink.tells (items_of c.args.batch.now)
       (stretches_in (take c.loop-asks.asks-index c.ended-asks-ended.result.now)) (stretch_in (last_of c.args.batch.now)) [] c.args.seats.items
-      c.loop-asks.seats.items c.answer_stretch-says_broken-2.new.seats.items c.loop-asks.is_broken c.answer_stretch-says_broken-2.result _ _ _
-      (output_bytes c.answer_stretch-says_broken-2.new.lines.items)
-      (ap (λ l. l ++ stretch_in (last_of c.args.batch.now)) (sym (all_ended g c.After-answer_stretch-says_broken-2)) ∙ sym (append-nil _))
-      (asks_one (last_of c.args.batch.now)) c.loop-asks.invariant.so_far (last_runs g c.After-answer_stretch-says_broken-2)
+      c.loop-asks.seats.items c.in-Ok-answer_stretch-2.told.0.items c.loop-asks.is_broken c.says_broken-says_broken-2.result _ _ _
+      (output_bytes (last_order g c.In-Ok-answer_stretch-2).lines)
+      (ap (λ l. l ++ stretch_in (last_of c.args.batch.now)) (sym (all_ended g c.After-says_broken-says_broken-2)) ∙ sym (append-nil _))
+      (asks_one (last_of c.args.batch.now)) c.loop-asks.invariant.so_far (last_runs g c.After-says_broken-says_broken-2)
       (λ told.
-      let part = subst (λ l. AppendsPart (g.K.Sink.written c.loop-asks.sink) (g.K.Sink.written c.write_parts.new.sink) (output_bytes l))
-      c.as_slice-2.ensures.value (c.in-Err.ensures.part told) in
+      let part = c.write_in_order.ensures.part told c.in-Err-Fault.is (last_order g c.In-Ok-answer_stretch-2).lines
+      (last_order g c.In-Ok-answer_stretch-2).numbered (last_order g c.In-Ok-answer_stretch-2).moved in
       (part.0, part.2)),
   c.give_back.ensures.back,
 )
 
 pub returns-clause-cause : goal.returns-clause-cause
 returns-clause-cause g c =
-    λ u. rose_wide (g.K.Sink.faults c.args.sink.now) (g.K.Sink.faults c.loop-asks.sink) (g.K.Sink.faults c.write_parts.new.sink)
-    (g.K.Sink.faults c.write_parts.new.sink) c.loop-asks.invariant.later (omega arith) (c.in-Err.ensures.cause.failed refl)
+    λ u. rose_wide (g.K.Sink.faults c.args.sink.now) (g.K.Sink.faults c.loop-asks.sink) (g.K.Sink.faults c.write_in_order.new.sink)
+    (g.K.Sink.faults c.write_in_order.new.sink) c.loop-asks.invariant.later (omega arith) (c.write_in_order.ensures.cause c.in-Err-Fault.is)
+
+-- the sort of the last stretch found no memory
+pub returns-in-Err-Memory-clause-answered : goal.returns-in-Err-Memory-clause-answered
+returns-in-Err-Memory-clause-answered g c = (
+  c.in-Ok-answer_stretch-2.told.0.items,
+  to_unwritten c.args.registry.now.schema.now c.args.registry.now.world.now
+      (header_bytes c.args.registry.now.header.now) g.F.D.Disk.tells g.F.D.Disk g.K.Sink.tells (items_of c.args.batch.now)
+      (stretches_in (take c.loop-asks.asks-index c.ended-asks-ended.result.now)) (stretch_in (last_of c.args.batch.now)) [] c.args.seats.items
+      c.loop-asks.seats.items c.in-Ok-answer_stretch-2.told.0.items c.loop-asks.is_broken c.says_broken-says_broken-2.result _ _ _
+      (output_bytes (last_order g c.In-Ok-answer_stretch-2).lines)
+      (ap (λ l. l ++ stretch_in (last_of c.args.batch.now)) (sym (all_ended g c.After-says_broken-says_broken-2)) ∙ sym (append-nil _))
+      (asks_one (last_of c.args.batch.now)) c.loop-asks.invariant.so_far (last_runs g c.After-says_broken-says_broken-2)
+      (λ told. ap g.K.Sink.written (c.write_in_order.ensures.none c.in-Err-Memory.is)),
+  c.give_back.ensures.back,
+)
