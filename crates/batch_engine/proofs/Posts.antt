@@ -1,5 +1,6 @@
 -- The users of a stretch at their posts: their rooms, their answers, and what is gathered of them.
-use Rattle.std.proofs.Common.{◌≡◌, ℕ, suc, ◌+◌, ◌<◌, ◌≤◌, Bool, true, false, List, [], ◌∷◌, ◌++◌, length, map, All, refl, sym, ap, subst, ◌∙◌, append-nil, arith}
+use Rattle.std.proofs.Common.{◌≡◌, ℕ, suc, ◌+◌, ◌<◌, ◌≤◌, Bool, true, false, List, [], ◌∷◌, ◌++◌, length, map, All, refl, sym, ap, subst, ◌∙◌}
+use Rattle.std.proofs.Common.{append-nil, arith}
 use Rattle.std.specs.Prelude.{bytes_eq, if◌then◌else◌, Vec, vec_capacity, slice_index_or}
 use Rattle.std.specs.List.{flat_map, AllByRecursion}
 use Rattle.std.specs.declared.alloc.Global.{Global}
@@ -10,6 +11,10 @@ use Rattle.desk_crew.specs.Crew.{seat_name, IsSeatServed}
 use Rattle.desk_crew.specs.Seats.{DeskSeat}
 use Rattle.batch_engine.specs.BatchLines.{NamedAsk}
 use Rattle.outside.specs.declared.disk.Disk.{Ghosts as DiskGhosts}
+use Rattle.std.specs.Prelude.{string_bytes}
+use Rattle.cqe_base.specs.declared.user.User.{User}
+use Rattle.desk_crew.specs.Registered.{registered_names}
+use Rattle.desk_crew.specs.Shelved.{AreSeatsOf}
 use Rattle.cqe_base.specs.Run.{Reply}
 use Rattle.std.specs.Prelude.{Option}
 use Rattle.std.proofs.lemmas.List.Elements.{All-nil, All-push, All-from_recursion}
@@ -146,3 +151,16 @@ with_restart (line ∷ lines) count are below = (
 pub output_last : (lines : List Answer) (count : ℕ) → output_bytes (lines ++ restarted_at count ∷ []) ≡ output_bytes lines ++ restart_bytes true
 output_last lines count =
     flat_map-append (λ (a : Answer). a.line) lines (restarted_at count ∷ []) ∙ ap (λ l. output_bytes lines ++ l) (append-nil (restart_bytes true))
+
+-- ---- the seats of the users of a registry
+
+-- have their names
+pub named_so : (directory : Text) (schema : DatabaseSchema) (world : FactSet) (header : List ℕ) {D : Type 0} {g h : _} (told disk_told : Type 0)
+    (Disk : DiskGhosts D) (disk : Text → Option D) (count : Text → ℕ) (users : List User) (seats : List (DeskSeat D g h))
+    → AreSeatsOf told Disk disk_told schema world header directory disk count users seats → map seat_name seats ≡ registered_names users
+named_so directory schema world header told disk_told Disk disk count [] [] are = refl
+named_so directory schema world header told disk_told Disk disk count [] (seat ∷ seats) are = absurd are
+named_so directory schema world header told disk_told Disk disk count (user ∷ users) [] are = absurd are
+named_so directory schema world header told disk_told Disk disk count (user ∷ users) (seat ∷ seats) are =
+    ap (λ (u : User). string_bytes u.name ∷ map seat_name seats) are.0.user_is
+    ∙ ap (λ ns. string_bytes user.name ∷ ns) (named_so directory schema world header told disk_told Disk disk count users seats are.1)

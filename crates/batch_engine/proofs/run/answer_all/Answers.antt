@@ -30,7 +30,6 @@ loop-asks-init g c =
           (g.K.Sink.written c.args.sink.now);
       same = refl;
       later = omega arith;
-      named = refl;
     }
 
 -- ---- a stretch that a restart ends: its asks
@@ -51,7 +50,8 @@ answer_stretch-requires-clause-served g c κs within =
     )
 
 pub answer_stretch-requires-clause-distinct : goal.answer_stretch-requires-clause-distinct
-answer_stretch-requires-clause-distinct g c κs within = ap has_duplicate c.loop-asks.invariant.named ∙ c.requires.names
+answer_stretch-requires-clause-distinct g c κs within =
+    ap has_duplicate (stay_run _ _ _ _ _ _ _ _ _ _ c.loop-asks.invariant.so_far.runs).users ∙ c.requires.names
 
 -- what it did to the seats, and its lines in order
 order : (g : Over) (c : goal.In-Ok-answer_stretch g)
@@ -147,9 +147,6 @@ loop-asks-preserved g c =
           c.says_broken-says_broken.result (runs g c.After-says_broken-says_broken) again.0) again.1);
       same = c.restart.ensures.untouched tt ∙ c.loop-asks.invariant.same;
       later = omega (arith, before, on);
-      named = (stay_run _ _ _ _ _ _ _ _ _ _ (all_more _ _ _ g.F.D.Disk.tells g.F.D.Disk g.K.Sink.tells (stretches_in (take i stretches))
-          (stretch_in c.asks-item.result.items ++ restarted ∷ []) c.args.seats.items c.loop-asks.seats.items c.in-Again.next.items _ _ _ _ _ _ _ ? so_far ?
-          again.1).runs).users;
     }
 
 -- the items of the batch: those of the stretches so far, of this one with its restart, and the others

@@ -1,6 +1,4 @@
 use Rattle.std.proofs.Common.{◌≡◌, ◌≤◌, take}
-use Rattle.std.specs.Prelude.{map}
-use Rattle.desk_crew.specs.Crew.{seat_name}
 use Rattle.log_journal.specs.Opening.{header_bytes}
 use Rattle.batch_engine.specs.Batches.{stretches_in}
 use Rattle.batch_engine.specs.Steps.{RunsAll}
@@ -15,5 +13,4 @@ invariant-loop-asks g l = record {
       (g.K.Sink.written l.sink);
   same : l.shelf ≡ l.fn.shelf;
   later : g.K.Sink.faults l.fn.sink ≤ g.K.Sink.faults l.sink;
-  named : map seat_name l.seats.items ≡ map seat_name l.fn.seats.items;
 }

@@ -6,6 +6,8 @@ use Rattle.desk_crew.specs.Crew.{named_user}
 use Rattle.desk_crew.specs.Registered.{registered_journals}
 use Rattle.desk_crew.specs.Shelved.{journals_on}
 use Rattle.outside.specs.Shelf.{AllIn, SameBeside}
+use Rattle.cqe_base.specs.Schema.{has_duplicate}
+use Rattle.batch_engine.proofs.Posts.{named_so}
 use Rattle.batch_engine.proofs.Running.{Stay, stay_run, runs_then}
 use Rattle.batch_engine.proofs.Failing.{run_broken, all_weaker}
 use Rattle.desk_crew.proofs.Rising.{some_rose}
@@ -64,6 +66,12 @@ answer_all-requires-clause-distinct g c = (seated g (goal.at.answer_all-requires
 
 pub answer_all-requires-clause-later : goal.answer_all-requires-clause-later
 answer_all-requires-clause-later g c = (seated g (goal.at.answer_all-requires-clause-later g c).In-Ok-open_all).later
+
+pub answer_all-requires-clause-names : goal.answer_all-requires-clause-names
+answer_all-requires-clause-names g c =
+    ap has_duplicate (named_so c.args.registry.now.directory.now c.args.registry.now.schema.now c.args.registry.now.world.now
+    (header_bytes c.args.registry.now.header.now) g.F.Shelf.tells g.F.D.Disk.tells g.F.D.Disk (g.F.Shelf.disk c.args.shelf.now)
+    (g.F.Shelf.disk_faults c.args.shelf.now) c.args.registry.now.users.now c.in-Ok-open_all.seats.items c.in-Ok-open_all.ensures.opened) ∙ c.requires.names
 
 pub answer_all-requires-clause-refusals : goal.answer_all-requires-clause-refusals
 answer_all-requires-clause-refusals g c =
@@ -193,7 +201,7 @@ returns-in-Cut-clause-ends g c = λ shelf_told source_told sink_told.
       ),
     )
 
--- ---- where memory was wanting at a restart
+-- ---- where memory was wanting as a stretch began or ended
 
 memory_given : (g : Over) (c : goal.In-Memory-answer_all g)
     → AllReturned (registered_journals c.args.registry.now.directory.now c.args.registry.now.users.now) (g.F.Shelf.disk c.args.shelf.now)
@@ -201,7 +209,7 @@ memory_given : (g : Over) (c : goal.In-Memory-answer_all g)
     (g.F.Shelf.disk_faults c.answer_all.new.shelf)
 memory_given g c =
     let left = c.in-Memory-answer_all.ensures.answered in
-    given g c.After-answer_all left.0 (stay_run _ _ _ _ _ _ _ _ _ _ left.1.all.runs) left.2
+    given g c.After-answer_all left.0 (stay_run _ _ _ _ _ _ _ _ _ _ (runs_then _ _ _ _ _ _ _ _ _ _ _ _ _ _ left.1.0.first left.1.0.last)) left.2
 
 pub returns-clause-disks : goal.returns-clause-disks
 returns-clause-disks g c = (memory_given g (goal.at.returns-clause-disks g c).In-Memory-answer_all).disks
@@ -217,9 +225,9 @@ returns-clause-journals g c = λ shelf_told.
     let left = c.in-Memory-answer_all.ensures.answered in
     inr (
       items_of c.in-Whole.batch,
-      left.1.all.output,
+      left.1.0.output ++ take 0 left.1.0.lines,
       (ending g (goal.at.returns-clause-journals g c).In-Ok-open_all shelf_told c.answer_all.new.shelf).to (Unit {0}) tt (items_of c.in-Whole.batch) left.0
-          [] left.1.all.output
+          [] (left.1.0.output ++ take 0 left.1.0.lines)
           (to_alone c.args.registry.now.schema.now c.args.registry.now.world.now (header_bytes c.args.registry.now.header.now)
           g.F.D.Disk.tells g.F.D.Disk g.K.Sink.tells (items_of c.in-Whole.batch) c.in-Ok-open_all.seats.items left.0 _ _ left.1) left.2,
     )
