@@ -42,6 +42,24 @@ front_on own rests owns number ask (Some reply) moved =
     IsPermutation-trans _ _ _ (IsPermutation-sym _ _ (IsPermutation-middle own (answer_to number ask (Some reply)) rests))
     (IsPermutation-append_right own (answer_to number ask (Some reply) ∷ rests) owns moved)
 
+-- one more answer at its place
+add_answer : (number : ℕ) (ask : NamedAsk) (asks : List NamedAsk) (names : List Text) (reply : Option Reply) (answers rests owns : List Answer)
+    → list_any (λ name. bytes_eq name ask.name) names ≡ is_some reply
+    → IsPermutation answers (strangers_from (number + 1) asks names ++ rests) → IsPermutation (taken number ask reply ++ rests) owns
+    → IsPermutation (answer_to number ask reply ∷ answers) (strangers_from number (ask ∷ asks) names ++ owns)
+add_answer number ask asks names None answers rests owns known so_far moved =
+    let strange = strangers_from (number + 1) asks names in
+    subst (λ b. IsPermutation (answer_to number ask None ∷ answers) ((if b then strange else answer_to number ask None ∷ strange) ++ owns)) (sym known)
+    (IsPermutation-cons (answer_to number ask None) answers (strange ++ owns)
+    (IsPermutation-trans _ _ _ so_far (IsPermutation-append_right strange rests owns moved)))
+add_answer number ask asks names (Some reply) answers rests owns known so_far moved =
+    let strange = strangers_from (number + 1) asks names in
+    let one = answer_to number ask (Some reply) in
+    subst (λ b. IsPermutation (one ∷ answers) ((if b then strange else answer_to number ask None ∷ strange) ++ owns)) (sym known)
+    (IsPermutation-trans _ _ _ (IsPermutation-cons one answers (strange ++ rests) so_far)
+    (IsPermutation-trans _ _ _ (IsPermutation-sym _ _ (IsPermutation-middle strange one rests))
+    (IsPermutation-append_right strange (one ∷ rests) owns moved)))
+
 module _ (schema : DatabaseSchema) (world : FactSet) {D : Type 0} {g h : _} where
   -- the users' runs, side by side
   abbrev pub OwnRuns : ℕ → List NamedAsk → List (DeskSeat D g h) → List (DeskSeat D g h) → List (List Answer) → Type 0
@@ -151,23 +169,6 @@ module _ (schema : DatabaseSchema) (world : FactSet) {D : Type 0} {g h : _} wher
     pub replies : List (Option Reply)
     pub each : TellsEach schema world asks olds news replies
     pub moved : IsPermutation (answers_from number asks replies) (strangers_from number asks (map seat_name olds) ++ all_of owns)
-
-  add_answer : (number : ℕ) (ask : NamedAsk) (asks : List NamedAsk) (names : List Text) (reply : Option Reply) (answers rests owns : List Answer)
-      → list_any (λ name. bytes_eq name ask.name) names ≡ is_some reply
-      → IsPermutation answers (strangers_from (number + 1) asks names ++ rests) → IsPermutation (taken number ask reply ++ rests) owns
-      → IsPermutation (answer_to number ask reply ∷ answers) (strangers_from number (ask ∷ asks) names ++ owns)
-  add_answer number ask asks names None answers rests owns known so_far moved =
-      let strange = strangers_from (number + 1) asks names in
-      subst (λ b. IsPermutation (answer_to number ask None ∷ answers) ((if b then strange else answer_to number ask None ∷ strange) ++ owns)) (sym known)
-      (IsPermutation-cons (answer_to number ask None) answers (strange ++ owns)
-      (IsPermutation-trans _ _ _ so_far (IsPermutation-append_right strange rests owns moved)))
-  add_answer number ask asks names (Some reply) answers rests owns known so_far moved =
-      let strange = strangers_from (number + 1) asks names in
-      let one = answer_to number ask (Some reply) in
-      subst (λ b. IsPermutation (one ∷ answers) ((if b then strange else answer_to number ask None ∷ strange) ++ owns)) (sym known)
-      (IsPermutation-trans _ _ _ (IsPermutation-cons one answers (strange ++ rests) so_far)
-      (IsPermutation-trans _ _ _ (IsPermutation-sym _ _ (IsPermutation-middle strange one rests))
-      (IsPermutation-append_right strange (one ∷ rests) owns moved)))
 
   pub merged : (asks : List NamedAsk) (number : ℕ) (olds news : List (DeskSeat D g h)) (owns : List (List Answer))
       → has_duplicate (map seat_name olds) ≡ false → OwnRuns number asks olds news owns → Merged number asks olds news owns
