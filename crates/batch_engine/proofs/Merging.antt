@@ -70,9 +70,9 @@ module _ (schema : DatabaseSchema) (world : FactSet) {D : Type 0} {g h : _} wher
   -- an ask that none of these users made changes nothing of them
   passed_one : (number : ℕ) (ask : NamedAsk) (asks : List NamedAsk) (old new : DeskSeat D g h) (own : List Answer) → is_named ask.name old ≡ false
       → OwnRun schema world number (ask ∷ asks) old new own → OwnRun schema world (number + 1) asks old new own
-  passed_one number ask asks old new own other (his n a rest old' mid new' reply answers named told further) =
+  passed_one number ask asks old new own other (his n a rest old' mid new' reply answers named told run) =
       let e : true ≡ false = sym named ∙ other in absurd cc
-  passed_one number ask asks old new own other (of_another n a rest old' new' answers differs further) = further
+  passed_one number ask asks old new own other (of_another n a rest old' new' answers differs run) = run
 
   passed : (number : ℕ) (ask : NamedAsk) (asks : List NamedAsk) (olds news : List (DeskSeat D g h)) (owns : List (List Answer))
       → list_any (λ name. bytes_eq name ask.name) (map seat_name olds) ≡ false → OwnRuns number (ask ∷ asks) olds news owns
