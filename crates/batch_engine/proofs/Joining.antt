@@ -8,7 +8,7 @@ use Rattle.cqe_base.specs.Facts.{FactSet}
 use Rattle.cqe_base.specs.History.{UserProfile}
 use Rattle.cqe_base.specs.Run
 use Rattle.cqe_base.specs.Run.{UserState, standing_open, opening, final_history}
-use Rattle.cqe_base.specs.Transcript.{NamedUser, ScriptEvent, own_events, state_after}
+use Rattle.cqe_base.specs.Transcript.{NamedUser, ScriptEvent, own_events, state_after, transcript}
 use Rattle.user_desk.specs.Lives.{Holds, shown}
 use Rattle.batch_engine.proofs.Along.{goes_on}
 use Rattle.user_desk.specs.Causes.{Opens}
@@ -17,12 +17,13 @@ use Rattle.user_desk.specs.declared.standing.DeskError.{DeskError}
 use Rattle.user_desk.proofs.Joining.{calls_join}
 use Rattle.desk_crew.specs.Openings.{OpensWith}
 use Rattle.desk_crew.specs.Shelved.{Journals}
-use Rattle.batch_engine.specs.Batch.{ServesUser, AppendsAll, unopened, with_opening}
+use Rattle.batch_engine.specs.Batch.{ServesUser, AppendsAll, line_bytes, unopened, with_opening}
 use Rattle.batch_engine.specs.BatchLines.{BatchItem}
 use Rattle.std.proofs.lemmas.List.Folds.{list_any-append}
 use Rattle.std.proofs.lemmas.Bool.{or_left}
 use Rattle.batch_engine.specs.Lives.{is_opened}
 use Rattle.batch_engine.specs.Joining.{call_of, IsNamed, IsAnsweredTo, BatchesAreCalls, BatchesAreSpans, CutBatchesAreCalls, LaterCutsAreCalls, BatchesJoin}
+use Rattle.batch_engine.specs.Joining.{SameEventsSameLines}
 
 -- what holds a state holds its entries and the one in flight at any standing
 held_anyhow : (schema : DatabaseSchema) (world : FactSet) (user : UserProfile) (header c : List ℕ) (state : UserState)
@@ -177,3 +178,9 @@ batches_join schema world header policy journals journals' items items' old new 
         tt,
       ),
     )
+
+-- the same events have the same lines
+pub same_events : (schema : DatabaseSchema) (world : FactSet) (header : List ℕ) (policy : List NamedUser) (journals journals' : Journals)
+    → SameEventsSameLines schema world header policy journals journals'
+same_events schema world header policy journals journals' items items' old new old' new' refusals refusals' is_broken is_broken' one two users events =
+    two.answers.lines ∙ (λ i. line_bytes (transcript schema world (users i) (events i))) ∙ sym one.answers.lines

@@ -139,3 +139,16 @@ module _ (schema : DatabaseSchema) (world : FactSet) (header : List ℕ)
       → IsAnsweredTo journals one name (journals'.bytes name) first call
       → IsAnsweredTo journals' two name left second call'
       → AreOneRun schema world first.profile header first.opened (call ∷ call' ∷ [])
+
+  -- Two batches of one policy, whose users began with the same histories and whose events were the
+  -- same, wrote the same bytes. So it is with every number of workers.
+  abbrev pub SameEventsSameLines : Journals → Journals → Type 0
+  SameEventsSameLines journals journals' =
+      (items items' : List BatchItem) (old new old' new' : List ℕ)
+      (refusals refusals' : List (Option DeskError)) (is_broken is_broken' : Bool)
+      (one : AppendsAll schema world header journals policy items old new refusals is_broken)
+      (two : AppendsAll schema world header journals' policy items' old' new' refusals' is_broken')
+      → two.answers.users ≡ one.answers.users
+      → with_opening two.answers.found two.answers.opened two.answers.events
+      ≡ with_opening one.answers.found one.answers.opened one.answers.events
+      → two.written ≡ one.written

@@ -6,6 +6,7 @@ ghost use Rattle.std.specs.Prelude.{List, ℕ};
 ghost use Rattle.desk_crew.specs.Shelved.{journals_on};
 ghost use Rattle.batch_engine.specs.Joining.{BatchesAreCalls, BatchesAreSpans, BatchesJoin};
 ghost use Rattle.batch_engine.specs.Joining.{CutBatchesAreCalls, LaterCutsAreCalls};
+ghost use Rattle.batch_engine.specs.Joining.{SameEventsSameLines};
 
 use outside::Shelf;
 
@@ -14,7 +15,8 @@ use outside::Shelf;
 /// leaves as it ends; and a batch that a crash cut at any moment since is one with some first of
 /// his events, since the end of a stretch with at least those of the stretch and before it. So by
 /// `user_desk::laws::law_lives_join` any list of batches and crashes is one run; two that were
-/// answered are said to be one here.
+/// answered are said to be one here. And where the events of two batches are the same, so is what
+/// they wrote, with however many workers.
 pub fn law_batches_join<F: Shelf>(before: &F, behind: &F, later_before: &F, later_behind: &F)
     ensures calls { (directory : Text) → BatchesAreCalls
         (journals_on F.Shelf F.D.Disk directory before.now behind.now) }
@@ -24,6 +26,11 @@ pub fn law_batches_join<F: Shelf>(before: &F, behind: &F, later_before: &F, late
         (journals_on F.Shelf F.D.Disk directory before.now behind.now) }
     ensures late { (directory : Text) → LaterCutsAreCalls
         (journals_on F.Shelf F.D.Disk directory before.now behind.now) }
+    ensures same_lines { (directory : Text) (schema : DatabaseSchema) (world : FactSet)
+        (header : List ℕ) (policy : List NamedUser)
+        → SameEventsSameLines schema world header policy
+        (journals_on F.Shelf F.D.Disk directory before.now behind.now)
+        (journals_on F.Shelf F.D.Disk directory later_before.now later_behind.now) }
     ensures joined { (directory : Text) (schema : DatabaseSchema) (world : FactSet)
         (header : List ℕ) (policy : List NamedUser) → BatchesJoin schema world header policy
         (journals_on F.Shelf F.D.Disk directory before.now behind.now)
