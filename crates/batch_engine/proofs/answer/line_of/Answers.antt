@@ -2,7 +2,7 @@ use Rattle.std.proofs.Common.{◌≤◌, length, ap, arith, length-append, [], �
 use Rattle.std.specs.Prelude.{decimal}
 use Rattle.batch_engine.specs.Batches.{ask_in}
 use Rattle.batch_engine.proofs.Shorts.{short_ask, session_digits}
-use Rattle.batch_engine.proofs.run.line_of.Goals as goal
+use Rattle.batch_engine.proofs.answer.line_of.Goals as goal
 
 pub push_decimal-requires : goal.push_decimal-requires
 push_decimal-requires c =
