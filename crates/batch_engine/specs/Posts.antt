@@ -1,6 +1,6 @@
 -- The users of a stretch, who are answered side by side.
-use Rattle.std.specs.Prelude.{◌≡◌, ℕ, ◌≤◌, List, [], ◌∷◌, map, Option, Vec, vec_capacity}
-use Rattle.std.specs.List.{flat_map}
+use Rattle.std.specs.Prelude.{◌≡◌, ℕ, ◌<◌, ◌≤◌, List, [], ◌∷◌, length, map, Option, Vec}
+use Rattle.std.specs.Prelude.{vec_capacity, slice_index_or}
 use Rattle.std.specs.List.Sorted.{IsPermutation}
 use Rattle.std.specs.declared.alloc.Global.{Global}
 use Rattle.outside.specs.declared.disk.Disk.{Ghosts as DiskGhosts}
@@ -53,6 +53,13 @@ RunsOwn asks old new =
     (schema : DatabaseSchema) (world : FactSet) (header : List ℕ)
     → IsSeatServed schema world header old.seat
     → OwnRun schema world 0 asks old.seat new.seat new.answers.items
+
+-- so were those of all users, each at his place
+abbrev pub AllRunOwn : {D : Type 0} {g h : _} → List NamedAsk → List (DeskPost D g h)
+    → List (DeskPost D g h) → Type 0
+AllRunOwn {D} {g} {h} asks olds news =
+    (k : ℕ) (d : DeskPost D g h) → k < length olds
+    → RunsOwn asks (slice_index_or olds k d) (slice_index_or news k d)
 
 module _ (schema : DatabaseSchema) (world : FactSet) where
   -- asks were answered one after the other, and these are the answers, in any order

@@ -1,15 +1,18 @@
 //! The users of a stretch, who are answered side by side.
 
 ghost use Rattle.std.specs.Prelude.{◌≡◌, ◌<◌, ◌≤◌, ◌+◌, [], ◌++◌, All, ℕ, map, length, IfErr, IfOk};
-ghost use Rattle.std.specs.Prelude.{vec_len, vec_capacity, slice_index_or};
+ghost use Rattle.std.specs.Prelude.{vec_len, vec_capacity};
 ghost use Rattle.std.specs.List.{AllByRecursion, flat_map};
 ghost use Rattle.cqe_base.specs.Schema.{DatabaseSchema};
 ghost use Rattle.cqe_base.specs.Facts.{FactSet};
 ghost use Rattle.cqe_base.specs.History.{profile_of};
 ghost use Rattle.desk_crew.specs.Crew.{seat_user, seat_name, seat_kept, IsSeatServed};
 ghost use Rattle.batch_engine.specs.Batches.{asks_in, AreShort};
-ghost use Rattle.batch_engine.specs.Answers.{OwnRun, asks_of, strangers_from};
-ghost use Rattle.batch_engine.specs.Posts.{DeskPost, RunsOwn, AreAnswered, seat_of, names_of};
+ghost use Rattle.batch_engine.specs.Answers.{asks_of, strangers_from};
+ghost use Rattle.cqe_base.specs.Schema.{has_duplicate};
+ghost use Rattle.std.specs.Prelude.{false, List};
+ghost use Rattle.batch_engine.specs.Posts.{HasRoom, HasRooms, RunsOwn, AllRunOwn, AreAnswered};
+ghost use Rattle.batch_engine.specs.Posts.{seat_of, names_of};
 
 use crate::answer::{Answer, answer_to};
 use crate::batch::BatchAsk;
@@ -120,8 +123,7 @@ fn answer_each<R: Threads + Wait + Sync, G: Gate + Sync, D: Disk + Drop + Send>(
         posts.old }
     requires rooms { All (HasRoom (asks_in asks.now)) posts.old }
     ensures count { length posts.new ≡ length posts.old }
-    ensures own { (k : ℕ) (d : DeskPost D _ _) → k < length posts.old
-        → RunsOwn (asks_in asks.now) (slice_index_or posts.old k d) (slice_index_or posts.new k d) }
+    ensures own { AllRunOwn (asks_in asks.now) posts.old posts.new }
 {
     thread::for_each_mut(
         rt,
