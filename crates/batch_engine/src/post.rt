@@ -1,16 +1,14 @@
 //! The users of a stretch, who are answered side by side.
 
 ghost use Rattle.std.specs.Prelude.{◌≡◌, ◌<◌, ◌≤◌, ◌+◌, [], ◌++◌, All, ℕ, map, length, IfErr, IfOk};
-ghost use Rattle.std.specs.Prelude.{vec_len, vec_capacity};
+ghost use Rattle.std.specs.Prelude.{false, List, vec_len, vec_capacity};
 ghost use Rattle.std.specs.List.{AllByRecursion, flat_map};
-ghost use Rattle.cqe_base.specs.Schema.{DatabaseSchema};
+ghost use Rattle.cqe_base.specs.Schema.{DatabaseSchema, has_duplicate};
 ghost use Rattle.cqe_base.specs.Facts.{FactSet};
 ghost use Rattle.cqe_base.specs.History.{profile_of};
 ghost use Rattle.desk_crew.specs.Crew.{seat_user, seat_name, seat_kept, IsSeatServed};
 ghost use Rattle.batch_engine.specs.Batches.{asks_in, AreShort};
 ghost use Rattle.batch_engine.specs.Answers.{asks_of, strangers_from};
-ghost use Rattle.cqe_base.specs.Schema.{has_duplicate};
-ghost use Rattle.std.specs.Prelude.{false, List};
 ghost use Rattle.batch_engine.specs.Posts.{HasRoom, HasRooms, RunsOwn, AllRunOwn, AreAnswered};
 ghost use Rattle.batch_engine.specs.Posts.{seat_of, names_of};
 
