@@ -56,6 +56,32 @@ module _ {D : Type 0} {g h : _} where
   rooms-push asks (s ∷ seats) [] seat room has empty fits = absurd has
   rooms-push asks (s ∷ seats) (r ∷ rooms) seat room has empty fits = (has.0, has.1, rooms-push asks seats rooms seat room has.2 empty fits)
 
+  -- where a seat is left there is a room
+  pub rooms_left : (asks : List NamedAsk) (left : List (DeskSeat D g h)) (rooms : List (Vec Answer Global)) (seat : DeskSeat D g h)
+      (rest : List (DeskSeat D g h)) → left ≡ seat ∷ rest → HasRooms asks left rooms → 0 < length rooms
+  rooms_left asks [] rooms seat rest is has = absurd cc
+  rooms_left asks (s ∷ left) [] seat rest is has = absurd has
+  rooms_left asks (s ∷ left) (r ∷ rooms) seat rest is has = omega arith
+
+  -- the first room is that of the first seat
+  pub first_room : (asks : List NamedAsk) (left : List (DeskSeat D g h)) (rooms : List (Vec Answer Global)) (seat : DeskSeat D g h)
+      (rest : List (DeskSeat D g h)) (room : Vec Answer Global) (others : List (Vec Answer Global)) → left ≡ seat ∷ rest → HasRooms asks left rooms
+      → rooms ≡ room ∷ others → HasRoom asks (record { seat = seat; answers = room }) × HasRooms asks rest others
+  first_room asks [] rooms seat rest room others is has taken = absurd cc
+  first_room asks (s ∷ left) [] seat rest room others is has taken = absurd has
+  first_room asks (s ∷ left) (r ∷ rooms) seat rest room others is has taken =
+      let head : s ≡ seat = cc in
+      let tail : left ≡ rest = cc in
+      let one : r ≡ room = cc in
+      let more : rooms ≡ others = cc in (
+        record {
+          empty = ap (λ (v : Vec Answer Global). v.items) (sym one) ∙ has.0;
+          room = subst (λ (v : Vec Answer Global). asks_of (seat_name seat) asks ≤ vec_capacity v) one
+              (subst (λ (x : DeskSeat D g h). asks_of (seat_name x) asks ≤ vec_capacity r) head has.1);
+        },
+        subst (HasRooms asks rest) more (subst (λ l. HasRooms asks l rooms) tail has.2),
+      )
+
   -- ---- what is gathered
 
   -- the posts before and behind, place by place, as one run for all
