@@ -7,6 +7,7 @@ use Rattle.cqe_base.specs.Schema.{has_duplicate}
 use Rattle.log_journal.specs.Opening.{header_bytes}
 use Rattle.outside.specs.Shelf.{SameBeside, AllOut, AllIn}
 use Rattle.desk_crew.specs.Shelved.{journals, AreLater}
+use Rattle.desk_crew.proofs.Giving.{CanGive}
 use Rattle.desk_crew.proofs.Opening.{length-journals}
 use Rattle.batch_engine.specs.BatchLines.{restarted}
 use Rattle.batch_engine.specs.BatchOf.{items_of, ended_of, last_of}
@@ -205,7 +206,7 @@ returns-in-Err-answer_stretch-clause-answered g c = (
   c.give_back.ensures.back,
 )
 
--- the clauses on the shelf where it didn't go on: `inside`, `others_out`, `counts` and `disks` of `in-CutOff` and of `in-NoMemory` each, as
+-- where it didn't go on, all disks are back
 pub returns-in-CutOff-clause-inside : goal.returns-in-CutOff-clause-inside
 returns-in-CutOff-clause-inside g c =
     subst (λ ns. AllIn ns (g.F.Shelf.is_out c.restart.new.shelf)) (stay g c.After-says_broken-says_broken).names (c.restart.ensures.inside (λ none. none))
@@ -227,6 +228,34 @@ pub returns-in-CutOff-clause-disks : goal.returns-in-CutOff-clause-disks
 returns-in-CutOff-clause-disks g c =
     subst (λ ns. SameBeside ns (g.F.Shelf.disk c.args.shelf.now) (g.F.Shelf.disk c.restart.new.shelf)) (stay g c.After-says_broken-says_broken).names
     (subst (λ s. SameBeside (journals c.in-Ok-answer_stretch.told.0.items) (g.F.Shelf.disk s) (g.F.Shelf.disk c.restart.new.shelf))
+    c.loop-asks.invariant.same c.restart.ensures.disks)
+
+pub returns-in-NoMemory-clause-inside : goal.returns-in-NoMemory-clause-inside
+returns-in-NoMemory-clause-inside g c =
+    subst (λ ns. AllIn ns (g.F.Shelf.is_out c.restart.new.shelf)) (stay g c.After-says_broken-says_broken).names (c.restart.ensures.inside (λ none. none))
+
+pub returns-in-NoMemory-clause-others_out : goal.returns-in-NoMemory-clause-others_out
+returns-in-NoMemory-clause-others_out g c =
+    subst (λ ns. SameBeside ns (g.F.Shelf.is_out c.args.shelf.now) (g.F.Shelf.is_out c.restart.new.shelf))
+    (stay g c.After-says_broken-says_broken).names
+    (subst (λ s. SameBeside (journals c.in-Ok-answer_stretch.told.0.items) (g.F.Shelf.is_out s)
+    (g.F.Shelf.is_out c.restart.new.shelf))
+    c.loop-asks.invariant.same c.restart.ensures.others_out)
+
+pub returns-in-NoMemory-clause-counts : goal.returns-in-NoMemory-clause-counts
+returns-in-NoMemory-clause-counts g c =
+    subst (λ ns. SameBeside ns (g.F.Shelf.disk_faults c.args.shelf.now) (g.F.Shelf.disk_faults c.restart.new.shelf))
+    (stay g c.After-says_broken-says_broken).names
+    (subst (λ s. SameBeside (journals c.in-Ok-answer_stretch.told.0.items) (g.F.Shelf.disk_faults s)
+    (g.F.Shelf.disk_faults c.restart.new.shelf))
+    c.loop-asks.invariant.same c.restart.ensures.counts)
+
+pub returns-in-NoMemory-clause-disks : goal.returns-in-NoMemory-clause-disks
+returns-in-NoMemory-clause-disks g c =
+    subst (λ ns. SameBeside ns (g.F.Shelf.disk c.args.shelf.now) (g.F.Shelf.disk c.restart.new.shelf))
+    (stay g c.After-says_broken-says_broken).names
+    (subst (λ s. SameBeside (journals c.in-Ok-answer_stretch.told.0.items) (g.F.Shelf.disk s)
+    (g.F.Shelf.disk c.restart.new.shelf))
     c.loop-asks.invariant.same c.restart.ensures.disks)
 
 -- ---- the last stretch
@@ -269,8 +298,110 @@ refusals_of-refusals-requires-clause-room g c =
     let read = ap length c.as_slice.ensures.value in
     omega (arith, c.requires.refusals, names, whole, first, read)
 
--- give_back-requires-clause-{distinct, out, later} and returns-in-{Ok, Err}-clause-{inside, others_out, counts, disks}: as those of the restart, by
--- `last_stay` in the place of `stay`, `c.give_back` in that of `c.restart`
+last_can : (g : Over) (c : goal.After-says_broken-says_broken-2 g)
+    → CanGive g.F.D.Disk c.in-Ok-answer_stretch-2.told.0.items (g.F.Shelf.is_out c.loop-asks.shelf)
+    (g.F.Shelf.disk_faults c.loop-asks.shelf)
+last_can g c =
+    subst (λ s. CanGive g.F.D.Disk c.in-Ok-answer_stretch-2.told.0.items (g.F.Shelf.is_out s)
+    (g.F.Shelf.disk_faults s)) (sym c.loop-asks.invariant.same)
+    (record {
+      distinct = ap has_duplicate (last_stay g c).names ∙ c.requires.distinct;
+      out = subst (λ ns. AllOut ns (g.F.Shelf.is_out c.args.shelf.now)) (sym (last_stay g c).names) c.requires.out;
+      later = (last_stay g c).later (g.F.Shelf.disk_faults c.args.shelf.now) c.requires.later;
+    })
+
+pub give_back-requires-3-clause-distinct : goal.give_back-requires-3-clause-distinct
+give_back-requires-3-clause-distinct g c = (last_can g (goal.at.give_back-requires-3-clause-distinct g c).After-says_broken-says_broken-2).distinct
+
+pub give_back-requires-3-clause-out : goal.give_back-requires-3-clause-out
+give_back-requires-3-clause-out g c = (last_can g (goal.at.give_back-requires-3-clause-out g c).After-says_broken-says_broken-2).out
+
+pub give_back-requires-3-clause-later : goal.give_back-requires-3-clause-later
+give_back-requires-3-clause-later g c = (last_can g (goal.at.give_back-requires-3-clause-later g c).After-says_broken-says_broken-2).later
+
+pub returns-in-Ok-clause-inside : goal.returns-in-Ok-clause-inside
+returns-in-Ok-clause-inside g c =
+    subst (λ ns. AllIn ns (g.F.Shelf.is_out c.give_back.new.shelf)) (last_stay g c.After-says_broken-says_broken-2).names c.give_back.ensures.inside
+
+pub returns-in-Ok-clause-others_out : goal.returns-in-Ok-clause-others_out
+returns-in-Ok-clause-others_out g c =
+    subst (λ ns. SameBeside ns (g.F.Shelf.is_out c.args.shelf.now) (g.F.Shelf.is_out c.give_back.new.shelf))
+    (last_stay g c.After-says_broken-says_broken-2).names
+    (subst (λ s. SameBeside (journals c.in-Ok-answer_stretch-2.told.0.items) (g.F.Shelf.is_out s)
+    (g.F.Shelf.is_out c.give_back.new.shelf))
+    c.loop-asks.invariant.same c.give_back.ensures.others_out)
+
+pub returns-in-Ok-clause-counts : goal.returns-in-Ok-clause-counts
+returns-in-Ok-clause-counts g c =
+    subst (λ ns. SameBeside ns (g.F.Shelf.disk_faults c.args.shelf.now) (g.F.Shelf.disk_faults c.give_back.new.shelf))
+    (last_stay g c.After-says_broken-says_broken-2).names
+    (subst (λ s. SameBeside (journals c.in-Ok-answer_stretch-2.told.0.items) (g.F.Shelf.disk_faults s)
+    (g.F.Shelf.disk_faults c.give_back.new.shelf))
+    c.loop-asks.invariant.same c.give_back.ensures.counts)
+
+pub returns-in-Ok-clause-disks : goal.returns-in-Ok-clause-disks
+returns-in-Ok-clause-disks g c =
+    subst (λ ns. SameBeside ns (g.F.Shelf.disk c.args.shelf.now) (g.F.Shelf.disk c.give_back.new.shelf))
+    (last_stay g c.After-says_broken-says_broken-2).names
+    (subst (λ s. SameBeside (journals c.in-Ok-answer_stretch-2.told.0.items) (g.F.Shelf.disk s)
+    (g.F.Shelf.disk c.give_back.new.shelf))
+    c.loop-asks.invariant.same c.give_back.ensures.disks)
+
+pub returns-in-Err-Memory-clause-inside : goal.returns-in-Err-Memory-clause-inside
+returns-in-Err-Memory-clause-inside g c =
+    subst (λ ns. AllIn ns (g.F.Shelf.is_out c.give_back.new.shelf)) (last_stay g c.After-says_broken-says_broken-2).names c.give_back.ensures.inside
+
+pub returns-in-Err-Memory-clause-others_out : goal.returns-in-Err-Memory-clause-others_out
+returns-in-Err-Memory-clause-others_out g c =
+    subst (λ ns. SameBeside ns (g.F.Shelf.is_out c.args.shelf.now) (g.F.Shelf.is_out c.give_back.new.shelf))
+    (last_stay g c.After-says_broken-says_broken-2).names
+    (subst (λ s. SameBeside (journals c.in-Ok-answer_stretch-2.told.0.items) (g.F.Shelf.is_out s)
+    (g.F.Shelf.is_out c.give_back.new.shelf))
+    c.loop-asks.invariant.same c.give_back.ensures.others_out)
+
+pub returns-in-Err-Memory-clause-counts : goal.returns-in-Err-Memory-clause-counts
+returns-in-Err-Memory-clause-counts g c =
+    subst (λ ns. SameBeside ns (g.F.Shelf.disk_faults c.args.shelf.now) (g.F.Shelf.disk_faults c.give_back.new.shelf))
+    (last_stay g c.After-says_broken-says_broken-2).names
+    (subst (λ s. SameBeside (journals c.in-Ok-answer_stretch-2.told.0.items) (g.F.Shelf.disk_faults s)
+    (g.F.Shelf.disk_faults c.give_back.new.shelf))
+    c.loop-asks.invariant.same c.give_back.ensures.counts)
+
+pub returns-in-Err-Memory-clause-disks : goal.returns-in-Err-Memory-clause-disks
+returns-in-Err-Memory-clause-disks g c =
+    subst (λ ns. SameBeside ns (g.F.Shelf.disk c.args.shelf.now) (g.F.Shelf.disk c.give_back.new.shelf))
+    (last_stay g c.After-says_broken-says_broken-2).names
+    (subst (λ s. SameBeside (journals c.in-Ok-answer_stretch-2.told.0.items) (g.F.Shelf.disk s)
+    (g.F.Shelf.disk c.give_back.new.shelf))
+    c.loop-asks.invariant.same c.give_back.ensures.disks)
+
+pub returns-clause-inside : goal.returns-clause-inside
+returns-clause-inside g c =
+    subst (λ ns. AllIn ns (g.F.Shelf.is_out c.give_back.new.shelf)) (last_stay g c.After-says_broken-says_broken-2).names c.give_back.ensures.inside
+
+pub returns-clause-others_out : goal.returns-clause-others_out
+returns-clause-others_out g c =
+    subst (λ ns. SameBeside ns (g.F.Shelf.is_out c.args.shelf.now) (g.F.Shelf.is_out c.give_back.new.shelf))
+    (last_stay g c.After-says_broken-says_broken-2).names
+    (subst (λ s. SameBeside (journals c.in-Ok-answer_stretch-2.told.0.items) (g.F.Shelf.is_out s)
+    (g.F.Shelf.is_out c.give_back.new.shelf))
+    c.loop-asks.invariant.same c.give_back.ensures.others_out)
+
+pub returns-clause-counts : goal.returns-clause-counts
+returns-clause-counts g c =
+    subst (λ ns. SameBeside ns (g.F.Shelf.disk_faults c.args.shelf.now) (g.F.Shelf.disk_faults c.give_back.new.shelf))
+    (last_stay g c.After-says_broken-says_broken-2).names
+    (subst (λ s. SameBeside (journals c.in-Ok-answer_stretch-2.told.0.items) (g.F.Shelf.disk_faults s)
+    (g.F.Shelf.disk_faults c.give_back.new.shelf))
+    c.loop-asks.invariant.same c.give_back.ensures.counts)
+
+pub returns-clause-disks : goal.returns-clause-disks
+returns-clause-disks g c =
+    subst (λ ns. SameBeside ns (g.F.Shelf.disk c.args.shelf.now) (g.F.Shelf.disk c.give_back.new.shelf))
+    (last_stay g c.After-says_broken-says_broken-2).names
+    (subst (λ s. SameBeside (journals c.in-Ok-answer_stretch-2.told.0.items) (g.F.Shelf.disk s)
+    (g.F.Shelf.disk c.give_back.new.shelf))
+    c.loop-asks.invariant.same c.give_back.ensures.disks)
 
 pub returns-in-Ok-clause-answered : goal.returns-in-Ok-clause-answered
 returns-in-Ok-clause-answered g c = (
