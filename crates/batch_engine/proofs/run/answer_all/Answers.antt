@@ -1,4 +1,4 @@
-use Rattle.std.proofs.Common.{◌≡◌, ◌++◌, ◌∷◌, ◌+◌, ◌||◌, [], take, drop, true, false, refl, sym, ap, subst, ◌∙◌, ◌<◌, append-nil, length, map, arith}
+use Rattle.std.proofs.Common.{◌≡◌, ◌++◌, ◌∷◌, ◌+◌, ◌||◌, [], take, drop, true, false, refl, sym, ap, subst, ◌∙◌, ◌<◌, All, append-nil, length, map, arith}
 use Rattle.std.specs.Prelude.{vec_capacity}
 use Rattle.std.proofs.lemmas.List.{take_all}
 use Rattle.std.proofs.Math.Bool.{or-false}
@@ -14,6 +14,7 @@ use Rattle.batch_engine.specs.BatchOf.{items_of, ended_of, last_of}
 use Rattle.batch_engine.specs.Batches.{AreShort, asks_in, stretch_in, stretches_in, items_in}
 use Rattle.batch_engine.specs.Answers.{output_bytes, says_broken}
 use Rattle.batch_engine.specs.Posts.{AreAnswered}
+use Rattle.batch_engine.specs.declared.answer.Answer.{Answer}
 use Rattle.batch_engine.proofs.Posts.{InOrder, in_lines}
 use Rattle.batch_engine.specs.Steps.{Runs, RunsAll, restart_bytes}
 use Rattle.batch_engine.proofs.Running.{Stay, stay_run, runs_then, all_first, all_more, some_cut, cut_off, no_memory, to_here, to_unwritten, restarted_more}
@@ -77,12 +78,12 @@ runs g c =
     c.in-Ok-answer_stretch.told.0.items)
     (sym (c.says_broken-says_broken.ensures ∙ ap says_broken c.as_slice.ensures.value)) (order g c.In-Ok-answer_stretch).runs
 
--- what the end of the stretch says of its lines
-ended : (g : Over) (c : goal.After-restart g) → _
-ended g c =
-    let o = order g c.In-Ok-answer_stretch in
-    c.restart.ensures.ended o.lines o.numbered
-    (subst (λ n. All (λ a. a.number < n) o.lines) (ap length (sym c.as_slice-asks.ensures.value) ∙ sym c.len.ensures) o.below) o.moved
+-- the numbers of its lines are less than the number of its asks
+below : (g : Over) (c : goal.After-len g)
+    → All (λ (a : Answer). a.number < c.len.result) (order g c.In-Ok-answer_stretch).lines
+below g c =
+    subst (λ n. All (λ (a : Answer). a.number < n) (order g c.In-Ok-answer_stretch).lines)
+    (ap length (sym c.as_slice-asks.ensures.value) ∙ sym c.len.ensures) (order g c.In-Ok-answer_stretch).below
 
 -- ---- its restart
 
@@ -129,7 +130,8 @@ loop-asks-preserved g c =
     ] in
     let before = c.loop-asks.invariant.later in
     let on = c.restart.ensures.sink_later in
-    let again = ended g c.After-restart in
+    let o = order g c.In-Ok-answer_stretch in
+    let again = c.in-Again.ensures.ended o.lines o.numbered (below g c.After-len) o.moved in
     record {
       so_far = subst (λ l.
           RunsAll c.args.registry.now.schema.now c.args.registry.now.world.now
@@ -146,7 +148,7 @@ loop-asks-preserved g c =
           (header_bytes c.args.registry.now.header.now) g.F.D.Disk.tells g.F.D.Disk (stretch_in c.asks-item.result.items) c.loop-asks.seats.items
           c.in-Ok-answer_stretch.told.0.items c.in-Again.next.items (output_bytes (order g c.In-Ok-answer_stretch).lines)
           c.says_broken-says_broken.result (runs g c.After-says_broken-says_broken) again.0) again.1);
-      same = c.restart.ensures.untouched tt ∙ c.loop-asks.invariant.same;
+      same = c.in-Again.ensures.untouched tt ∙ c.loop-asks.invariant.same;
       later = omega (arith, before, on);
     }
 
@@ -162,7 +164,8 @@ items_here g c =
 -- a write failed, behind the restart or without it
 pub returns-in-CutOff-clause-answered : goal.returns-in-CutOff-clause-answered
 returns-in-CutOff-clause-answered g c =
-    let cut = ended g c.After-restart in (
+    let o = order g c.In-Ok-answer_stretch in
+    let cut = c.in-CutOff.ensures.ended o.lines o.numbered (below g c.After-len) o.moved in (
       cut.1,
       cut_off c.args.registry.now.schema.now c.args.registry.now.world.now
           (header_bytes c.args.registry.now.header.now) g.F.D.Disk.tells g.F.D.Disk g.K.Sink.tells (items_of c.args.batch.now)
@@ -177,12 +180,13 @@ returns-in-CutOff-clause-answered g c =
 pub returns-in-CutOff-clause-cause : goal.returns-in-CutOff-clause-cause
 returns-in-CutOff-clause-cause g c =
     λ u. rose_wide (g.K.Sink.faults c.args.sink.now) (g.K.Sink.faults c.loop-asks.sink) (g.K.Sink.faults c.restart.new.sink)
-    (g.K.Sink.faults c.restart.new.sink) c.loop-asks.invariant.later (omega arith) (c.restart.ensures.cause tt)
+    (g.K.Sink.faults c.restart.new.sink) c.loop-asks.invariant.later (omega arith) (c.in-CutOff.ensures.cause tt)
 
 -- memory was wanting at the restart
 pub returns-in-NoMemory-clause-answered : goal.returns-in-NoMemory-clause-answered
 returns-in-NoMemory-clause-answered g c =
-    let at = ended g c.After-restart in (
+    let o = order g c.In-Ok-answer_stretch in
+    let at = c.in-NoMemory.ensures.ended o.lines o.numbered (below g c.After-len) o.moved in (
       at.1,
       no_memory c.args.registry.now.schema.now c.args.registry.now.world.now
           (header_bytes c.args.registry.now.header.now) g.F.D.Disk.tells g.F.D.Disk g.K.Sink.tells (items_of c.args.batch.now)
@@ -209,7 +213,7 @@ returns-in-Err-answer_stretch-clause-answered g c = (
 -- where it didn't go on, all disks are back
 pub returns-in-CutOff-clause-inside : goal.returns-in-CutOff-clause-inside
 returns-in-CutOff-clause-inside g c =
-    subst (λ ns. AllIn ns (g.F.Shelf.is_out c.restart.new.shelf)) (stay g c.After-says_broken-says_broken).names (c.restart.ensures.inside (λ none. none))
+    subst (λ ns. AllIn ns (g.F.Shelf.is_out c.restart.new.shelf)) (stay g c.After-says_broken-says_broken).names (c.in-CutOff.ensures.inside (λ none. none))
 
 pub returns-in-CutOff-clause-others_out : goal.returns-in-CutOff-clause-others_out
 returns-in-CutOff-clause-others_out g c =
@@ -232,7 +236,7 @@ returns-in-CutOff-clause-disks g c =
 
 pub returns-in-NoMemory-clause-inside : goal.returns-in-NoMemory-clause-inside
 returns-in-NoMemory-clause-inside g c =
-    subst (λ ns. AllIn ns (g.F.Shelf.is_out c.restart.new.shelf)) (stay g c.After-says_broken-says_broken).names (c.restart.ensures.inside (λ none. none))
+    subst (λ ns. AllIn ns (g.F.Shelf.is_out c.restart.new.shelf)) (stay g c.After-says_broken-says_broken).names (c.in-NoMemory.ensures.inside (λ none. none))
 
 pub returns-in-NoMemory-clause-others_out : goal.returns-in-NoMemory-clause-others_out
 returns-in-NoMemory-clause-others_out g c =
