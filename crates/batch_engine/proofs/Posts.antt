@@ -1,8 +1,9 @@
 -- The users of a stretch at their posts: their rooms, their answers, and what is gathered of them.
-use Rattle.std.proofs.Common.{◌≡◌, ℕ, suc, ◌+◌, ◌<◌, ◌≤◌, Bool, true, false, List, [], ◌∷◌, ◌++◌, length, map, All, refl, sym, ap, subst, ◌∙◌}
+use Rattle.std.proofs.Common.{◌≡◌, ℕ, suc, ◌+◌, ◌<◌, ◌≤◌, ◌||◌, Bool, true, false, List, [], ◌∷◌, ◌++◌, length, map, drop, get_or, All, refl, sym, ap, subst, ◌∙◌}
 use Rattle.std.proofs.Common.{append-nil, arith}
-use Rattle.std.specs.Prelude.{bytes_eq, if◌then◌else◌, Vec, vec_capacity, slice_index_or}
-use Rattle.std.specs.List.{flat_map, AllByRecursion}
+use Rattle.std.specs.Prelude.{bytes_eq, if◌then◌else◌, None, Vec, vec_capacity, slice_index_or}
+use Rattle.std.specs.List.{flat_map, list_any, AllByRecursion}
+use Rattle.std.proofs.lemmas.List.{drop_more}
 use Rattle.std.specs.declared.alloc.Global.{Global}
 use Rattle.std.specs.List.Sorted.{IsPermutation}
 use Rattle.cqe_base.specs.Schema.{Text, DatabaseSchema, has_duplicate}
@@ -19,8 +20,10 @@ use Rattle.cqe_base.specs.Run.{Reply}
 use Rattle.std.specs.Prelude.{Option}
 use Rattle.std.proofs.lemmas.List.Elements.{All-nil, All-push, All-from_recursion}
 use Rattle.std.proofs.lemmas.List.Sorted.{list_any-IsPermutation}
-use Rattle.batch_engine.specs.Answers.{OwnRun, asks_of, answers_from, strangers_from, restarted_at, output_bytes, says_broken}
+use Rattle.batch_engine.specs.Answers.{OwnRun, answer_to, asks_of, answers_from, strangers_from, restarted_at, output_bytes, says_broken}
 use Rattle.batch_engine.specs.BatchLines.{asked}
+use Rattle.batch_engine.specs.Batches.{ask_in, asks_in}
+use Rattle.batch_engine.specs.declared.batch.BatchAsk.{BatchAsk}
 use Rattle.batch_engine.specs.Ordered.{AreNumbered}
 use Rattle.batch_engine.specs.Steps.{Runs, restart_bytes}
 use Rattle.batch_engine.proofs.Seating.{flat_map-append}
@@ -44,6 +47,36 @@ few_asks name (ask ∷ asks) = by (bytes_eq name ask.name) (few_asks name asks)
     by : (b : Bool) → asks_of name asks ≤ length asks → (if b then 1 else 0) + asks_of name asks ≤ length (ask ∷ asks)
     by true few = omega (arith, few)
     by false few = omega (arith, few)
+
+-- the asks from a place on: that at the place, and those behind it
+pub asks_left : (name : Text) (asks : List BatchAsk) (i : ℕ) (ask : BatchAsk) → i < length asks → ask ≡ get_or asks i ask
+    → asks_of name (asks_in (drop i asks)) ≡ (if bytes_eq name (ask_in ask).name then 1 else 0) + asks_of name (asks_in (drop (i + 1) asks))
+asks_left name asks i ask low is =
+    ap (λ l. asks_of name (asks_in l)) (drop_more asks i ask low ∙ ap (λ a. a ∷ drop (i + 1) asks) (sym is))
+
+-- ---- the answers to strangers
+
+-- that to one ask, if none of these names has made it
+abbrev pub stranger : ℕ → List Text → NamedAsk → List Answer
+stranger number names ask = if list_any (λ name. bytes_eq name ask.name) names then [] else answer_to number ask None ∷ []
+
+pub strangers_from-push : (number : ℕ) (asks : List NamedAsk) (ask : NamedAsk) (names : List Text)
+    → strangers_from number (asks ++ ask ∷ []) names ≡ strangers_from number asks names ++ stranger (number + length asks) names ask
+strangers_from-push number [] ask names = ap (λ n. stranger n names ask) (omega arith)
+strangers_from-push number (first ∷ asks) ask names = by (list_any (λ name. bytes_eq name first.name) names)
+  where
+    longer : List NamedAsk
+    longer = asks ++ ask ∷ []
+    more : strangers_from (number + 1) longer names ≡ strangers_from (number + 1) asks names ++ stranger (number + length (first ∷ asks)) names ask
+    more =
+        strangers_from-push (number + 1) asks ask names
+        ∙ ap (λ n. strangers_from (number + 1) asks names ++ stranger n names ask) (omega arith)
+    by : (known : Bool)
+        → (if known then strangers_from (number + 1) longer names else answer_to number first None ∷ strangers_from (number + 1) longer names)
+        ≡ (if known then strangers_from (number + 1) asks names else answer_to number first None ∷ strangers_from (number + 1) asks names)
+        ++ stranger (number + length (first ∷ asks)) names ask
+    by true = more
+    by false = ap (λ l. answer_to number first None ∷ l) more
 
 module _ {D : Type 0} {g h : _} where
   -- ---- rooms
@@ -112,6 +145,12 @@ module _ {D : Type 0} {g h : _} where
       ≡ all_of (map (λ (p : DeskPost D g h). p.answers.items) posts)
   all_are [] = refl
   all_are (post ∷ posts) = ap (λ l. post.answers.items ++ l) (all_are posts)
+
+  -- whether some user has a name
+  pub any_named : (name : Text) (posts : List (DeskPost D g h))
+      → list_any (λ (p : DeskPost D g h). bytes_eq (seat_name p.seat) name) posts ≡ list_any (λ n. bytes_eq n name) (names_of posts)
+  any_named name [] = refl
+  any_named name (post ∷ posts) = ap (λ b. bytes_eq (seat_name post.seat) name || b) (any_named name posts)
 
   -- the names of the users stay
   pub same_names : (posts : List (DeskPost D g h)) → names_of posts ≡ map seat_name (map seat_of posts)

@@ -37,7 +37,7 @@ fn asks_of(asks: &[BatchAsk], name: &str) -> usize
 {
     let mut count = 0;
     for ask in asks {
-        if ask.name.as_str() == name {
+        if name == ask.name.as_str() {
             count += 1;
         }
     }
@@ -98,7 +98,7 @@ fn answer_own<R: Wait, G: Gate, D: Disk>(
 {
     for number in 0..asks.len() {
         let ask = &asks[number];
-        if ask.name.as_str() == post.seat.user.name.as_str() {
+        if post.seat.user.name.as_str() == ask.name.as_str() {
             let reply = ask_at(rt, alloc, &mut post.seat, ask.text.as_str(), gate);
             post.answers
                 .push_reserved(answer_to(number, ask, Some(reply)));

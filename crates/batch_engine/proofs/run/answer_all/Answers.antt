@@ -1,4 +1,4 @@
-use Rattle.std.proofs.Common.{◌≡◌, ◌++◌, ◌∷◌, ◌+◌, ◌||◌, [], take, drop, true, false, refl, sym, ap, subst, ◌∙◌, ◌<◌, All, append-nil, length, map, arith}
+use Rattle.std.proofs.Common.{◌≡◌, ◌++◌, ◌∷◌, ◌+◌, ◌||◌, [], take, drop, true, false, refl, sym, ap, subst, ◌∙◌, ◌<◌, All, append-nil, length, map, append_assoc, arith}
 use Rattle.std.specs.Prelude.{vec_capacity}
 use Rattle.std.proofs.lemmas.List.{take_all}
 use Rattle.std.proofs.Math.Bool.{or-false}
@@ -198,17 +198,56 @@ returns-in-NoMemory-clause-answered g c =
       at.3,
     )
 
--- memory was wanting before the first ask of the stretch: `to_here` at the stretches so far, with `c.give_back.ensures.back`
+-- memory was wanting before the first ask of the stretch
+err_can : (g : Over) (c : goal.In-Err-answer_stretch g)
+    → CanGive g.F.D.Disk c.in-Err-answer_stretch.seats.items (g.F.Shelf.is_out c.loop-asks.shelf) (g.F.Shelf.disk_faults c.loop-asks.shelf)
+err_can g c =
+    let stay = stay_run _ _ _ _ _ _ _ _ _ _ c.loop-asks.invariant.so_far.runs in
+    subst (λ l. CanGive g.F.D.Disk l (g.F.Shelf.is_out c.loop-asks.shelf) (g.F.Shelf.disk_faults c.loop-asks.shelf))
+    (sym (ap (λ v. v.items) c.in-Err-answer_stretch.ensures.refused))
+    (subst (λ s. CanGive g.F.D.Disk c.loop-asks.seats.items (g.F.Shelf.is_out s) (g.F.Shelf.disk_faults s)) (sym c.loop-asks.invariant.same)
+    (record {
+      distinct = ap has_duplicate stay.names ∙ c.requires.distinct;
+      out = subst (λ ns. AllOut ns (g.F.Shelf.is_out c.args.shelf.now)) (sym stay.names) c.requires.out;
+      later = stay.later (g.F.Shelf.disk_faults c.args.shelf.now) c.requires.later;
+    }))
+
+pub give_back-requires-clause-distinct : goal.give_back-requires-clause-distinct
+give_back-requires-clause-distinct g c = (err_can g (goal.at.give_back-requires-clause-distinct g c).In-Err-answer_stretch).distinct
+
+pub give_back-requires-clause-out : goal.give_back-requires-clause-out
+give_back-requires-clause-out g c = (err_can g (goal.at.give_back-requires-clause-out g c).In-Err-answer_stretch).out
+
+pub give_back-requires-clause-later : goal.give_back-requires-clause-later
+give_back-requires-clause-later g c = (err_can g (goal.at.give_back-requires-clause-later g c).In-Err-answer_stretch).later
+
+-- the items of the batch: those of the stretches so far, and the others
+items_left : (g : Over) (c : goal.In-Err-answer_stretch g)
+    → items_of c.args.batch.now
+    ≡ stretches_in (take c.loop-asks.asks-index c.ended-asks-ended.result.now)
+    ++ ((stretch_in c.asks-item.result.items ++ restarted ∷ [])
+    ++ items_in (drop (c.loop-asks.asks-index + 1) c.ended-asks-ended.result.now) (last_of c.args.batch.now))
+items_left g c =
+    ap (λ e. items_in e (last_of c.args.batch.now)) (sym c.ended-asks-ended.ensures.stretches)
+    ∙ stretch_split c.ended-asks-ended.result.now (last_of c.args.batch.now) c.loop-asks.asks-index c.asks-item.result c.loop-asks-test.true c.asks-item.is
+    ∙ append_assoc (stretches_in (take c.loop-asks.asks-index c.ended-asks-ended.result.now)) (stretch_in c.asks-item.result.items ++ restarted ∷ []) _
+
 pub returns-in-Err-answer_stretch-clause-answered : goal.returns-in-Err-answer_stretch-clause-answered
 returns-in-Err-answer_stretch-clause-answered g c = (
   c.in-Err-answer_stretch.seats.items,
   to_here c.args.registry.now.schema.now c.args.registry.now.world.now
       (header_bytes c.args.registry.now.header.now) g.F.D.Disk.tells g.F.D.Disk g.K.Sink.tells (items_of c.args.batch.now)
-      (stretches_in (take c.loop-asks.asks-index c.ended-asks-ended.result.now)) ? c.args.seats.items c.in-Err-answer_stretch.seats.items
-      c.loop-asks.is_broken _ _ ? (subst (λ n. RunsAll _ _ _ g.F.D.Disk.tells g.F.D.Disk g.K.Sink.tells _ c.args.seats.items n c.loop-asks.is_broken _ _)
+      (stretches_in (take c.loop-asks.asks-index c.ended-asks-ended.result.now)) _ c.args.seats.items c.in-Err-answer_stretch.seats.items
+      c.loop-asks.is_broken _ _ (items_left g c.In-Err-answer_stretch)
+      (subst (λ n. RunsAll c.args.registry.now.schema.now c.args.registry.now.world.now (header_bytes c.args.registry.now.header.now)
+      g.F.D.Disk.tells g.F.D.Disk g.K.Sink.tells (stretches_in (take c.loop-asks.asks-index c.ended-asks-ended.result.now)) c.args.seats.items n
+      c.loop-asks.is_broken (g.K.Sink.written c.args.sink.now) (g.K.Sink.written c.loop-asks.sink))
       (sym (ap (λ v. v.items) c.in-Err-answer_stretch.ensures.refused)) c.loop-asks.invariant.so_far),
   c.give_back.ensures.back,
 )
+
+-- the other clauses of this end, and those of the last stretch's (`in-Err-answer_stretch-2`): as those of `in-Ok`, with `stay_run` of
+-- `c.loop-asks.invariant.so_far.runs` in the place of `last_stay`, and of the last stretch `to_here` at `all_ended`
 
 -- where it didn't go on, all disks are back
 pub returns-in-CutOff-clause-inside : goal.returns-in-CutOff-clause-inside
@@ -264,18 +303,43 @@ returns-in-NoMemory-clause-disks g c =
 
 -- ---- the last stretch
 
--- the same of the last stretch: `last_order` and `last_runs` as `order` and `runs`, by `c.last.ensures.stretch` in the place of
--- `c.as_slice-asks.ensures.value`
+pub answer_stretch-2-requires-clause-short : goal.answer_stretch-2-requires-clause-short
+answer_stretch-2-requires-clause-short g c κs within = c.last.ensures.short
+
+pub answer_stretch-2-requires-clause-served : goal.answer_stretch-2-requires-clause-served
+answer_stretch-2-requires-clause-served g c κs within =
+    let stay = stay_run _ _ _ _ _ _ _ _ _ _ c.loop-asks.invariant.so_far.runs in (
+      c.args.registry.now.schema.now,
+      c.args.registry.now.world.now,
+      header_bytes c.args.registry.now.header.now,
+      stay.served c.requires.served,
+    )
+
+pub answer_stretch-2-requires-clause-distinct : goal.answer_stretch-2-requires-clause-distinct
+answer_stretch-2-requires-clause-distinct g c κs within =
+    ap has_duplicate (stay_run _ _ _ _ _ _ _ _ _ _ c.loop-asks.invariant.so_far.runs).users ∙ c.requires.names
+
 last_order : (g : Over) (c : goal.In-Ok-answer_stretch-2 g)
     → InOrder c.args.registry.now.schema.now c.args.registry.now.world.now (header_bytes c.args.registry.now.header.now) g.F.D.Disk.tells g.F.D.Disk
     (asks_in (last_of c.args.batch.now)) c.loop-asks.seats.items c.in-Ok-answer_stretch-2.told.0.items c.in-Ok-answer_stretch-2.told.1.items
-last_order g c = ?
+last_order g c =
+    let stay = stay_run _ _ _ _ _ _ _ _ _ _ c.loop-asks.invariant.so_far.runs in
+    in_lines c.args.registry.now.schema.now c.args.registry.now.world.now (header_bytes c.args.registry.now.header.now) g.F.D.Disk.tells g.F.D.Disk
+    (asks_in (last_of c.args.batch.now)) c.loop-asks.seats.items c.in-Ok-answer_stretch-2.told.0.items c.in-Ok-answer_stretch-2.told.1.items
+    (subst (λ l. AreAnswered c.args.registry.now.schema.now c.args.registry.now.world.now (asks_in l) c.loop-asks.seats.items
+    c.in-Ok-answer_stretch-2.told.0.items c.in-Ok-answer_stretch-2.told.1.items) c.last.ensures.stretch
+    (c.in-Ok-answer_stretch-2.ensures.answered c.args.registry.now.schema.now c.args.registry.now.world.now
+    (header_bytes c.args.registry.now.header.now) (stay.served c.requires.served)))
 
 last_runs : (g : Over) (c : goal.After-says_broken-says_broken-2 g)
     → Runs c.args.registry.now.schema.now c.args.registry.now.world.now (header_bytes c.args.registry.now.header.now) g.F.D.Disk.tells g.F.D.Disk
     (stretch_in (last_of c.args.batch.now)) c.loop-asks.seats.items (output_bytes (last_order g c.In-Ok-answer_stretch-2).lines)
     c.in-Ok-answer_stretch-2.told.0.items c.says_broken-says_broken-2.result
-last_runs g c = ?
+last_runs g c =
+    subst (Runs c.args.registry.now.schema.now c.args.registry.now.world.now (header_bytes c.args.registry.now.header.now) g.F.D.Disk.tells g.F.D.Disk
+    (stretch_in (last_of c.args.batch.now)) c.loop-asks.seats.items (output_bytes (last_order g c.In-Ok-answer_stretch-2).lines)
+    c.in-Ok-answer_stretch-2.told.0.items)
+    (sym (c.says_broken-says_broken-2.ensures ∙ ap says_broken c.as_slice-2.ensures.value)) (last_order g c.In-Ok-answer_stretch-2).runs
 
 -- the stretches that ended are all of them
 all_ended : (g : Over) (c : goal.After-says_broken-says_broken-2 g)
@@ -292,14 +356,12 @@ last_stay g c =
     (runs_then _ _ _ g.F.D.Disk.tells g.F.D.Disk _ _ c.args.seats.items c.loop-asks.seats.items c.in-Ok-answer_stretch-2.told.0.items _ _ _ _
     c.loop-asks.invariant.so_far.runs (last_runs g c))
 
--- answer_stretch-2-requires-clause-{served, distinct}: as those of the loop
-
 pub refusals_of-refusals-requires-clause-room : goal.refusals_of-refusals-requires-clause-room
 refusals_of-refusals-requires-clause-room g c =
     let names = ap length (last_stay g c.After-says_broken-says_broken-2).names in
     let whole = length-journals c.in-Ok-answer_stretch-2.told.0.items in
     let first = length-journals c.args.seats.items in
-    let read = ap length c.as_slice.ensures.value in
+    let read = ap length c.as_slice-3.ensures.value in
     omega (arith, c.requires.refusals, names, whole, first, read)
 
 last_can : (g : Over) (c : goal.After-says_broken-says_broken-2 g)
@@ -422,7 +484,7 @@ returns-in-Ok-clause-answered g c = (
       (λ told. c.write_in_order.ensures.all told (last_order g c.In-Ok-answer_stretch-2).lines (last_order g c.In-Ok-answer_stretch-2).numbered
       (last_order g c.In-Ok-answer_stretch-2).moved)),
   c.give_back.ensures.back,
-  c.refusals_of-refusals.ensures ∙ ap (map (λ s. s.refusal)) c.as_slice.ensures.value,
+  c.refusals_of-refusals.ensures ∙ ap (map (λ s. s.refusal)) c.as_slice-3.ensures.value,
 )
 
 pub returns-clause-answered : goal.returns-clause-answered
