@@ -1,5 +1,5 @@
 -- The asks of a stretch, each user's one after the other, put together in the order of the script.
-use Rattle.std.proofs.Common.{◌≡◌, ℕ, ◌+◌, ◌<◌, Bool, true, false, List, [], ◌∷◌, ◌++◌, length, map, All, refl, sym, ap, subst, ◌∙◌, append-nil, arith}
+use Rattle.std.proofs.Common.{◌≡◌, ℕ, suc, ◌+◌, ◌<◌, Bool, true, false, List, [], ◌∷◌, ◌++◌, length, map, All, refl, sym, ap, subst, ◌∙◌, append-nil, arith}
 use Rattle.std.specs.Prelude.{Option, Some, None, is_some, bytes_eq, if◌then◌else◌, ◌||◌}
 use Rattle.std.specs.List.{list_any, flat_map, AllByRecursion}
 use Rattle.std.specs.List.Sorted.{IsPermutation}
@@ -66,6 +66,31 @@ module _ (schema : DatabaseSchema) (world : FactSet) {D : Type 0} {g h : _} wher
   OwnRuns number asks [] [] [] = Unit {0}
   OwnRuns number asks (old ∷ olds) (new ∷ news) (own ∷ owns) = OwnRun schema world number asks old new own × OwnRuns number asks olds news owns
   OwnRuns number asks olds news owns = ⊥
+
+  -- the names of the users stay
+  kept_name : (number : ℕ) (asks : List NamedAsk) (old new : DeskSeat D g h) (own : List Answer) → OwnRun schema world number asks old new own
+      → seat_name new ≡ seat_name old
+  kept_name number asks old new own (done n seat) = refl
+  kept_name number asks old new own (his n a rest old' mid new' reply answers named told run) =
+      kept_name (number + 1) rest mid new answers run ∙ ap (λ (u : User). string_bytes u.name) told.user_is
+  kept_name number asks old new own (of_another n a rest old' new' answers differs run) = kept_name (number + 1) rest old new answers run
+
+  pub kept_names : (number : ℕ) (asks : List NamedAsk) (olds news : List (DeskSeat D g h)) (owns : List (List Answer))
+      → OwnRuns number asks olds news owns → map seat_name news ≡ map seat_name olds
+  kept_names number asks [] [] [] runs = refl
+  kept_names number asks [] [] (own ∷ owns) runs = absurd runs
+  kept_names number asks [] (new ∷ news) owns runs = absurd runs
+  kept_names number asks (old ∷ olds) [] owns runs = absurd runs
+  kept_names number asks (old ∷ olds) (new ∷ news) [] runs = absurd runs
+  kept_names number asks (old ∷ olds) (new ∷ news) (own ∷ owns) runs =
+      ap (λ n. n ∷ map seat_name news) (kept_name number asks old new own runs.0)
+      ∙ ap (λ ns. seat_name old ∷ ns) (kept_names number asks olds news owns runs.1)
+
+  -- each ask has one answer
+  pub as_many : (number : ℕ) (asks : List NamedAsk) (old new : List (DeskSeat D g h)) (replies : List (Option Reply))
+      → TellsEach schema world asks old new replies → length (answers_from number asks replies) ≡ length asks
+  as_many number asks old new replies (no_ask seats) = refl
+  as_many number asks old new replies (next_ask ask rest old' mid new' reply others tells each) = ap suc (as_many (number + 1) rest mid new others each)
 
   -- an ask that none of these users made changes nothing of them
   passed_one : (number : ℕ) (ask : NamedAsk) (asks : List NamedAsk) (old new : DeskSeat D g h) (own : List Answer) → is_named ask.name old ≡ false

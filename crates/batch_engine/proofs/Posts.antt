@@ -1,6 +1,6 @@
 -- The users of a stretch at their posts: their rooms, their answers, and what is gathered of them.
-use Rattle.std.proofs.Common.{◌≡◌, ℕ, suc, ◌+◌, ◌<◌, ◌≤◌, ◌||◌, Bool, true, false, List, [], ◌∷◌, ◌++◌, length, map, drop, get_or, All, refl, sym, ap, subst, ◌∙◌}
-use Rattle.std.proofs.Common.{append-nil, arith}
+use Rattle.std.proofs.Common.{◌≡◌, ℕ, suc, ◌+◌, ◌<◌, ◌≤◌, ◌||◌, ◌==◌, Bool, true, false, List, [], ◌∷◌, ◌++◌, length, map, drop, get_or, All}
+use Rattle.std.proofs.Common.{refl, sym, ap, subst, ◌∙◌, append-nil, arith}
 use Rattle.std.specs.Prelude.{bytes_eq, if◌then◌else◌, None, Vec, vec_capacity, slice_index_or}
 use Rattle.std.specs.List.{flat_map, list_any, AllByRecursion}
 use Rattle.std.proofs.lemmas.List.{drop_more}
@@ -8,7 +8,8 @@ use Rattle.std.specs.declared.alloc.Global.{Global}
 use Rattle.std.specs.List.Sorted.{IsPermutation}
 use Rattle.cqe_base.specs.Schema.{Text, DatabaseSchema, has_duplicate}
 use Rattle.cqe_base.specs.Facts.{FactSet}
-use Rattle.desk_crew.specs.Crew.{seat_name, IsSeatServed}
+use Rattle.cqe_base.specs.History.{profile_of}
+use Rattle.desk_crew.specs.Crew.{seat_name, seat_kept, seat_user, IsSeatServed}
 use Rattle.desk_crew.specs.Seats.{DeskSeat}
 use Rattle.batch_engine.specs.BatchLines.{NamedAsk}
 use Rattle.outside.specs.declared.disk.Disk.{Ghosts as DiskGhosts}
@@ -19,7 +20,7 @@ use Rattle.desk_crew.specs.Shelved.{AreSeatsOf}
 use Rattle.cqe_base.specs.Run.{Reply}
 use Rattle.std.specs.Prelude.{Option}
 use Rattle.std.proofs.lemmas.List.Elements.{All-nil, All-push, All-from_recursion}
-use Rattle.std.proofs.lemmas.List.Sorted.{list_any-IsPermutation}
+use Rattle.std.proofs.lemmas.List.Sorted.{list_any-IsPermutation, length_permutation}
 use Rattle.batch_engine.specs.Answers.{OwnRun, answer_to, asks_of, answers_from, strangers_from, restarted_at, output_bytes, says_broken}
 use Rattle.batch_engine.specs.BatchLines.{asked}
 use Rattle.batch_engine.specs.Batches.{ask_in, asks_in}
@@ -29,7 +30,7 @@ use Rattle.batch_engine.specs.Steps.{Runs, restart_bytes}
 use Rattle.batch_engine.proofs.Seating.{flat_map-append}
 use Rattle.batch_engine.specs.Posts.{DeskPost, HasRoom, HasRooms, RunsOwn, AreAnswered, seat_of, names_of}
 use Rattle.batch_engine.specs.declared.answer.Answer.{Answer}
-use Rattle.batch_engine.proofs.Merging.{OwnRuns, Merged, merged, all_of, told_runs, answers_numbered}
+use Rattle.batch_engine.proofs.Merging.{OwnRuns, Merged, merged, as_many, all_of, told_runs, answers_numbered}
 
 -- ---- how many asks
 
@@ -47,6 +48,10 @@ few_asks name (ask ∷ asks) = by (bytes_eq name ask.name) (few_asks name asks)
     by : (b : Bool) → asks_of name asks ≤ length asks → (if b then 1 else 0) + asks_of name asks ≤ length (ask ∷ asks)
     by true few = omega (arith, few)
     by false few = omega (arith, few)
+
+pub not_empty : {X : Type 0} (xs : List X) → 0 < length xs → (length xs == 0) ≡ false
+not_empty [] some = absurd (omega (arith, some))
+not_empty (x ∷ xs) some = refl
 
 -- the asks from a place on: that at the place, and those behind it
 pub asks_left : (name : Text) (asks : List BatchAsk) (i : ℕ) (ask : BatchAsk) → i < length asks → ask ≡ get_or asks i ask
@@ -67,10 +72,12 @@ strangers_from-push number (first ∷ asks) ask names = by (list_any (λ name. b
   where
     longer : List NamedAsk
     longer = asks ++ ask ∷ []
+
     more : strangers_from (number + 1) longer names ≡ strangers_from (number + 1) asks names ++ stranger (number + length (first ∷ asks)) names ask
     more =
         strangers_from-push (number + 1) asks ask names
         ∙ ap (λ n. strangers_from (number + 1) asks names ++ stranger n names ask) (omega arith)
+
     by : (known : Bool)
         → (if known then strangers_from (number + 1) longer names else answer_to number first None ∷ strangers_from (number + 1) longer names)
         ≡ (if known then strangers_from (number + 1) asks names else answer_to number first None ∷ strangers_from (number + 1) asks names)
@@ -168,6 +175,27 @@ module _ {D : Type 0} {g h : _} where
         each = all.each;
         all = subst (IsPermutation (answers_from 0 asks all.replies)) (sym (are ∙ ap (λ ns. strangers_from 0 asks ns ++ all_of owns) same)) all.moved;
       }
+
+  -- and they are as many as the asks
+  pub answers_in_all : (schema : DatabaseSchema) (world : FactSet) (asks : List NamedAsk) (olds news : List (DeskSeat D g h)) (answers : List Answer)
+      → AreAnswered schema world asks olds news answers → length answers ≡ length asks
+  answers_in_all schema world asks olds news answers all =
+      let moved = length_permutation (answers_from 0 asks all.replies) answers all.all in
+      let each = as_many schema world 0 asks olds news all.replies all.each in
+      omega (arith, moved, each)
+
+  -- the desks of posts are of their users
+  users_of : (schema : DatabaseSchema) (world : FactSet) (header : List ℕ) (posts : List (DeskPost D g h))
+      → AllByRecursion (λ (p : DeskPost D g h). IsSeatServed schema world header p.seat) posts
+      → AllByRecursion (λ (p : DeskPost D g h). (seat_kept p.seat).user ≡ profile_of (seat_user p.seat)) posts
+  users_of schema world header [] all = tt
+  users_of schema world header (post ∷ posts) all = (all.0.user_is, users_of schema world header posts all.1)
+
+  pub posts_of : (schema : DatabaseSchema) (world : FactSet) (header : List ℕ) (posts : List (DeskPost D g h))
+      → AllByRecursion (λ (p : DeskPost D g h). IsSeatServed schema world header p.seat) posts
+      → All (λ (p : DeskPost D g h). (seat_kept p.seat).user ≡ profile_of (seat_user p.seat)) posts
+  posts_of schema world header posts all =
+      All-from_recursion (λ (p : DeskPost D g h). (seat_kept p.seat).user ≡ profile_of (seat_user p.seat)) posts (users_of schema world header posts all)
 
 -- ---- the answers of a stretch, in order
 

@@ -56,7 +56,8 @@ pub ask_at-reply-requires-clause-user : goal.ask_at-reply-requires-clause-user
 ask_at-reply-requires-clause-user g c = c.loop-number.invariant.user
 
 pub answer_to-requires : goal.answer_to-requires
-answer_to-requires g c = short_here c.args.asks.now c.loop-number.number c.index-asks-number.result c.loop-number-test.true c.index-asks-number.is c.requires.short
+answer_to-requires g c =
+    short_here c.args.asks.now c.loop-number.number c.index-asks-number.result c.loop-number-test.true c.index-asks-number.is c.requires.short
 
 pub push_reserved-requires : goal.push_reserved-requires
 push_reserved-requires g c =

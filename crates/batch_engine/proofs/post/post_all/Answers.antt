@@ -5,7 +5,7 @@ use Rattle.desk_crew.proofs.Shelving.{first_removed}
 use Rattle.worker_pool.proofs.Seating.{read_on, read_more, read_all}
 use Rattle.batch_engine.specs.Batches.{asks_in}
 use Rattle.batch_engine.specs.Posts.{HasRoom, HasRooms, seat_of}
-use Rattle.batch_engine.proofs.Posts.{first_room, rooms_left}
+use Rattle.batch_engine.proofs.Posts.{first_room, rooms_left, not_empty}
 use Rattle.batch_engine.proofs.post.post_all.Goals as goal
 
 -- where a seat is left there is a room
@@ -21,7 +21,8 @@ pub loop-seat-preserved : goal.loop-seat-preserved
 loop-seat-preserved g c =
     let so_far = c.loop-seat.invariant in
     let some = rooms_left (asks_in c.args.asks.now) _ c.loop-seat.rooms.items c.in-Some.seat _ c.in-Some.ensures.steps.0 so_far.rooms in
-    let taken = first_removed c.loop-seat.rooms.items c.remove.result c.remove.new.self.items c.remove.ensures.value c.remove.ensures.items ? in
+    let taken = first_removed c.loop-seat.rooms.items c.remove.result c.remove.new.self.items c.remove.ensures.value c.remove.ensures.items
+    (not_empty c.loop-seat.rooms.items some) in
     let here = first_room (asks_in c.args.asks.now) _ c.loop-seat.rooms.items c.in-Some.seat _ c.remove.result c.remove.new.self.items
     c.in-Some.ensures.steps.0 so_far.rooms taken in
     let added = c.push_reserved.ensures.items in

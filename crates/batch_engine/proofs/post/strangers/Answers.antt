@@ -1,4 +1,5 @@
-use Rattle.std.proofs.Common.{◌≡◌, ◌≤◌, ◌+◌, ◌++◌, ◌∷◌, [], true, false, length, take, refl, sym, ap, subst, ◌∙◌, append-nil, length-append, arith, rules, tests}
+use Rattle.std.proofs.Common.{◌≡◌, ◌≤◌, ◌+◌, ◌++◌, ◌∷◌, [], true, false, length, take, refl, sym, ap, subst, ◌∙◌}
+use Rattle.std.proofs.Common.{append-nil, length-append, arith, rules, tests}
 use Rattle.std.specs.Prelude.{bytes_eq, if◌then◌else◌, None, vec_capacity}
 use Rattle.std.specs.List.{list_any}
 use Rattle.std.proofs.lemmas.List.{take_all, length-map, length-take-le}
@@ -45,7 +46,8 @@ more g c =
     ∙ ap (λ b. strangers_from 0 first names ++ (if b then [] else answer_to number (ask_in ask) None ∷ [])) (sym (known g c))
 
 pub answer_to-requires : goal.answer_to-requires
-answer_to-requires g c = short_here c.args.asks.now c.loop-number.number c.index-asks-number.result c.loop-number-test.true c.index-asks-number.is c.requires.short
+answer_to-requires g c =
+    short_here c.args.asks.now c.loop-number.number c.index-asks-number.result c.loop-number-test.true c.index-asks-number.is c.requires.short
 
 pub push_reserved-requires : goal.push_reserved-requires
 push_reserved-requires g c =
@@ -75,11 +77,11 @@ loop-number-preserved g c =
             room = ap vec_capacity w.answers-is ∙ w.push_reserved.ensures.capacity ∙ so_far.room;
           }
       | else-is_known w ↦ record {
-          so_far = ap (λ v. v.items) w.answers-is ∙ so_far.so_far ∙ sym (append-nil first)
-              ∙ ap (λ b. first ++ (if b then [] else answer ∷ [])) (sym w.if-is_known.false) ∙ sym grown;
-          few = let same = ap (λ v. length v.items) w.answers-is in omega (arith, few, same);
-          room = ap vec_capacity w.answers-is ∙ so_far.room;
-        }
+        so_far = ap (λ v. v.items) w.answers-is ∙ so_far.so_far ∙ sym (append-nil first)
+            ∙ ap (λ b. first ++ (if b then [] else answer ∷ [])) (sym w.if-is_known.false) ∙ sym grown;
+        few = let same = ap (λ v. length v.items) w.answers-is in omega (arith, few, same);
+        room = ap vec_capacity w.answers-is ∙ so_far.room;
+      }
     ]
 
 pub returns : goal.returns

@@ -1,4 +1,5 @@
-use Rattle.std.proofs.Common.{◌≡◌, ◌++◌, ◌∷◌, ◌+◌, ◌||◌, [], take, drop, true, false, refl, sym, ap, subst, ◌∙◌, ◌<◌, All, append-nil, length, map, append_assoc, arith}
+use Rattle.std.proofs.Common.{◌≡◌, ◌++◌, ◌∷◌, ◌+◌, ◌||◌, [], take, drop, true, false, refl, sym, ap, subst, ◌∙◌, ◌<◌, All, append-nil, length, map}
+use Rattle.std.proofs.Common.{append_assoc, arith}
 use Rattle.std.specs.Prelude.{vec_capacity}
 use Rattle.std.proofs.lemmas.List.{take_all}
 use Rattle.std.proofs.Math.Bool.{or-false}
