@@ -88,15 +88,31 @@ module _ (schema : DatabaseSchema) (world : FactSet) (header : List ℕ) (bytes 
   first_course user name opened now c counted same (inr (none, empty)) =
       record { later = omega (arith, counted); caused = tt; fits = inr (none, empty, same, refl); refused = refl }
 
-module _ (schema : DatabaseSchema) (world : FactSet) (header directory : List ℕ) {D : Type 0} {g h : _} (T : Type 0) (Disk : DiskGhosts D) (t : T)
-    (read_is_image : (d : D) → T → Disk.image d (Disk.reads d)) (clock : Clock Disk)
-    (bytes : Text → List ℕ) (before : Text → ℕ) (images : Text → List ℕ → Type 0) where
+module _ (schema : DatabaseSchema) (world : FactSet) where
   -- at the end of each stretch before the last opening there were at most so many entries
   abbrev pub HasFewer : NamedUser → List Event → ℕ → Type 0
   HasFewer user events count =
       (front rest : List Event) → events ≡ front ++ rest → BeginsLife rest
       → length (after_events schema world user.profile (opening schema world user.profile user.opened) front).entries ≤ count
 
+  -- an event that isn't an opening ends no stretch
+  fewer_asked : (user : NamedUser) (events : List Event) (event : Event) (count : ℕ) → is_opening event ≡ false → HasFewer user events count
+      → HasFewer user (events ++ event ∷ []) count
+  fewer_asked user events event count isnt fewer front rest split begins = by (cut_push events event front rest split)
+    where
+      of_less : (less : List Event) → rest ≡ less ++ event ∷ [] → events ≡ front ++ less
+          → length (after_events schema world user.profile (opening schema world user.profile user.opened) front).entries ≤ count
+      of_less [] is whole = let e : true ≡ false = sym (subst BeginsLife is begins) ∙ isnt in absurd cc
+      of_less (next ∷ less) is whole = fewer front (next ∷ less) whole (subst BeginsLife is begins)
+
+      by : ((front ≡ events ++ event ∷ []) × (rest ≡ [])) ⊎ CutBefore events event front rest
+          → length (after_events schema world user.profile (opening schema world user.profile user.opened) front).entries ≤ count
+      by (inl whole) = absurd (subst BeginsLife whole.1 begins)
+      by (inr part) = of_less part.less part.rest_is part.split
+
+module _ (schema : DatabaseSchema) (world : FactSet) (header directory : List ℕ) {D : Type 0} {g h : _} (T : Type 0) (Disk : DiskGhosts D) (t : T)
+    (read_is_image : (d : D) → T → Disk.image d (Disk.reads d)) (clock : Clock Disk)
+    (bytes : Text → List ℕ) (before : Text → ℕ) (images : Text → List ℕ → Type 0) where
   -- a user sits at his desk behind these events of his
   pub record IsSeated (user : NamedUser) (events : List Event) (seat : DeskSeat D g h) : Type 0 where
     pub name_is : seat_name seat ≡ user.name
@@ -114,7 +130,7 @@ module _ (schema : DatabaseSchema) (world : FactSet) (header directory : List �
     pub along : IsAlong schema world user.profile header (images user.name) user.opened began opens_at events (Disk.moment (seat_disk seat))
         (Disk.image_since (seat_disk seat))
     pub least : is_sealed (seat_standing seat) ≡ false → length user.opened ≤ length (seat_kept seat).opening
-    pub fewer : is_sealed (seat_standing seat) ≡ false → HasFewer user events (length (seat_kept seat).opening)
+    pub fewer : is_sealed (seat_standing seat) ≡ false → HasFewer schema world user events (length (seat_kept seat).opening)
 
   -- all do, behind the events of a script
   abbrev pub AreSeated : List ScriptEvent → List NamedUser → List (DeskSeat D g h) → Type 0
@@ -123,21 +139,6 @@ module _ (schema : DatabaseSchema) (world : FactSet) (header directory : List �
   AreSeated script users seats = ⊥
 
   -- ---- an ask
-
-  -- an event that isn't an opening ends no stretch
-  fewer_asked : (user : NamedUser) (events : List Event) (event : Event) (count : ℕ) → is_opening event ≡ false → HasFewer user events count
-      → HasFewer user (events ++ event ∷ []) count
-  fewer_asked user events event count isnt fewer front rest split begins = by (cut_push events event front rest split)
-    where
-      before : (less : List Event) → rest ≡ less ++ event ∷ [] → events ≡ front ++ less
-          → length (after_events schema world user.profile (opening schema world user.profile user.opened) front).entries ≤ count
-      before [] is whole = let e : true ≡ false = sym (subst BeginsLife is begins) ∙ isnt in absurd cc
-      before (next ∷ less) is whole = fewer front (next ∷ less) whole (subst BeginsLife is begins)
-
-      by : ((front ≡ events ++ event ∷ []) × (rest ≡ [])) ⊎ CutBefore events event front rest
-          → length (after_events schema world user.profile (opening schema world user.profile user.opened) front).entries ≤ count
-      by (inl whole) = absurd (subst BeginsLife whole.1 begins)
-      by (inr part) = before part.less part.rest_is part.split
 
   record AskedAt (user : NamedUser) (events : List Event) (seat : DeskSeat D g h) (text : Text) (told : Reply) : Type 0 where
     ending : Ending
@@ -183,8 +184,8 @@ module _ (schema : DatabaseSchema) (world : FactSet) (header directory : List �
               (Disk.moment (seat_disk old)) (Disk.image_since (seat_disk old)) refl (λ opens. absurd cc) seated.along);
           least = λ served. subst (λ (f : Fixed D). length user.opened ≤ length f.opening) (sym kept)
               (seated.least (ap (λ (f : Fixed D). is_sealed f.standing) (sym kept) ∙ served));
-          fewer = λ served. subst (λ (f : Fixed D). HasFewer user (events ++ ask text asked.ending ∷ []) (length f.opening)) (sym kept)
-              (fewer_asked user events (ask text asked.ending) (length (seat_kept old).opening) refl
+          fewer = λ served. subst (λ (f : Fixed D). HasFewer schema world user (events ++ ask text asked.ending ∷ []) (length f.opening)) (sym kept)
+              (fewer_asked schema world user events (ask text asked.ending) (length (seat_kept old).opening) refl
               (seated.fewer (ap (λ (f : Fixed D). is_sealed f.standing) (sym kept) ∙ served)));
         };
       }
@@ -366,7 +367,7 @@ module _ (schema : DatabaseSchema) (world : FactSet) (header directory : List �
   fewer_at : (user : NamedUser) (events : List Event) (seat : DeskSeat D g h) → (seat_kept seat).opening ≡ seat_history seat
       → is_sealed (seat_standing seat) ≡ false
       → IsState (seat_standing seat) (seat_state seat) (after_events schema world user.profile (opening schema world user.profile user.opened) events)
-      → HasFewer user events (length (seat_kept seat).opening)
+      → HasFewer schema world user events (length (seat_kept seat).opening)
   fewer_at user events seat first served is front rest split begins =
       let middle : UserState = after_events schema world user.profile (opening schema world user.profile user.opened) front in
       let end : UserState = after_events schema world user.profile (opening schema world user.profile user.opened) events in
