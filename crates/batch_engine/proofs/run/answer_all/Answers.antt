@@ -8,6 +8,7 @@ use Rattle.cqe_base.specs.Schema.{has_duplicate}
 use Rattle.log_journal.specs.Opening.{header_bytes}
 use Rattle.outside.specs.Shelf.{SameBeside, AllOut, AllIn}
 use Rattle.desk_crew.specs.Shelved.{journals, AreLater}
+use Rattle.desk_crew.proofs.Giving.{CanGive}
 use Rattle.desk_crew.proofs.Opening.{length-journals}
 use Rattle.batch_engine.specs.BatchLines.{restarted}
 use Rattle.batch_engine.specs.BatchOf.{items_of, ended_of, last_of}
@@ -16,6 +17,7 @@ use Rattle.batch_engine.specs.Outputs.{output_bytes}
 use Rattle.batch_engine.specs.Steps.{Runs, RunsAll, restart_bytes}
 use Rattle.batch_engine.proofs.Running.{Stay, stay_run, runs_then, all_first, all_more, some_cut, cut_off, before_restart, to_restart, restarted_more}
 use Rattle.batch_engine.proofs.Running.{asks_one, ended_one, stretch_split, stretches_more, asks_at}
+use Rattle.batch_engine.proofs.run.answer_all.Given.{Over}
 use Rattle.batch_engine.proofs.run.answer_all.Goals.{then-is_broken, else-is_broken}
 use Rattle.batch_engine.proofs.run.answer_all.Goals as goal
 
@@ -56,7 +58,7 @@ answer_stretch-says_broken-requires-clause-room g c =
     omega (arith, small, room, ap length c.as_slice.ensures.value)
 
 -- what it did to the seats
-runs : (g : _) (c : goal.After-answer_stretch-says_broken g)
+runs : (g : Over) (c : goal.After-answer_stretch-says_broken g)
     → Runs c.args.registry.now.schema.now c.args.registry.now.world.now (header_bytes c.args.registry.now.header.now) g.F.D.Disk.tells g.F.D.Disk
     (stretch_in c.asks-item.result.items) c.loop-asks.seats.items (output_bytes c.answer_stretch-says_broken.new.lines.items)
     c.answer_stretch-says_broken.new.seats.items c.answer_stretch-says_broken.result
@@ -71,7 +73,7 @@ runs g c =
 -- ---- its restart
 
 -- what stays of the first seats
-stay : (g : _) (c : goal.After-answer_stretch-says_broken g)
+stay : (g : Over) (c : goal.After-answer_stretch-says_broken g)
     → Stay c.args.registry.now.schema.now c.args.registry.now.world.now (header_bytes c.args.registry.now.header.now) g.F.D.Disk.tells g.F.D.Disk
     c.args.seats.items c.answer_stretch-says_broken.new.seats.items
 stay g c =
@@ -136,7 +138,7 @@ loop-asks-preserved g c =
     }
 
 -- the items of the batch: those of the stretches so far, of this one with its restart, and the others
-items_here : (g : _) (c : goal.After-answer_stretch-says_broken g)
+items_here : (g : Over) (c : goal.After-answer_stretch-says_broken g)
     → items_of c.args.batch.now
     ≡ (stretches_in (take c.loop-asks.asks-index c.ended-asks-ended.result.now) ++ (stretch_in c.asks-item.result.items ++ restarted ∷ []))
     ++ items_in (drop (c.loop-asks.asks-index + 1) c.ended-asks-ended.result.now) (last_of c.args.batch.now)
@@ -183,7 +185,7 @@ returns-in-NoMemory-clause-answered g c =
       ended.0,
     )
 
--- the clauses on the shelf where it didn't go on: `inside`, `others_out`, `counts` and `disks` of `in-CutOff` and of `in-NoMemory` each, as
+-- where it didn't go on, all disks are back
 pub returns-in-CutOff-clause-inside : goal.returns-in-CutOff-clause-inside
 returns-in-CutOff-clause-inside g c =
     subst (λ ns. AllIn ns (g.F.Shelf.is_out c.restart.new.shelf)) (stay g c.After-answer_stretch-says_broken).names (c.restart.ensures.inside (λ none. none))
@@ -207,9 +209,37 @@ returns-in-CutOff-clause-disks g c =
     (subst (λ s. SameBeside (journals c.answer_stretch-says_broken.new.seats.items) (g.F.Shelf.disk s) (g.F.Shelf.disk c.restart.new.shelf))
     c.loop-asks.invariant.same c.restart.ensures.disks)
 
+pub returns-in-NoMemory-clause-inside : goal.returns-in-NoMemory-clause-inside
+returns-in-NoMemory-clause-inside g c =
+    subst (λ ns. AllIn ns (g.F.Shelf.is_out c.restart.new.shelf)) (stay g c.After-answer_stretch-says_broken).names (c.restart.ensures.inside (λ none. none))
+
+pub returns-in-NoMemory-clause-others_out : goal.returns-in-NoMemory-clause-others_out
+returns-in-NoMemory-clause-others_out g c =
+    subst (λ ns. SameBeside ns (g.F.Shelf.is_out c.args.shelf.now) (g.F.Shelf.is_out c.restart.new.shelf))
+    (stay g c.After-answer_stretch-says_broken).names
+    (subst (λ s. SameBeside (journals c.answer_stretch-says_broken.new.seats.items) (g.F.Shelf.is_out s)
+    (g.F.Shelf.is_out c.restart.new.shelf))
+    c.loop-asks.invariant.same c.restart.ensures.others_out)
+
+pub returns-in-NoMemory-clause-counts : goal.returns-in-NoMemory-clause-counts
+returns-in-NoMemory-clause-counts g c =
+    subst (λ ns. SameBeside ns (g.F.Shelf.disk_faults c.args.shelf.now) (g.F.Shelf.disk_faults c.restart.new.shelf))
+    (stay g c.After-answer_stretch-says_broken).names
+    (subst (λ s. SameBeside (journals c.answer_stretch-says_broken.new.seats.items) (g.F.Shelf.disk_faults s)
+    (g.F.Shelf.disk_faults c.restart.new.shelf))
+    c.loop-asks.invariant.same c.restart.ensures.counts)
+
+pub returns-in-NoMemory-clause-disks : goal.returns-in-NoMemory-clause-disks
+returns-in-NoMemory-clause-disks g c =
+    subst (λ ns. SameBeside ns (g.F.Shelf.disk c.args.shelf.now) (g.F.Shelf.disk c.restart.new.shelf))
+    (stay g c.After-answer_stretch-says_broken).names
+    (subst (λ s. SameBeside (journals c.answer_stretch-says_broken.new.seats.items) (g.F.Shelf.disk s)
+    (g.F.Shelf.disk c.restart.new.shelf))
+    c.loop-asks.invariant.same c.restart.ensures.disks)
+
 -- ---- the last stretch
 
-last_runs : (g : _) (c : goal.After-answer_stretch-says_broken-2 g)
+last_runs : (g : Over) (c : goal.After-answer_stretch-says_broken-2 g)
     → Runs c.args.registry.now.schema.now c.args.registry.now.world.now (header_bytes c.args.registry.now.header.now) g.F.D.Disk.tells g.F.D.Disk
     (stretch_in (last_of c.args.batch.now)) c.loop-asks.seats.items (output_bytes c.answer_stretch-says_broken-2.new.lines.items)
     c.answer_stretch-says_broken-2.new.seats.items c.answer_stretch-says_broken-2.result
@@ -222,13 +252,13 @@ last_runs g c =
     (header_bytes c.args.registry.now.header.now) (stay.served c.requires.served))
 
 -- the stretches that ended are all of them
-all_ended : (g : _) (c : goal.After-answer_stretch-says_broken-2 g)
+all_ended : (g : Over) (c : goal.After-answer_stretch-says_broken-2 g)
     → stretches_in (take c.loop-asks.asks-index c.ended-asks-ended.result.now) ≡ stretches_in (ended_of c.args.batch.now)
 all_ended g c =
     ap stretches_in (take_all c.loop-asks.asks-index c.ended-asks-ended.result.now (omega (arith, c.loop-asks-test.false))
     ∙ c.ended-asks-ended.ensures.stretches)
 
-last_stay : (g : _) (c : goal.After-answer_stretch-says_broken-2 g)
+last_stay : (g : Over) (c : goal.After-answer_stretch-says_broken-2 g)
     → Stay c.args.registry.now.schema.now c.args.registry.now.world.now (header_bytes c.args.registry.now.header.now) g.F.D.Disk.tells g.F.D.Disk
     c.args.seats.items c.answer_stretch-says_broken-2.new.seats.items
 last_stay g c =
@@ -258,8 +288,82 @@ refusals_of-refusals-requires-clause-room g c =
     let read = ap length c.as_slice.ensures.value in
     omega (arith, c.requires.refusals, names, whole, first, read)
 
--- give_back-requires-clause-{distinct, out, later} and returns-in-{Ok, Err}-clause-{inside, others_out, counts, disks}: as those of the restart, by
--- `last_stay` in the place of `stay`, `c.give_back` in that of `c.restart`
+last_can : (g : Over) (c : goal.After-answer_stretch-says_broken-2 g)
+    → CanGive g.F.D.Disk c.answer_stretch-says_broken-2.new.seats.items (g.F.Shelf.is_out c.loop-asks.shelf)
+    (g.F.Shelf.disk_faults c.loop-asks.shelf)
+last_can g c =
+    subst (λ s. CanGive g.F.D.Disk c.answer_stretch-says_broken-2.new.seats.items (g.F.Shelf.is_out s)
+    (g.F.Shelf.disk_faults s)) (sym c.loop-asks.invariant.same)
+    (record {
+      distinct = ap has_duplicate (last_stay g c).names ∙ c.requires.distinct;
+      out = subst (λ ns. AllOut ns (g.F.Shelf.is_out c.args.shelf.now)) (sym (last_stay g c).names) c.requires.out;
+      later = (last_stay g c).later (g.F.Shelf.disk_faults c.args.shelf.now) c.requires.later;
+    })
+
+pub give_back-requires-clause-distinct : goal.give_back-requires-clause-distinct
+give_back-requires-clause-distinct g c = (last_can g (goal.at.give_back-requires-clause-distinct g c).After-answer_stretch-says_broken-2).distinct
+
+pub give_back-requires-clause-out : goal.give_back-requires-clause-out
+give_back-requires-clause-out g c = (last_can g (goal.at.give_back-requires-clause-out g c).After-answer_stretch-says_broken-2).out
+
+pub give_back-requires-clause-later : goal.give_back-requires-clause-later
+give_back-requires-clause-later g c = (last_can g (goal.at.give_back-requires-clause-later g c).After-answer_stretch-says_broken-2).later
+
+pub returns-in-Ok-clause-inside : goal.returns-in-Ok-clause-inside
+returns-in-Ok-clause-inside g c =
+    subst (λ ns. AllIn ns (g.F.Shelf.is_out c.give_back.new.shelf)) (last_stay g c.After-answer_stretch-says_broken-2).names c.give_back.ensures.inside
+
+pub returns-in-Ok-clause-others_out : goal.returns-in-Ok-clause-others_out
+returns-in-Ok-clause-others_out g c =
+    subst (λ ns. SameBeside ns (g.F.Shelf.is_out c.args.shelf.now) (g.F.Shelf.is_out c.give_back.new.shelf))
+    (last_stay g c.After-answer_stretch-says_broken-2).names
+    (subst (λ s. SameBeside (journals c.answer_stretch-says_broken-2.new.seats.items) (g.F.Shelf.is_out s)
+    (g.F.Shelf.is_out c.give_back.new.shelf))
+    c.loop-asks.invariant.same c.give_back.ensures.others_out)
+
+pub returns-in-Ok-clause-counts : goal.returns-in-Ok-clause-counts
+returns-in-Ok-clause-counts g c =
+    subst (λ ns. SameBeside ns (g.F.Shelf.disk_faults c.args.shelf.now) (g.F.Shelf.disk_faults c.give_back.new.shelf))
+    (last_stay g c.After-answer_stretch-says_broken-2).names
+    (subst (λ s. SameBeside (journals c.answer_stretch-says_broken-2.new.seats.items) (g.F.Shelf.disk_faults s)
+    (g.F.Shelf.disk_faults c.give_back.new.shelf))
+    c.loop-asks.invariant.same c.give_back.ensures.counts)
+
+pub returns-in-Ok-clause-disks : goal.returns-in-Ok-clause-disks
+returns-in-Ok-clause-disks g c =
+    subst (λ ns. SameBeside ns (g.F.Shelf.disk c.args.shelf.now) (g.F.Shelf.disk c.give_back.new.shelf))
+    (last_stay g c.After-answer_stretch-says_broken-2).names
+    (subst (λ s. SameBeside (journals c.answer_stretch-says_broken-2.new.seats.items) (g.F.Shelf.disk s)
+    (g.F.Shelf.disk c.give_back.new.shelf))
+    c.loop-asks.invariant.same c.give_back.ensures.disks)
+
+pub returns-clause-inside : goal.returns-clause-inside
+returns-clause-inside g c =
+    subst (λ ns. AllIn ns (g.F.Shelf.is_out c.give_back.new.shelf)) (last_stay g c.After-answer_stretch-says_broken-2).names c.give_back.ensures.inside
+
+pub returns-clause-others_out : goal.returns-clause-others_out
+returns-clause-others_out g c =
+    subst (λ ns. SameBeside ns (g.F.Shelf.is_out c.args.shelf.now) (g.F.Shelf.is_out c.give_back.new.shelf))
+    (last_stay g c.After-answer_stretch-says_broken-2).names
+    (subst (λ s. SameBeside (journals c.answer_stretch-says_broken-2.new.seats.items) (g.F.Shelf.is_out s)
+    (g.F.Shelf.is_out c.give_back.new.shelf))
+    c.loop-asks.invariant.same c.give_back.ensures.others_out)
+
+pub returns-clause-counts : goal.returns-clause-counts
+returns-clause-counts g c =
+    subst (λ ns. SameBeside ns (g.F.Shelf.disk_faults c.args.shelf.now) (g.F.Shelf.disk_faults c.give_back.new.shelf))
+    (last_stay g c.After-answer_stretch-says_broken-2).names
+    (subst (λ s. SameBeside (journals c.answer_stretch-says_broken-2.new.seats.items) (g.F.Shelf.disk_faults s)
+    (g.F.Shelf.disk_faults c.give_back.new.shelf))
+    c.loop-asks.invariant.same c.give_back.ensures.counts)
+
+pub returns-clause-disks : goal.returns-clause-disks
+returns-clause-disks g c =
+    subst (λ ns. SameBeside ns (g.F.Shelf.disk c.args.shelf.now) (g.F.Shelf.disk c.give_back.new.shelf))
+    (last_stay g c.After-answer_stretch-says_broken-2).names
+    (subst (λ s. SameBeside (journals c.answer_stretch-says_broken-2.new.seats.items) (g.F.Shelf.disk s)
+    (g.F.Shelf.disk c.give_back.new.shelf))
+    c.loop-asks.invariant.same c.give_back.ensures.disks)
 
 pub returns-in-Ok-clause-answered : goal.returns-in-Ok-clause-answered
 returns-in-Ok-clause-answered g c = (

@@ -9,16 +9,17 @@ use Rattle.desk_crew.proofs.Reopening.{same_journals, later_reopened}
 use Rattle.batch_engine.specs.Outputs.{output_bytes}
 use Rattle.batch_engine.specs.Steps.{restart_bytes}
 use Rattle.batch_engine.proofs.Running.{output_more}
+use Rattle.batch_engine.proofs.run.restart.Given.{Over}
 use Rattle.batch_engine.proofs.run.restart.Goals as goal
 
 -- the seats that were opened again stand in the place of those before
-names : (g : _) (c : goal.In-Some g) → journals c.in-Some.seats.items ≡ journals c.args.seats.items
+names : (g : Over) (c : goal.In-Some g) → journals c.in-Some.seats.items ≡ journals c.args.seats.items
 names g c =
     same_journals c.args.registry.now.schema.now c.args.registry.now.world.now (header_bytes c.args.registry.now.header.now) g.F.D.Disk.tells
     g.F.Shelf.tells g.F.D.Disk c.args.seats.items c.in-Some.seats.items c.in-Some.ensures.reopened
 
 -- the bytes that were kept, with the line of the restart
-bytes : (g : _) (c : goal.After-push_reserved g)
+bytes : (g : Over) (c : goal.After-push_reserved g)
     → output_bytes c.push_reserved.new.self.items ≡ output_bytes c.args.lines.now.items ++ restart_bytes true
 bytes g c =
     output_more c.args.lines.now.items c.push_reserved.new.self.items (record { text = c.new-text.result }) c.push_reserved.ensures.items
@@ -34,7 +35,7 @@ returns-in-Ok-clause-ended g c = (
       ∙ ap (λ l. g.K.Sink.written c.args.sink.now ++ l) (bytes g c.After-push_reserved),
 )
 
-can : (g : _) (c : goal.In-Err g) → CanGive g.F.D.Disk c.in-Some.seats.items (g.F.Shelf.is_out c.reopen_all.new.shelf)
+can : (g : Over) (c : goal.In-Err g) → CanGive g.F.D.Disk c.in-Some.seats.items (g.F.Shelf.is_out c.reopen_all.new.shelf)
     (g.F.Shelf.disk_faults c.reopen_all.new.shelf)
 can g c =
     subst (λ s. CanGive g.F.D.Disk c.in-Some.seats.items (g.F.Shelf.is_out s) (g.F.Shelf.disk_faults s)) (sym c.in-Some.ensures.untouched)
