@@ -132,7 +132,7 @@ loop-asks-preserved g c =
           (header_bytes c.args.registry.now.header.now) g.F.D.Disk.tells g.F.D.Disk (stretch_in c.asks-item.result.items) c.loop-asks.seats.items
           c.answer_stretch-says_broken.new.seats.items c.in-Again.next.items (output_bytes c.answer_stretch-says_broken.new.lines.items)
           c.answer_stretch-says_broken.result (runs g c.After-answer_stretch-says_broken) again.0) again.1);
-      same = c.restart.ensures.untouched tt ∙ c.loop-asks.invariant.same;
+      same = c.in-Again.ensures.untouched tt ∙ c.loop-asks.invariant.same;
       later = omega (arith, before, on);
       room = c.restart.ensures.capacity ∙ c.answer_stretch-says_broken.ensures.capacity ∙ c.loop-asks.invariant.room;
     }
@@ -164,7 +164,7 @@ returns-in-CutOff-clause-answered g c =
 pub returns-in-CutOff-clause-cause : goal.returns-in-CutOff-clause-cause
 returns-in-CutOff-clause-cause g c =
     λ u. rose_wide (g.K.Sink.faults c.args.sink.now) (g.K.Sink.faults c.loop-asks.sink) (g.K.Sink.faults c.restart.new.sink)
-    (g.K.Sink.faults c.restart.new.sink) c.loop-asks.invariant.later (omega arith) (c.restart.ensures.cause tt)
+    (g.K.Sink.faults c.restart.new.sink) c.loop-asks.invariant.later (omega arith) (c.in-CutOff.ensures.cause tt)
 
 -- memory was wanting at the restart
 pub returns-in-NoMemory-clause-answered : goal.returns-in-NoMemory-clause-answered
@@ -188,7 +188,7 @@ returns-in-NoMemory-clause-answered g c =
 -- where it didn't go on, all disks are back
 pub returns-in-CutOff-clause-inside : goal.returns-in-CutOff-clause-inside
 returns-in-CutOff-clause-inside g c =
-    subst (λ ns. AllIn ns (g.F.Shelf.is_out c.restart.new.shelf)) (stay g c.After-answer_stretch-says_broken).names (c.restart.ensures.inside (λ none. none))
+    subst (λ ns. AllIn ns (g.F.Shelf.is_out c.restart.new.shelf)) (stay g c.After-answer_stretch-says_broken).names (c.in-CutOff.ensures.inside (λ none. none))
 
 pub returns-in-CutOff-clause-others_out : goal.returns-in-CutOff-clause-others_out
 returns-in-CutOff-clause-others_out g c =
@@ -211,7 +211,7 @@ returns-in-CutOff-clause-disks g c =
 
 pub returns-in-NoMemory-clause-inside : goal.returns-in-NoMemory-clause-inside
 returns-in-NoMemory-clause-inside g c =
-    subst (λ ns. AllIn ns (g.F.Shelf.is_out c.restart.new.shelf)) (stay g c.After-answer_stretch-says_broken).names (c.restart.ensures.inside (λ none. none))
+    subst (λ ns. AllIn ns (g.F.Shelf.is_out c.restart.new.shelf)) (stay g c.After-answer_stretch-says_broken).names (c.in-NoMemory.ensures.inside (λ none. none))
 
 pub returns-in-NoMemory-clause-others_out : goal.returns-in-NoMemory-clause-others_out
 returns-in-NoMemory-clause-others_out g c =
