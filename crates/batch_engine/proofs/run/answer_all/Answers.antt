@@ -211,7 +211,8 @@ returns-in-CutOff-clause-disks g c =
 
 pub returns-in-NoMemory-clause-inside : goal.returns-in-NoMemory-clause-inside
 returns-in-NoMemory-clause-inside g c =
-    subst (λ ns. AllIn ns (g.F.Shelf.is_out c.restart.new.shelf)) (stay g c.After-answer_stretch-says_broken).names (c.in-NoMemory.ensures.inside (λ none. none))
+    subst (λ ns. AllIn ns (g.F.Shelf.is_out c.restart.new.shelf)) (stay g c.After-answer_stretch-says_broken).names
+    (c.in-NoMemory.ensures.inside (λ none. none))
 
 pub returns-in-NoMemory-clause-others_out : goal.returns-in-NoMemory-clause-others_out
 returns-in-NoMemory-clause-others_out g c =
