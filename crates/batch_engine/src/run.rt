@@ -39,6 +39,7 @@ use outside::{Disk, Failed, Gate, Shelf, Sink, Source, write_all};
 use script_lines::{Reading, read_script};
 use std::alloc::Global;
 use std::sync::Wait;
+use std::thread::Threads;
 use user_desk::DeskError;
 use user_desk::laws::law_openings;
 use user_log::{Reply, line_reply};
@@ -108,7 +109,7 @@ fn is_broken_reply(reply: Option<Reply>) -> bool
 
 /// Does what an item says: the seats behind it, its line, and whether that says that an append
 /// failed. Where memory is wanting at a restart, all disks are back.
-fn carry_out<'w, R: Wait, G: Gate, F: Shelf>(
+fn carry_out<'w, R: Threads + Wait + Sync, G: Gate, F: Shelf>(
     rt: &R,
     alloc: Global,
     registry: &Registry<'w>,
@@ -156,7 +157,7 @@ fn carry_out<'w, R: Wait, G: Gate, F: Shelf>(
 }
 
 /// Answers the items of a batch, each in a line.
-fn answer_all<'w, R: Wait, G: Gate, F: Shelf, K: Sink>(
+fn answer_all<'w, R: Threads + Wait + Sync, G: Gate, F: Shelf, K: Sink>(
     rt: &R,
     alloc: Global,
     registry: &Registry<'w>,
@@ -214,7 +215,7 @@ fn answer_all<'w, R: Wait, G: Gate, F: Shelf, K: Sink>(
 /// at which an ask is settled as those of threads are, and passes the gate. A restart closes every
 /// desk and opens it again from its disk. All disks are given back on every path. It may wait, at
 /// the counters and at the gate.
-pub fn run_batch<R: Wait, F: Shelf, S: Source, K: Sink, G: Gate>(
+pub fn run_batch<R: Threads + Wait + Sync, F: Shelf, S: Source, K: Sink, G: Gate>(
     rt: &R,
     alloc: Global,
     registry: &Registry<'_>,

@@ -102,7 +102,7 @@ where
         Err(AllocError) => return CommandEnd::Memory,
     };
     match part_of(command) {
-        Part::Case => CommandEnd::Case(run_case(alloc, source, sink)),
+        Part::Case => CommandEnd::Case(run_case(rt, alloc, source, sink)),
         Part::Selfrun(words) => {
             let end = run_selfrun(rt, alloc, words.seed, words.users, words.asks, sink);
             CommandEnd::Selfrun(end)

@@ -33,6 +33,7 @@ use log_journal::{journal_name, law_journals_differ};
 use outside::{Disk, Gate, Shelf, ShelfError};
 use std::alloc::{AllocError, Global};
 use std::sync::Wait;
+use std::thread::Threads;
 use user_desk::DeskError;
 use user_log::Reply;
 
@@ -259,7 +260,7 @@ fn place_of<D: Disk>(seats: &[DeskSeat<'_, D>], name: &str) -> Option<usize>
 }
 
 /// The reply to a text of the user who has this name, if one has.
-pub fn answer<R: Wait, G: Gate, D: Disk>(
+pub fn answer<R: Threads + Wait + Sync, G: Gate, D: Disk>(
     rt: &R,
     alloc: Global,
     seats: &mut Vec<DeskSeat<'_, D>>,
