@@ -59,30 +59,34 @@ pub record Question : Type 0 where
   pub query : Formula
   pub goals : List Formula
 
--- the question that is asked over a view
-abbrev pub question_of : User → GroundSentence → List GroundSentence → LogView → Question
-question_of user query goals view =
+-- the question that sentences in memory ask after a log
+abbrev pub question_of : User → GroundSentence → List GroundSentence → DatabaseSchema
+    → List Signed → Question
+question_of user query goals schema log =
     record {
-      schema = schema_of view;
+      schema = schema;
       method = user.method;
       budget = user.budget;
-      log = log_of view;
+      log = log;
       query = sentence_of query;
       goals = map sentence_of goals;
     }
 
--- its probes can be made over the view
+-- its probes can be made
 pub record CanBeAsked (user : User) (query : GroundSentence) (goals : List GroundSentence)
-    (view : LogView) : Type 0 where
-  pub sentence : is_sentence_of (schema_of view) (sentence_of query) ≡ true
-  pub grounded : IsGroundOver (schema_of view) query
-  pub all_nodes : log_nodes (schema_of view) (log_of view)
-      + nodes (schema_of view) (sentence_of query) ≤ 60000
-  pub goal_sentences : list_all (is_sentence_of (schema_of view)) (map sentence_of goals) ≡ true
-  pub goal_nodes : list_all (λ goal. nat_le (nodes (schema_of view) goal) 40000)
-      (map sentence_of goals) ≡ true
-  pub grounded_goals : All (IsGroundOver (schema_of view)) goals
+    (schema : DatabaseSchema) (log : List Signed) : Type 0 where
+  pub sentence : is_sentence_of schema (sentence_of query) ≡ true
+  pub grounded : IsGroundOver schema query
+  pub all_nodes : log_nodes schema log + nodes schema (sentence_of query) ≤ 60000
+  pub goal_sentences : list_all (is_sentence_of schema) (map sentence_of goals) ≡ true
+  pub goal_nodes : list_all (λ goal. nat_le (nodes schema goal) 40000) (map sentence_of goals)
+      ≡ true
+  pub grounded_goals : All (IsGroundOver schema) goals
   pub budget : user.budget ≤ 4000000
+
+-- they can over a view
+abbrev pub CanBeAskedAt : User → GroundSentence → List GroundSentence → LogView → Type 0
+CanBeAskedAt user query goals view = CanBeAsked user query goals (schema_of view) (log_of view)
 
 -- what the probes of a part found: the first part has those of the log alone, and each those with
 -- the query, and with its negation, against its goals
@@ -105,8 +109,8 @@ pub record IsPartFound (cut : Cut) (part : ℕ) (question : Question) (found : P
 pub record HasRun (cut : Cut) (part : ℕ) (user : User) (query : GroundSentence)
     (goals : List GroundSentence) (before after : Lane) : Type 0 where
   pub view : after.view ≡ before.view
-  pub found : IfSome after.found
-      (IsPartFound cut part (question_of user query goals before.view))
+  pub found : IfSome after.found (IsPartFound cut part
+      (question_of user query goals (schema_of before.view) (log_of before.view)))
 
 -- ---- what all parts found
 

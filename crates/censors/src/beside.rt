@@ -13,7 +13,7 @@ ghost use Rattle.entailment.specs.GroundSentences.{sentence_of, IsGroundOver};
 ghost use Rattle.censors.specs.Found.{HasFindings};
 ghost use Rattle.censors.specs.Costs.{AreSpentByCost, DecideUndecided};
 ghost use Rattle.censors.specs.Lent.{held_views, held_view, AreTogether};
-ghost use Rattle.censors.specs.Parts.{IsCut, CanBeAsked, CanBeExamined, HasRun, harms_of};
+ghost use Rattle.censors.specs.Parts.{IsCut, CanBeAskedAt, CanBeExamined, HasRun, harms_of};
 
 use crate::examination::{Answer, Findings, Harms, examine, found};
 use crate::lent::{Held, Lane, LentViews, MOST_LANES};
@@ -140,7 +140,7 @@ fn run_all<R: Threads + Sync>(
     lanes: &mut [Lane<'_>],
 )
     requires some { 0 < length lanes.old }
-    requires can { All (λ lane. CanBeAsked user.now query.now goals.now lane.view) lanes.old }
+    requires can { All (λ lane. CanBeAskedAt user.now query.now goals.now lane.view) lanes.old }
     requires cut { IsCut (length goals.now) cut }
     requires few { length goals.now ≤ 65536 }
     ensures count { length lanes.new ≡ length lanes.old }
@@ -154,7 +154,7 @@ fn run_all<R: Threads + Sync>(
         lanes,
         threads,
         &|part, lane: &mut Lane<'_>|
-            requires can { CanBeAsked user.now query.now goals.now lane.now.view }
+            requires can { CanBeAskedAt user.now query.now goals.now lane.now.view }
             requires cut { IsCut (length goals.now) cut }
             requires few { length goals.now ≤ 65536 }
             ensures run { HasRun cut part user.entry.now query.entry.now goals.entry.now

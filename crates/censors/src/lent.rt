@@ -2,7 +2,7 @@
 
 ghost use Rattle.std.specs.Prelude.{◌≡◌, ◌≤◌, ◌<◌, All, map, length, IfOk};
 ghost use Rattle.entailment.specs.Views.{schema_of, log_of, IsViewOf, IsViewWithin};
-ghost use Rattle.censors.specs.Lent.{held_views, held_view};
+ghost use Rattle.censors.specs.Lent.{held_views, held_view, first_view};
 
 use crate::parts::PartFound;
 use entailment::{View, Views};
@@ -91,11 +91,10 @@ fn lend_held<'s>(alloc: Global, views: &mut Views<'s>, count: usize) -> Result<H
 {
     if count < 2 {
         let view = views.lend(alloc)?;
-        Ok(Held::One(view))
-    } else {
-        let lanes = lend_lanes(alloc, views, count)?;
-        Ok(Held::Several(lanes))
+        return Ok(Held::One(view));
     }
+    let lanes = lend_lanes(alloc, views, count)?;
+    Ok(Held::Several(lanes))
 }
 
 /// Lends a view for each of so many threads, or of fewer where memory is wanting.
@@ -126,10 +125,23 @@ fn lend_more<'s>(alloc: Global, views: &mut Views<'s>, count: usize, lanes: &mut
         lanes.new.items }
 {
     for _ in 1..count {
-        if let Ok(view) = views.lend(alloc) {
-            let _kept = lanes.push(Lane { view, found: None });
-        }
+        lend_one(alloc, views, lanes);
     }
+}
+
+/// Lends one more view, where memory suffices.
+fn lend_one<'s>(alloc: Global, views: &mut Views<'s>, lanes: &mut Vec<Lane<'s>>)
+    requires { All (λ lane. IsViewOf (schema_of views.old) (log_of views.old) lane.view)
+        lanes.old.items }
+    ensures same { views.new ≡ views.old }
+    ensures more { length lanes.old.items ≤ length lanes.new.items }
+    ensures lent { All (λ lane. IsViewOf (schema_of views.old) (log_of views.old) lane.view)
+        lanes.new.items }
+{
+    let Ok(view) = views.lend(alloc) else {
+        return;
+    };
+    let _kept = lanes.push(Lane { view, found: None });
 }
 
 /// How many sentences the log of the first view has.
@@ -138,11 +150,18 @@ fn len_of(held: &Held<'_>) -> usize
 {
     match held {
         Held::One(view) => view.len(),
-        Held::Several(lanes) => match lanes.first() {
-            Some(lane) => lane.view.len(),
-            None => 0,
-        },
+        Held::Several(lanes) => first_len(lanes.as_slice()),
     }
+}
+
+/// How many sentences the log of the first of some lanes has.
+fn first_len(lanes: &[Lane<'_>]) -> usize
+    ensures { result ≡ length (log_of (first_view (map (λ lane. lane.view) lanes.now))) }
+{
+    let Some((first, _rest)) = lanes.split_first() else {
+        return 0;
+    };
+    first.view.len()
 }
 
 /// Gives all views back.

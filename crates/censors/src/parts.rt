@@ -8,7 +8,7 @@ ghost use Rattle.entailment.specs.Logs.{log_nodes};
 ghost use Rattle.entailment.specs.Views.{schema_of, log_of};
 ghost use Rattle.entailment.specs.GroundSentences.{sentence_of, IsGroundOver};
 ghost use Rattle.censors.specs.Asked.{IsAnswerOfAll, IsImpliedBy};
-ghost use Rattle.censors.specs.Parts.{start_of, IsCut, CanBeAsked, question_of, IsPartFound};
+ghost use Rattle.censors.specs.Parts.{start_of, IsCut, CanBeAskedAt, question_of, IsPartFound};
 ghost use Rattle.censors.specs.Parts.{HasRun, joined, gathered};
 
 use crate::examination::{Answer, Implied, ask_each, ask_implied, together};
@@ -48,9 +48,12 @@ pub(crate) fn cut_of(method: Method, goals: usize, parts: usize) -> Cut
 {
     let lead = lead_of(method);
     let whole = 2 * goals;
-    let first = share_of(whole + lead, parts).saturating_sub(lead);
-    let second = first + share_of(whole - first, parts.saturating_sub(1));
-    let third = second + share_of(whole - second, parts.saturating_sub(2));
+    let one = share_of(whole + lead, parts);
+    let first = one.saturating_sub(lead);
+    let two = share_of(whole - first, parts.saturating_sub(1));
+    let second = first + two;
+    let three = share_of(whole - second, parts.saturating_sub(2));
+    let third = second + three;
     Cut {
         first,
         second,
@@ -75,12 +78,16 @@ fn share_of(rest: usize, parts: usize) -> usize
     ensures within { result ≤ rest }
     ensures last { parts ≤ 1 → result ≡ rest }
 {
-    match parts {
-        0 | 1 => rest,
-        2 => (rest + 1) / 2,
-        3 => (rest + 2) / 3,
-        _ => (rest + 3) / 4,
+    if parts < 2 {
+        return rest;
     }
+    if parts == 2 {
+        return (rest + 1) / 2;
+    }
+    if parts == 3 {
+        return (rest + 2) / 3;
+    }
+    (rest + 3) / 4
 }
 
 /// The place at which a part begins.
@@ -88,16 +95,18 @@ fn start_of(cut: Cut, part: usize) -> usize
     ensures { result ≡ start_of cut part }
 {
     if part == 0 {
-        0
-    } else if part == 1 {
-        cut.first
-    } else if part == 2 {
-        cut.second
-    } else if part == 3 {
-        cut.third
-    } else {
-        cut.whole
+        return 0;
     }
+    if part == 1 {
+        return cut.first;
+    }
+    if part == 2 {
+        return cut.second;
+    }
+    if part == 3 {
+        return cut.third;
+    }
+    cut.whole
 }
 
 /// The place at which a part ends.
@@ -105,14 +114,15 @@ fn end_of(cut: Cut, part: usize) -> usize
     ensures { result ≡ start_of cut (part + 1) }
 {
     if part == 0 {
-        cut.first
-    } else if part == 1 {
-        cut.second
-    } else if part == 2 {
-        cut.third
-    } else {
-        cut.whole
+        return cut.first;
     }
+    if part == 1 {
+        return cut.second;
+    }
+    if part == 2 {
+        return cut.third;
+    }
+    cut.whole
 }
 
 /// For refusal, the answer that the log implies, where the part is the first.
@@ -139,6 +149,15 @@ fn implied_in(
     Ok(None)
 }
 
+/// The goals from one number up to another.
+fn goals_between(goals: &[GroundSentence], from: usize, to: usize) -> &[GroundSentence]
+    requires order { from ≤ to }
+    requires within { to ≤ length goals.now }
+    ensures { result.now ≡ between from to goals.now }
+{
+    &goals[from..to]
+}
+
 /// Probes the log with the query, or where `yes` is false with its negation, against the goals from
 /// one number up to another.
 fn ask_some(
@@ -150,7 +169,7 @@ fn ask_some(
     goals: &[GroundSentence],
     numbers: (usize, usize),
 ) -> Result<Answer, AllocError>
-    requires can { CanBeAsked user.now query.now goals.now view.old }
+    requires can { CanBeAskedAt user.now query.now goals.now view.old }
     requires order { numbers.0 ≤ numbers.1 }
     requires within { numbers.1 ≤ length goals.now }
     ensures answer { IfOk result (IsAnswerOfAll (schema_of view.old) user.now.budget
@@ -158,8 +177,8 @@ fn ask_some(
         (between numbers.0 numbers.1 (map sentence_of goals.now))) }
     ensures same { view.new ≡ view.old }
 {
-    let (from, to) = numbers;
-    let answer = ask_each(alloc, view, (query, yes), &goals[from..to], user.budget)?;
+    let some = goals_between(goals, numbers.0, numbers.1);
+    let answer = ask_each(alloc, view, (query, yes), some, user.budget)?;
     Ok(answer)
 }
 
@@ -173,14 +192,16 @@ fn probe_part(
     query: &GroundSentence,
     goals: &[GroundSentence],
 ) -> Result<PartFound, AllocError>
-    requires can { CanBeAsked user.now query.now goals.now view.old }
+    requires can { CanBeAskedAt user.now query.now goals.now view.old }
     requires cut { IsCut (length goals.now) cut }
     requires few { length goals.now ≤ 65536 }
     ensures found { IfOk result
-        (IsPartFound cut part (question_of user.now query.now goals.now view.old)) }
+        (IsPartFound cut part (question_of user.now query.now goals.now (schema_of view.old)
+        (log_of view.old))) }
     ensures same { view.new ≡ view.old }
 {
-    let (from, to) = (start_of(cut, part), end_of(cut, part));
+    let from = start_of(cut, part);
+    let to = end_of(cut, part);
     let implied = implied_in(alloc, part, view, user, query)?;
     let with_yes = ((from + 1) / 2, (to + 1) / 2);
     let yes = ask_some(alloc, view, user, query, true, goals, with_yes)?;
@@ -199,11 +220,12 @@ fn found_in_part(
     query: &GroundSentence,
     goals: &[GroundSentence],
 ) -> Option<PartFound>
-    requires can { CanBeAsked user.now query.now goals.now view.old }
+    requires can { CanBeAskedAt user.now query.now goals.now view.old }
     requires cut { IsCut (length goals.now) cut }
     requires few { length goals.now ≤ 65536 }
     ensures found { IfSome result
-        (IsPartFound cut part (question_of user.now query.now goals.now view.old)) }
+        (IsPartFound cut part (question_of user.now query.now goals.now (schema_of view.old)
+        (log_of view.old))) }
     ensures same { view.new ≡ view.old }
 {
     match probe_part(alloc, cut, part, view, user, query, goals) {
@@ -222,7 +244,7 @@ pub(crate) fn run_part(
     query: &GroundSentence,
     goals: &[GroundSentence],
 )
-    requires can { CanBeAsked user.now query.now goals.now lane.old.view }
+    requires can { CanBeAskedAt user.now query.now goals.now lane.old.view }
     requires cut { IsCut (length goals.now) cut }
     requires few { length goals.now ≤ 65536 }
     ensures { HasRun cut part user.now query.now goals.now lane.old lane.new }
