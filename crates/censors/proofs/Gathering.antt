@@ -1,5 +1,6 @@
 -- What all parts of a query's probes found together.
-use Rattle.std.proofs.Common.{◌≡◌, ◌<◌, ◌≤◌, ◌+◌, ◌*◌, ◌/◌, ℕ, suc, Bool, true, ◌||◌, List, [], ◌∷◌, ◌++◌, All, map, take, drop, length, slice_index_or, refl, sym, ap, ◌∙◌, subst, arith}
+use Rattle.std.proofs.Common.{◌≡◌, ◌<◌, ◌≤◌, ◌+◌, ◌*◌, ◌/◌, ℕ, suc, Bool, true, ◌||◌, List, [], ◌∷◌, ◌++◌, All, map, take, drop, length}
+use Rattle.std.proofs.Common.{slice_index_or, refl, sym, ap, ◌∙◌, subst, arith}
 use Rattle.std.specs.Prelude.{Option, Some, None, IfSome, fold}
 use Rattle.std.specs.List.{list_any, list_all, between}
 use Rattle.std.proofs.lemmas.Bool.{or_parts}
@@ -25,7 +26,8 @@ use Rattle.censors.specs.declared.parts.Cut.{Cut}
 use Rattle.censors.specs.declared.parts.PartFound.{PartFound}
 use Rattle.censors.specs.declared.lent.Lane.{Lane}
 use Rattle.censors.specs.Asked.{is_spent_at, IsAnswerOfAll, AreHarms, IsImpliedBy, together}
-use Rattle.censors.specs.Parts.{start_of, yes_before, no_before, IsCut, Question, question_of, CanBeAsked, CanBeAskedAt, IsPartFound, HasRun, joined, gathered, harms_of, CanBeExamined}
+use Rattle.censors.specs.Parts.{start_of, yes_before, no_before, IsCut, Question, question_of, CanBeAsked, CanBeAskedAt, IsPartFound, HasRun, joined, gathered}
+use Rattle.censors.specs.Parts.{harms_of, CanBeExamined}
 use Rattle.censors.proofs.Parting.{start-rises}
 
 -- ---- answers over goals that follow one another

@@ -35,12 +35,14 @@ module _ {X : Type 0} (P : X → Type 0) where
       subst (All P) (sym (is ∙ ap (λ l. l ++ x ∷ []) none)) (All-push P [] x (All-nil P) here)
 
   -- one more item, or none where memory is wanting
-  pub pushed_all : {U E : Type 0} (xs new : List X) (x : X) (pushed : Result U E) → new ≡ (if is_ok pushed then xs ++ x ∷ [] else xs) → All P xs → P x → All P new
+  pub pushed_all : {U E : Type 0} (xs new : List X) (x : X) (pushed : Result U E) → new ≡ (if is_ok pushed then xs ++ x ∷ [] else xs) → All P xs → P x
+      → All P new
   pushed_all xs new x (Ok done) is all here = subst (All P) (sym is) (All-push P xs x all here)
   pushed_all xs new x (Err failed) is all here = subst (All P) (sym is) all
 
 module _ {X : Type 0} where
-  pub pushed_longer : {U E : Type 0} (xs new : List X) (x : X) (pushed : Result U E) → new ≡ (if is_ok pushed then xs ++ x ∷ [] else xs) → length xs ≤ length new
+  pub pushed_longer : {U E : Type 0} (xs new : List X) (x : X) (pushed : Result U E) → new ≡ (if is_ok pushed then xs ++ x ∷ [] else xs)
+      → length xs ≤ length new
   pushed_longer xs new x (Ok done) is = omega (arith, ap length is, length-append xs (x ∷ []))
   pushed_longer xs new x (Err failed) is = omega (arith, ap length is)
 
@@ -75,7 +77,8 @@ module _ (schema : DatabaseSchema) (log : List Signed) where
       )) views together.alike
 
 -- lanes whose views are as before
-pub same_views : (new old : List Lane) → length new ≡ length old → ((k : ℕ) (d : Lane) → k < length old → (slice_index_or new k d).view ≡ (slice_index_or old k d).view)
+pub same_views : (new old : List Lane) → length new ≡ length old
+    → ((k : ℕ) (d : Lane) → k < length old → (slice_index_or new k d).view ≡ (slice_index_or old k d).view)
     → map (λ (lane : Lane). lane.view) new ≡ map (λ (lane : Lane). lane.view) old
 same_views [] [] len each = refl
 same_views [] (y ∷ old) len each = absurd (omega (arith, len))

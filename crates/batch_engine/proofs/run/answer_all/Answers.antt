@@ -25,25 +25,25 @@ loop-item-init g c =
     }
 
 pub carry_out-requires-clause-limits : goal.carry_out-requires-clause-limits
-carry_out-requires-clause-limits g c =
+carry_out-requires-clause-limits g c κs within =
     let so_far = c.loop-item.invariant.so_far in
     let stay = stay_run _ _ _ _ _ _ _ _ _ _ so_far.runs in
     stay.limits c.requires.limits
 
 pub carry_out-requires-clause-served : goal.carry_out-requires-clause-served
-carry_out-requires-clause-served g c =
+carry_out-requires-clause-served g c κs within =
     let so_far = c.loop-item.invariant.so_far in
     let stay = stay_run _ _ _ _ _ _ _ _ _ _ so_far.runs in
     stay.served c.requires.served
 
 pub carry_out-requires-clause-distinct : goal.carry_out-requires-clause-distinct
-carry_out-requires-clause-distinct g c =
+carry_out-requires-clause-distinct g c κs within =
     let so_far = c.loop-item.invariant.so_far in
     let stay = stay_run _ _ _ _ _ _ _ _ _ _ so_far.runs in
     ap has_duplicate stay.names ∙ c.requires.distinct
 
 pub carry_out-requires-clause-out : goal.carry_out-requires-clause-out
-carry_out-requires-clause-out g c =
+carry_out-requires-clause-out g c κs within =
     let so_far = c.loop-item.invariant.so_far in
     let stay = stay_run _ _ _ _ _ _ _ _ _ _ so_far.runs in
     let same = c.loop-item.invariant.same in
@@ -51,7 +51,7 @@ carry_out-requires-clause-out g c =
     (subst (λ ns. AllOut ns (g.F.Shelf.is_out c.args.shelf.now)) (sym stay.names) c.requires.out)
 
 pub carry_out-requires-clause-later : goal.carry_out-requires-clause-later
-carry_out-requires-clause-later g c =
+carry_out-requires-clause-later g c κs within =
     let so_far = c.loop-item.invariant.so_far in
     let stay = stay_run _ _ _ _ _ _ _ _ _ _ so_far.runs in
     let same = c.loop-item.invariant.same in
@@ -59,7 +59,7 @@ carry_out-requires-clause-later g c =
     (subst (λ s. AreLater g.F.D.Disk.faults (g.F.Shelf.disk_faults s) c.args.seats.items) (sym same) c.requires.later)
 
 pub carry_out-requires-clause-short : goal.carry_out-requires-clause-short
-carry_out-requires-clause-short g c =
+carry_out-requires-clause-short g c κs within =
     let items = c.items-item-items.result.now in
     let i = c.loop-item.item-index in
     item_short items i c.item-item.result c.loop-item-test.true c.item-item.is c.items-item-items.ensures.short

@@ -8,7 +8,7 @@ use Rattle.desk_crew.proofs.Asking.{told_here, served_users}
 use Rattle.batch_engine.proofs.run.carry_out.Goals as goal
 
 pub answer-reply-requires-clause-users : goal.answer-reply-requires-clause-users
-answer-reply-requires-clause-users g c =
+answer-reply-requires-clause-users g c κs within =
     served_users c.args.registry.now.schema.now c.args.registry.now.world.now (header_bytes c.args.registry.now.header.now) c.args.seats.items c.requires.served
 
 pub returns-in-Ask-clause-carried : goal.returns-in-Ask-clause-carried

@@ -49,20 +49,20 @@ ending g c told after =
     c.requires.limits c.requires.names c.in-Ok-open_all.seats.items c.in-Ok-open_all.ensures.opened
 
 pub answer_all-requires-clause-limits : goal.answer_all-requires-clause-limits
-answer_all-requires-clause-limits g c =
+answer_all-requires-clause-limits g c κs within =
     seats_limits c.args.registry.now.directory.now c.args.registry.now.schema.now c.args.registry.now.world.now
     (header_bytes c.args.registry.now.header.now) g.F.Shelf.tells g.F.D.Disk.tells g.F.D.Disk (g.F.Shelf.disk c.args.shelf.now)
     (g.F.Shelf.disk_faults c.args.shelf.now) c.args.registry.now.users.now c.in-Ok-open_all.seats.items c.in-Ok-open_all.ensures.opened
     (all_of _ c.args.registry.now.users.now c.requires.limits)
 
 pub answer_all-requires-clause-served : goal.answer_all-requires-clause-served
-answer_all-requires-clause-served g c = (seated g (goal.at.answer_all-requires-clause-served g c).In-Ok-open_all).served
+answer_all-requires-clause-served g c κs within = (seated g (goal.at.answer_all-requires-clause-served g c).In-Ok-open_all).served
 
 pub answer_all-requires-clause-distinct : goal.answer_all-requires-clause-distinct
-answer_all-requires-clause-distinct g c = (seated g (goal.at.answer_all-requires-clause-distinct g c).In-Ok-open_all).distinct
+answer_all-requires-clause-distinct g c κs within = (seated g (goal.at.answer_all-requires-clause-distinct g c).In-Ok-open_all).distinct
 
 pub answer_all-requires-clause-later : goal.answer_all-requires-clause-later
-answer_all-requires-clause-later g c = (seated g (goal.at.answer_all-requires-clause-later g c).In-Ok-open_all).later
+answer_all-requires-clause-later g c κs within = (seated g (goal.at.answer_all-requires-clause-later g c).In-Ok-open_all).later
 
 pub refusals_of-refusals-requires-clause-room : goal.refusals_of-refusals-requires-clause-room
 refusals_of-refusals-requires-clause-room g c =

@@ -29,7 +29,7 @@ use Rattle.cqe_top.proofs.over_files.run_over_files.Given.{Over}
 use Rattle.cqe_top.proofs.over_files.run_over_files.Goals as goal
 
 pub run_batch-end-requires-clause-names : goal.run_batch-end-requires-clause-names
-run_batch-end-requires-clause-names g c =
+run_batch-end-requires-clause-names g c κs within =
     ap has_duplicate (ap (λ users. map (λ user. user.name) (map named_user users)) c.as_slice.ensures.value ∙ batch_names_are c.in-Ok.inputs.policy.users.items)
     ∙ c.in-Ok.ensures.names
 

@@ -20,7 +20,7 @@ returns-in_err-place g c = record {
 }
 
 pub settle_at-requires-clause-user : goal.settle_at-requires-clause-user
-settle_at-requires-clause-user g c =
+settle_at-requires-clause-user g c κs within =
     let seats = c.args.seats.now.items in
     let found : position (is_named c.args.name.now) seats ≡ Some c.in_ok-place.place =
     ap (position (is_named c.args.name.now)) (sym c.as_slice.ensures.value) ∙ sym c.in_ok-place.ensures.place in
