@@ -14,9 +14,10 @@ use Rattle.cqe_base.specs.Schema.{DatabaseSchema}
 use Rattle.cqe_base.specs.Formula.{Formula, nodes, is_sentence_of}
 use Rattle.cqe_base.specs.Entailment.{Signed, entails}
 use Rattle.cqe_base.specs.History.{profile_of}
-use Rattle.cqe_base.specs.Limits.{LimitsFitProbes}
+use Rattle.cqe_base.specs.Limits.{KeepsLimits, LimitsFitProbes}
 use Rattle.cqe_base.specs.Censor.{guarded_by, with_query, with_negation}
 use Rattle.std.specs.Prelude.{nat_le}
+use Rattle.entailment.specs.Logs.{log_nodes}
 use Rattle.entailment.specs.Views.{LogView, schema_of, log_of, IsViewOf}
 use Rattle.entailment.specs.GroundSentences.{sentence_of, IsGroundOver}
 use Rattle.entailment.specs.declared.sentences.GroundSentence.{GroundSentence}
@@ -163,6 +164,21 @@ module _ (user : User) (query : GroundSentence) (goals : List GroundSentence) wh
         grounded_goals = subst (λ s. All (IsGroundOver s) goals) can.guards_schema over;
         budget = can.limits.budget;
       }
+
+-- over a view of the same log the same can be examined
+pub examined_alike : (guards : GuardedSentences) (user : User) (query : GroundSentence) (first view : LogView)
+    → IsViewOf (schema_of first) (log_of first) view → CanBeExamined guards user query first → CanBeExamined guards user query view
+examined_alike guards user query first view alike can =
+    let there = sym alike.0 in
+    record {
+      limits = subst (λ s. KeepsLimits s (profile_of user)) there can.limits;
+      guards_schema = can.guards_schema ∙ there;
+      guarded_are = can.guarded_are;
+      sentence = ap (λ s. is_sentence_of s (sentence_of query)) alike.0 ∙ can.sentence;
+      grounded = subst (λ s. IsGroundOver s query) there can.grounded;
+      all_nodes = subst (λ s. log_nodes s (log_of view) + nodes s (sentence_of query) ≤ 60000) there
+          (subst (λ l. log_nodes (schema_of first) l + nodes (schema_of first) (sentence_of query) ≤ 60000) (sym alike.1) can.all_nodes);
+    }
 
 -- few sentences are guarded
 pub guarded_few : (method : Method) (secrets : List Formula) → length secrets ≤ 16 → length (guarded_by method secrets) ≤ 16

@@ -4,5 +4,5 @@ pub mod Objections
 pub mod Costs
 mod Lanes
 mod Parting
-mod Gathering
+pub mod Gathering
 pub mod Crossing
