@@ -1,5 +1,5 @@
 -- What all parts of a query's probes found together.
-use Rattle.std.proofs.Common.{◌≡◌, ◌<◌, ◌≤◌, ◌+◌, ◌*◌, ◌/◌, ℕ, suc, Bool, true, ◌||◌, List, [], ◌∷◌, ◌++◌, All, map, take, drop, length}
+use Rattle.std.proofs.Common.{◌≡◌, ◌<◌, ◌≤◌, ◌+◌, ◌*◌, ℕ, suc, true, ◌||◌, List, [], ◌∷◌, ◌++◌, All, map, take, length}
 use Rattle.std.proofs.Common.{slice_index_or, refl, sym, ap, ◌∙◌, subst, arith}
 use Rattle.std.specs.Prelude.{Option, Some, None, IfSome, fold}
 use Rattle.std.specs.List.{list_any, list_all, between}

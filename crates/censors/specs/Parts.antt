@@ -1,13 +1,13 @@
 -- The probes of a query in parts, which are made side by side.
 use Rattle.std.specs.Prelude.{◌≡◌, ◌≤◌, ◌+◌, ◌*◌, ◌/◌, ◌||◌, ℕ, zero, suc, true, nat_le, List, []}
-use Rattle.std.specs.Prelude.{◌∷◌, All, map, length, Option, Some, None, fold, IfSome}
+use Rattle.std.specs.Prelude.{◌∷◌, All, map, Option, Some, None, fold, IfSome}
 use Rattle.std.specs.List.{list_all, between}
 use Rattle.cqe_base.specs.declared.user.User.{User}
 use Rattle.cqe_base.specs.declared.user.Method.{Method}
 use Rattle.cqe_base.specs.Schema.{DatabaseSchema}
 use Rattle.cqe_base.specs.Formula.{Formula, nodes, is_sentence_of}
 use Rattle.cqe_base.specs.Entailment.{Signed}
-use Rattle.cqe_base.specs.History.{UserProfile, profile_of}
+use Rattle.cqe_base.specs.History.{profile_of}
 use Rattle.cqe_base.specs.Limits.{KeepsLimits}
 use Rattle.cqe_base.specs.Censor.{guarded, with_query, with_negation}
 use Rattle.entailment.specs.Logs.{log_nodes}

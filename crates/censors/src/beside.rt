@@ -1,8 +1,7 @@
 //! The probes of a query side by side.
 
-ghost use Rattle.std.specs.Prelude.{◌≡◌, ◌≤◌, ◌<◌, ◌+◌, ◌||◌, ℕ, true, All, map, length, IfOk};
+ghost use Rattle.std.specs.Prelude.{◌≡◌, ◌≤◌, ◌<◌, ◌+◌, ◌||◌, ℕ, true, All, length, IfOk};
 ghost use Rattle.std.specs.Prelude.{slice_index_or};
-ghost use Rattle.std.specs.Thread.{IsSync};
 ghost use Rattle.cqe_base.specs.Formula.{nodes, is_sentence_of};
 ghost use Rattle.cqe_base.specs.History.{profile_of};
 ghost use Rattle.cqe_base.specs.Limits.{KeepsLimits};

@@ -1,11 +1,11 @@
-use Rattle.std.proofs.Common.{rules, ◌≡◌, ◌≤◌, ◌<◌, ◌+◌, ◌*◌, ℕ, List, All, map, length, slice_index_or, sym, ap, subst, ◌∙◌, arith}
+use Rattle.std.proofs.Common.{rules, ◌≡◌, ◌*◌, List, All, map, length, sym, ap, subst, ◌∙◌, arith}
 use Rattle.std.specs.Prelude.{Option, IfSome}
 use Rattle.std.proofs.lemmas.List.{length-map}
 use Rattle.std.proofs.lemmas.List.Elements.{All-weaker}
 use Rattle.cqe_base.specs.Formula.{Formula}
 use Rattle.cqe_base.specs.History.{profile_of}
 use Rattle.cqe_base.specs.Censor.{guarded}
-use Rattle.entailment.specs.Views.{LogView, schema_of, log_of, IsViewOf}
+use Rattle.entailment.specs.Views.{schema_of, log_of, IsViewOf}
 use Rattle.entailment.specs.GroundSentences.{sentence_of}
 use Rattle.censors.specs.declared.lent.Lane.{Lane}
 use Rattle.censors.specs.declared.parts.PartFound.{PartFound}

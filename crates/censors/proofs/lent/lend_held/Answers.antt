@@ -1,4 +1,4 @@
-use Rattle.std.proofs.Common.{◌≤◌, ◌<◌, [], length, sym, subst, arith}
+use Rattle.std.proofs.Common.{◌<◌, [], sym, subst}
 use Rattle.std.proofs.lemmas.List.{length-map}
 use Rattle.std.proofs.lemmas.List.Elements.{All-push, All-nil}
 use Rattle.entailment.specs.Views.{schema_of, log_of, IsViewOf}

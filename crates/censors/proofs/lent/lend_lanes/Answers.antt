@@ -1,4 +1,4 @@
-use Rattle.std.proofs.Common.{◌≡◌, ◌≤◌, ◌∷◌, ◌++◌, [], ◌∙◌, All, length, length-append, sym, ap, subst, arith}
+use Rattle.std.proofs.Common.{◌∙◌, All, length, length-append, sym, ap, subst, arith}
 use Rattle.entailment.specs.Views.{LogView, schema_of, log_of, IsViewOf}
 use Rattle.censors.specs.declared.lent.Lane.{Lane}
 use Rattle.censors.proofs.Lanes.{one_is}

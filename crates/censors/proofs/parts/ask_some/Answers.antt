@@ -1,4 +1,4 @@
-use Rattle.std.proofs.Common.{◌≤◌, ◌∷◌, ◌++◌, [], nat_le, subst}
+use Rattle.std.proofs.Common.{◌∷◌, ◌++◌, [], nat_le, subst}
 use Rattle.cqe_base.specs.Formula.{nodes, is_sentence_of}
 use Rattle.entailment.specs.Views.{schema_of, log_of}
 use Rattle.entailment.specs.GroundSentences.{sentence_of, IsGroundOver}

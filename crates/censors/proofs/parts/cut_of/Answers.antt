@@ -1,4 +1,4 @@
-use Rattle.std.proofs.Common.{◌≡◌, ◌≤◌, ◌+◌, ◌-◌, ◌*◌, refl, arith}
+use Rattle.std.proofs.Common.{◌-◌, refl, arith}
 use Rattle.censors.proofs.Parting.{cut-ends}
 use Rattle.censors.proofs.parts.cut_of.Goals as goal
 

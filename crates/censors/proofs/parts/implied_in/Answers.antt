@@ -1,4 +1,3 @@
-use Rattle.std.specs.Prelude.{Ok, Err, Result, IfOk}
 use Rattle.std.proofs.lemmas.Result.{IfOk-weaker}
 use Rattle.censors.proofs.parts.implied_in.Goals as goal
 

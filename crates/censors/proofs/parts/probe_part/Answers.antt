@@ -1,7 +1,7 @@
-use Rattle.std.proofs.Common.{◌≡◌, ◌≤◌, ◌+◌, ◌*◌, ◌/◌, ◌∙◌, map, length, true, false, sym, ap, subst, arith}
+use Rattle.std.proofs.Common.{◌+◌, ◌∙◌, map, length, true, false, sym, ap, subst, arith}
 use Rattle.entailment.specs.Views.{LogView}
 use Rattle.entailment.specs.GroundSentences.{sentence_of}
-use Rattle.censors.specs.Parts.{start_of, yes_before, no_before, CanBeAskedAt}
+use Rattle.censors.specs.Parts.{yes_before, no_before, CanBeAskedAt}
 use Rattle.censors.proofs.Parting.{start-rises, start-within, answer_at}
 use Rattle.censors.proofs.parts.probe_part.Goals as goal
 

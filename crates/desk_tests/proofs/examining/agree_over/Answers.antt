@@ -1,9 +1,9 @@
-use Rattle.std.proofs.Common.{◌≡◌, ◌≤◌, ◌+◌, true, sym, ap, subst, ◌∙◌, arith}
+use Rattle.std.proofs.Common.{◌≤◌, ◌+◌, sym, ap, subst, ◌∙◌, arith}
 use Rattle.cqe_base.specs.Formula.{nodes, is_sentence_of}
 use Rattle.cqe_base.specs.History.{profile_of}
 use Rattle.cqe_base.specs.Limits.{KeepsLimits}
 use Rattle.entailment.specs.Logs.{log_nodes}
-use Rattle.entailment.specs.Views.{LogView, schema_of, log_of}
+use Rattle.entailment.specs.Views.{LogView, log_of}
 use Rattle.entailment.specs.GroundSentences.{sentence_of, IsGroundOver}
 use Rattle.censors.specs.Parts.{CanBeExamined}
 use Rattle.desk_tests.proofs.examining.agree_over.Goals as goal

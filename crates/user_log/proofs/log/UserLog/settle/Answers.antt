@@ -1,4 +1,4 @@
-use Rattle.std.proofs.Common.{◌++◌, ◌∷◌, [], length, refl, sym, ap, subst, ◌∙◌}
+use Rattle.std.proofs.Common.{◌++◌, ◌∷◌, [], length, sym, ap, subst, ◌∙◌}
 use Rattle.cqe_base.specs.Formula.{formula_of}
 use Rattle.cqe_base.specs.History.{AnsweredQuery}
 use Rattle.user_log.specs.Asked.{IsAsked, wanted}
