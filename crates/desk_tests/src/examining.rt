@@ -57,7 +57,31 @@ fn are_same(one: &Findings, other: &Findings) -> bool {
                 && one.no_harm == other.no_harm)
 }
 
-/// Whether both bodies find the same of a query, by one to five threads.
+/// Whether both bodies find the same of a query, by so many threads.
+fn agree_with<R: Threads + Sync>(
+    rt: &R,
+    alloc: Global,
+    clinic: &Clinic,
+    user: &User,
+    guards: &Guards<'_>,
+    query: &GroundSentence,
+    count: usize,
+) -> Result<bool, Fail>
+    requires limits { KeepsLimits clinic.now.schema (profile_of user.now) }
+    requires schema { guards.now.schema ≡ clinic.now.schema }
+    requires guarded { guards.now.sentences ≡ guarded (profile_of user.now) }
+    requires sentence { is_sentence_of clinic.now.schema (sentence_of query.now) ≡ true }
+    requires small { nodes clinic.now.schema (sentence_of query.now) ≤ 1000 }
+    requires grounded { IsGroundOver clinic.now.schema query.now }
+{
+    law_limits();
+    let mut views = Views::new(alloc, &clinic.schema, user)?;
+    let plain = found_plainly(alloc, &mut views, guards, user, query)?;
+    let beside = found_beside(rt, alloc, &mut views, guards, user, query, count)?;
+    Ok(are_same(&plain, &beside))
+}
+
+/// Whether they do by one to five threads.
 fn agree_over<R: Threads + Sync>(
     rt: &R,
     alloc: Global,
@@ -73,12 +97,8 @@ fn agree_over<R: Threads + Sync>(
     requires small { nodes clinic.now.schema (sentence_of query.now) ≤ 1000 }
     requires grounded { IsGroundOver clinic.now.schema query.now }
 {
-    law_limits();
     for count in 1..6 {
-        let mut views = Views::new(alloc, &clinic.schema, user)?;
-        let plain = found_plainly(alloc, &mut views, guards, user, query)?;
-        let beside = found_beside(rt, alloc, &mut views, guards, user, query, count)?;
-        if !are_same(&plain, &beside) {
+        if !agree_with(rt, alloc, clinic, user, guards, query, count)? {
             return Ok(false);
         }
     }
@@ -132,27 +152,47 @@ fn with_budget(user: User, budget: u64) -> User
     user
 }
 
-/// Whether both bodies agree on some queries of the clinic, whatever the budget.
-fn agree_by<R: Threads + Sync>(rt: &R, alloc: Global, method: Method) -> Result<bool, Fail> {
-    let clinic = make_clinic(alloc)?;
-    for budget in 1..12 {
-        let user = user_by(alloc, &clinic, "kim", method)?;
-        let user = with_budget(user, budget);
-        for text in ["drug(ann)", "hiv(bob)", "hiv(ann) or drug(bob)"] {
-            if !agree(rt, alloc, &clinic, &user, text)? {
-                return Ok(false);
-            }
-        }
-    }
-    Ok(true)
+/// Whether both bodies agree on some queries of a user.
+fn agree_on_texts<R: Threads + Sync>(
+    rt: &R,
+    alloc: Global,
+    clinic: &Clinic,
+    user: &User,
+) -> Result<bool, Fail>
+    requires { KeepsLimits clinic.now.schema (profile_of user.now) }
+{
+    let first = agree(rt, alloc, clinic, user, "drug(ann)")?;
+    let second = agree(rt, alloc, clinic, user, "hiv(bob)")?;
+    let third = agree(rt, alloc, clinic, user, "hiv(ann) or drug(bob)")?;
+    Ok(first && second && third)
+}
+
+/// Whether they do for a user by this method, with this budget.
+fn agree_by<R: Threads + Sync>(
+    rt: &R,
+    alloc: Global,
+    clinic: &Clinic,
+    method: Method,
+    budget: u64,
+) -> Result<bool, Fail>
+    requires some { 1 ≤ budget }
+    requires small { budget ≤ 4000000 }
+{
+    let user = user_by(alloc, clinic, "kim", method)?;
+    let user = with_budget(user, budget);
+    let same = agree_on_texts(rt, alloc, clinic, &user)?;
+    Ok(same)
 }
 
 // The plain body is the rule's own program. With the least budgets some probes are spent.
 #[test]
 fn threads_find_what_one_finds(rt: HostRuntime) -> Result<(), Fail> {
     let alloc = rt.alloc();
-    for method in [Method::Lying, Method::Refusal, Method::Combined] {
-        assert!(rt; agree_by(&rt, alloc, method)?);
+    let clinic = make_clinic(alloc)?;
+    for budget in 1..12 {
+        assert!(rt; agree_by(&rt, alloc, &clinic, Method::Lying, budget)?);
+        assert!(rt; agree_by(&rt, alloc, &clinic, Method::Refusal, budget)?);
+        assert!(rt; agree_by(&rt, alloc, &clinic, Method::Combined, budget)?);
     }
     Ok(())
 }

@@ -6,7 +6,7 @@ use Rattle.entailment.specs.Logs.{log_nodes}
 use Rattle.entailment.specs.Views.{LogView, log_of}
 use Rattle.entailment.specs.GroundSentences.{sentence_of, IsGroundOver}
 use Rattle.censors.specs.Parts.{CanBeExamined}
-use Rattle.desk_tests.proofs.examining.agree_over.Goals as goal
+use Rattle.desk_tests.proofs.examining.agree_with.Goals as goal
 
 pub found_plainly-requires : goal.found_plainly-requires
 found_plainly-requires g c =
