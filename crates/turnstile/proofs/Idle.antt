@@ -22,11 +22,6 @@ module _ {I F : Type 0} where
   pub now_idle : (w : View I F) → w.stage ≡ Outside → 0 < w.shares → is_idle (w ∷ []) ≡ true
   now_idle w stage pos = ap (λ (s : Stage). is_outside s && ltb 0 w.shares) stage ∙ lt-ltb 0 w.shares pos
 
-  -- the shares of a pass are those of its view
-  pub shares_known : (views : List (View I F)) → shares_in views ≡ (view_or_spent views).shares
-  shares_known [] = refl
-  shares_known (v ∷ vs) = refl
-
 module _ {S : Type 0} where
   pair_same : (p q : ℕ × S) (xs ys : List (ℕ × S)) → ◌≡◌ {A = List (ℕ × S)} (p ∷ xs) (q ∷ ys) → p ≡ q
   pair_same p q xs ys e = cc

@@ -16,15 +16,6 @@ pub struct Pass<I, F> {
 }
 
 impl<I, F> Pass<I, F> {
-    ghost use Rattle.turnstile.specs.Passes.{shares};
-
-    /// How many of the 65 shares it has.
-    pub fn shares(&self) -> u64
-        ensures { result ≡ shares self.now }
-    {
-        self.shares
-    }
-
     /// What stands in for a pass in a turn.
     pub(crate) fn away() -> Pass<I, F>
         ensures { result.badge.views ≡ [] }
