@@ -43,8 +43,16 @@ module _ {X : Type 0} (P : X → Type 0) where
 module _ {X : Type 0} where
   pub pushed_longer : {U E : Type 0} (xs new : List X) (x : X) (pushed : Result U E) → new ≡ (if is_ok pushed then xs ++ x ∷ [] else xs)
       → length xs ≤ length new
-  pushed_longer xs new x (Ok done) is = omega (arith, ap length is, length-append xs (x ∷ []))
-  pushed_longer xs new x (Err failed) is = omega (arith, ap length is)
+  pushed_longer xs new x (Ok done) is =
+      let long : length new ≡ length (xs ++ x ∷ []) = ap length is in
+      omega (arith, long, length-append xs (x ∷ []))
+  pushed_longer xs new x (Err failed) is = let long : length new ≡ length xs = ap length is in omega (arith, long)
+
+  -- with one more item there is one
+  pub pushed_some : (xs new : List X) (x : X) → new ≡ xs ++ x ∷ [] → 0 < length new
+  pushed_some xs new x is =
+      let long : length new ≡ length (xs ++ x ∷ []) = ap length is in
+      omega (arith, long, length-append xs (x ∷ []))
 
   -- a vector that was lent whole, and comes back as long
   pub lent_whole : (n : ℕ) (new old : List X) → length new ≡ length old → n ≡ length old → take n (new ++ drop (length new) old) ≡ new

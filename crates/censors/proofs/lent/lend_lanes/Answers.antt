@@ -1,7 +1,7 @@
-use Rattle.std.proofs.Common.{◌∙◌, All, length, length-append, sym, ap, subst, arith}
+use Rattle.std.proofs.Common.{◌∙◌, All, sym, subst, arith}
 use Rattle.entailment.specs.Views.{LogView, schema_of, log_of, IsViewOf}
 use Rattle.censors.specs.declared.lent.Lane.{Lane}
-use Rattle.censors.proofs.Lanes.{one_is}
+use Rattle.censors.proofs.Lanes.{one_is, pushed_some}
 use Rattle.censors.proofs.lent.lend_lanes.Goals as goal
 
 pub lend_more-requires : goal.lend_more-requires
@@ -16,9 +16,8 @@ returns-clause-same c = c.lend_more.ensures.same ∙ c.lend.ensures.same
 
 pub returns-clause-some : goal.returns-clause-some
 returns-clause-some c =
-    let one = ap length c.in_ok-push.ensures.items in
-    let more = length-append c.new-lanes.result.items _ in
-    omega (arith, one, more, c.lend_more.ensures.more)
+    let one = pushed_some c.new-lanes.result.items c.push.new.self.items _ c.in_ok-push.ensures.items in
+    omega (arith, one, c.lend_more.ensures.more)
 
 pub returns-clause-lent : goal.returns-clause-lent
 returns-clause-lent c =
