@@ -1,4 +1,4 @@
-use Rattle.std.proofs.Common.{rules, ◌≡◌, ◌*◌, List, All, map, length, sym, ap, subst, ◌∙◌, arith}
+use Rattle.std.proofs.Common.{rules, ◌≡◌, ◌<◌, ◌*◌, List, All, map, length, sym, ap, subst, ◌∙◌, arith}
 use Rattle.std.specs.Prelude.{Option, IfSome}
 use Rattle.std.proofs.lemmas.List.{length-map}
 use Rattle.std.proofs.lemmas.List.Elements.{All-weaker}
@@ -29,14 +29,18 @@ cut_of-cut-requires-clause-few g c =
 
 pub cut_of-cut-requires-clause-some : goal.cut_of-cut-requires-clause-some
 cut_of-cut-requires-clause-some g c =
-    let shown = length-map c.args.lanes.now.items (λ (lane : Lane). lane.view) in
-    omega (arith, c.requires.together.some, shown, c.len-2.ensures)
+    let items = c.args.lanes.now.items in
+    let some : 0 < length (map (λ (lane : Lane). lane.view) items) = c.requires.together.some in
+    let shown = length-map items (λ (lane : Lane). lane.view) in
+    omega (arith, some, shown, c.len-2.ensures)
 
 pub run_all-requires-clause-some : goal.run_all-requires-clause-some
 run_all-requires-clause-some g c _ _ =
-    let lent : c.deref_mut.result.now ≡ c.args.lanes.now.items = search rules in
-    let shown = length-map c.args.lanes.now.items (λ (lane : Lane). lane.view) in
-    omega (arith, c.requires.together.some, shown, ap length lent)
+    let items = c.args.lanes.now.items in
+    let lent : c.deref_mut.result.now ≡ items = search rules in
+    let some : 0 < length (map (λ (lane : Lane). lane.view) items) = c.requires.together.some in
+    let shown = length-map items (λ (lane : Lane). lane.view) in
+    omega (arith, some, shown, ap length lent)
 
 pub run_all-requires-clause-can : goal.run_all-requires-clause-can
 run_all-requires-clause-can g c _ _ =
