@@ -41,10 +41,8 @@ pub type DeskPass<D> = Pass<TurnItem, Fixed<D>>;
 
 impl<'w, D: Disk> CounterOf<'w, TicketedDesk<'w, D>> {
     ghost use Rattle.std.specs.Prelude.{◌⊎◌, ℕ, ◌^◌, ◌+◌, ◌*◌, ◌≤◌, ◌<◌, ◌↔◌, IsTrue, true, false};
-    ghost use Rattle.std.specs.Prelude.{List, [], ◌++◌, length, option_to_list, None, IfOk, IfErr};
+    ghost use Rattle.std.specs.Prelude.{List, [], length, None, IfOk, IfErr};
     ghost use Rattle.std.specs.Prelude.{OnOk, IfSome};
-    ghost use Rattle.outside.specs.Disk.{Elapses};
-    ghost use Rattle.outside.specs.Faults.{Rose};
     ghost use Rattle.cqe_base.specs.Censor.{IsLegal};
     ghost use Rattle.cqe_base.specs.History.{profile_of};
     ghost use Rattle.cqe_base.specs.Limits.{KeepsSizes};
