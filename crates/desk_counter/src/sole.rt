@@ -43,7 +43,6 @@ impl<'w, D: Disk> SoleOf<'w, TicketedDesk<'w, D>> {
     ghost use Rattle.desk_counter.specs.Counters.{first_pairs, IsPassOf};
     ghost use Rattle.desk_counter.specs.Sole.{counter_in, pass_in, kept_in, pairs_of_sole};
     ghost use Rattle.desk_counter.specs.Sole.{IsSoleIn};
-    ghost use Rattle.desk_counter.specs.Closed.{IsClosed};
 
     /// Puts a desk under a counter. For want of memory the desk comes back.
     pub fn new(alloc: Global, desk: Desk<'w, D>) -> Result<SoleCounter<'w, D>, Desk<'w, D>>
