@@ -21,8 +21,12 @@ use crate::kinds::kind_of;
 use crate::standing::Standing;
 use crate::store::Store;
 use cqe_base::sentence::Sentence;
+<<<<<<< e03a0a72e89ef5fb69bf5d03133d0b83cc2ad840
 use cqe_base::user::{Entry, Mark, User};
 use entailment::{GroundSentence, View};
+=======
+use cqe_base::user::{Entry, Mark, Purpose, User};
+>>>>>>> 72f02d3bb47d01954616bcb4f4e9576c7b038719
 use log_journal::Header;
 use outside::Disk;
 use std::alloc::{AllocError, Global};
@@ -168,9 +172,16 @@ impl<'w, D: Disk> Desk<'w, D> {
         self.store.known();
     }
 
+<<<<<<< e03a0a72e89ef5fb69bf5d03133d0b83cc2ad840
     /// A view of the log, after which the query of a text can be examined outside of the desk.
     /// There is none where a code answers the text, or memory is wanting. The desk stays as it is.
     pub fn lend(&mut self, alloc: Global, text: &str, query: &GroundSentence) -> Option<View<'w>>
+=======
+    /// The reply to a call by the items so far. A mark comes once its item is on the disk, and adds
+    /// it; want of memory and a code change nothing, and from the first write on the answer is a
+    /// mark or that the append failed.
+    pub fn settle(&mut self, alloc: Global, purpose: Purpose, text: &str) -> Reply
+>>>>>>> 72f02d3bb47d01954616bcb4f4e9576c7b038719
         requires { length text.now ≤ 4096 }
         ensures same { IsOfSame self.old self.new }
         ensures opening { IsOfOneOpening self.old self.new }
@@ -196,23 +207,23 @@ impl<'w, D: Disk> Desk<'w, D> {
         ensures same { IsOfSame self.old self.new }
         ensures opening { IsOfOneOpening self.old self.new }
 
-        // It is an ask of the run, with its reply and its ending.
+        // It is a call of the run, with its reply and its ending.
         ensures settled { (state : UserState) → IsIn self.old state
             → Settles (desk_schema self.old) (desk_world self.old) (desk_user self.old)
-            (IsIn self.new) state text.now
+            (IsIn self.new) state purpose text.now
             (reply_of result) (D.faults (desk_disk self.old)) (D.faults (desk_disk self.new)) }
         ensures broken { (result ≡ Reply.Broken) ↔ IsTrue (is_broken_desk self.new) }
         ensures untouched { HasNoWrite result → desk_disk self.new ≡ desk_disk self.old }
         ensures count { D.faults (desk_disk self.old) ≤ D.faults (desk_disk self.new) }
 
-        // At every moment of the call each image stands for what a crash of this ask leaves.
+        // At every moment of the call each image stands for what a crash that cuts it leaves.
         ensures moments { D.tells → is_sealed (desk_standing self.old) ≡ false → (c : List ℕ)
             → D.image_since (desk_disk self.new) (D.moment (desk_disk self.old)) c
             → Holds (desk_schema self.old) (desk_world self.old) (desk_user self.old)
             (desk_header self.old)
             (after_event (desk_schema self.old) (desk_world self.old) (desk_user self.old)
             (state_of self.old)
-            (stop text.now)) c }
+            (stop purpose text.now)) c }
         ensures time { Elapses (D.moment (desk_disk self.old)) (D.moment (desk_disk self.new))
             (D.image_since (desk_disk self.old)) (D.image_since (desk_disk self.new)) }
     {
@@ -220,8 +231,13 @@ impl<'w, D: Disk> Desk<'w, D> {
         if let Some(code) = self.refusal() {
             return code;
         }
+<<<<<<< e03a0a72e89ef5fb69bf5d03133d0b83cc2ad840
         match self.log.weigh(alloc, text, examined) {
             Ok(Weighed::Answer(query, mark)) => self.record(alloc, text, query, mark),
+=======
+        match self.log.weigh(alloc, purpose, text) {
+            Ok(Weighed::Answer(query, mark)) => self.record(alloc, purpose, text, query, mark),
+>>>>>>> 72f02d3bb47d01954616bcb4f4e9576c7b038719
             Ok(Weighed::Code(code)) => code,
             Err(_) => Reply::Memory,
         }
@@ -248,18 +264,25 @@ impl<'w, D: Disk> Desk<'w, D> {
         }
     }
 
-    // Appends the entry of a text that was weighed to the journal, and adds it to the log.
-    fn record(&mut self, alloc: Global, text: &str, query: Sentence, mark: Mark) -> Reply
+    // Appends the item of a text that was weighed to the journal, and adds it to the log.
+    fn record(
+        &mut self,
+        alloc: Global,
+        purpose: Purpose,
+        text: &str,
+        query: Sentence,
+        mark: Mark,
+    ) -> Reply
         requires short { length text.now ≤ 4096 }
         requires opened { desk_standing self.old ≡ Standing.Open }
         requires whole { entry_in_flight self.old ≡ None }
         requires answer { IsAnswer (desk_schema self.old) (desk_world self.old) (desk_user self.old)
-            (desk_history self.old) text.now (formula_of query) mark }
+            (desk_history self.old) purpose text.now (formula_of query) mark }
         ensures same { IsOfSame self.old self.new }
         ensures opening { IsOfOneOpening self.old self.new }
         ensures settled { Settles (desk_schema self.old) (desk_world self.old) (desk_user self.old)
-            (λ state. state ≡ state_of self.new) (state_of self.old) text.now (reply_of result)
-            (D.faults (desk_disk self.old)) (D.faults (desk_disk self.new)) }
+            (λ state. state ≡ state_of self.new) (state_of self.old) purpose text.now
+            (reply_of result) (D.faults (desk_disk self.old)) (D.faults (desk_disk self.new)) }
         ensures broken { (result ≡ Reply.Broken) ↔ IsTrue (is_broken_desk self.new) }
         ensures untouched { HasNoWrite result → desk_disk self.new ≡ desk_disk self.old }
         ensures count { D.faults (desk_disk self.old) ≤ D.faults (desk_disk self.new) }
@@ -269,7 +292,7 @@ impl<'w, D: Disk> Desk<'w, D> {
             (desk_header self.old)
             (after_event (desk_schema self.old) (desk_world self.old) (desk_user self.old)
             (state_of self.old)
-            (stop text.now)) c }
+            (stop purpose text.now)) c }
         ensures time { Elapses (D.moment (desk_disk self.old)) (D.moment (desk_disk self.new))
             (D.image_since (desk_disk self.old)) (D.image_since (desk_disk self.new)) }
     {

@@ -1,21 +1,28 @@
--- What is kept of a user, from the empty history and entry by entry.
-use Rattle.std.proofs.Common.{◌≡◌, ℕ, ◌+◌, Bool, true, false, List, [], ◌∷◌, ◌++◌, length, refl, sym, ap, ◌∙◌, subst, arith}
+-- What is kept of a user, from the empty history and item by item.
+use Rattle.std.proofs.Common.{◌≡◌, ℕ, ◌+◌, Bool, true, false, List, [], ◌∷◌, ◌++◌, length, refl, sym, ap, ◌∙◌, subst, append-nil, arith}
 use Rattle.std.specs.Prelude.{◌⊎◌, sum_by, Option, Ok, if◌then◌else◌}
 use Rattle.std.proofs.Common.{inl, inr}
+use Rattle.std.proofs.lemmas.Bool.{both_ways, or_parts}
 use Rattle.std.proofs.lemmas.Grind.{common_steps}
 use Rattle.cqe_base.specs.declared.user.Mark.{Mark}
+use Rattle.cqe_base.specs.declared.user.Mark.TheVariants.{Yes, No, Refused, Undecided, Protected}
+use Rattle.cqe_base.specs.declared.user.Purpose.TheVariants.{Asking, Protecting}
 use Rattle.cqe_base.specs.Schema.{DatabaseSchema, Text}
 use Rattle.cqe_base.specs.Reading.{ReadingsAreSentences}
-use Rattle.cqe_base.specs.Run.{marked, history_full, too_large, reply_by, standing_open, is_full, is_too_large}
-use Rattle.user_log.specs.Asked.{IsAnswer}
+use Rattle.cqe_base.specs.Run.{marked, history_full, too_large, secrets_full, unsafe_secret, reply_by, standing_open, is_full, is_too_large}
+use Rattle.cqe_base.specs.Run.{is_too_large_secret, has_all_secrets}
+use Rattle.user_log.specs.Asked.{IsSomeAnswer}
 use Rattle.cqe_base.specs.Facts.{FactSet}
 use Rattle.cqe_base.specs.Formula.{Formula}
 use Rattle.cqe_base.specs.Truth.{true_in}
 use Rattle.cqe_base.specs.Entailment.{Signed}
-use Rattle.cqe_base.specs.History.{UserProfile, AnsweredQuery, History, EmptyLogIsKnown, LogsGrow, told_by, log, view_size, known}
-use Rattle.cqe_base.specs.Censor.{AreFindings, FindingsDecide, EmptyHistoryIsLegal, LegalHistoriesGrow, mark_by, rule}
+use Rattle.cqe_base.specs.History.{UserProfile, AnsweredQuery, History, EmptyLogIsKnown, LogsGrow, SecretsGrow, told_by, is_added, user_at, log, view_size}
+use Rattle.cqe_base.specs.History.{known, with_secrets, secrets_by}
+use Rattle.cqe_base.specs.Censor.{AreFindings, FindingsDecide, RulesAddNone, IsLegalItem, EmptyHistoryIsLegal, LegalHistoriesGrow, mark_by, rule}
+use Rattle.cqe_base.specs.Censor.{mark_after, safe_after}
 use Rattle.cqe_base.specs.Limits.{KeepsLimits, KeepsSizes, KeepsSizesAt}
-use Rattle.user_log.specs.Kept.{IsConsistentLog}
+use Rattle.censors.specs.Guards.{GuardedSentences}
+use Rattle.user_log.specs.Kept.{IsConsistentLog, IsAmended}
 use Rattle.user_log.specs.Nodes.{told_nodes}
 use Rattle.user_log.proofs.Sizes.{view_size-push}
 
@@ -65,7 +72,7 @@ kept_empty schema world user entries view_schema view_log view_nodes none limits
       sizes = λ before entry after e. absurd (no_entry before entry after e);
     }
 
--- ---- one more entry
+-- ---- one more item
 
 module _ {X : Type 0} where
   none_behind : (before : List X) (y : X) (after : List X) → [] ≡ before ++ y ∷ after → ⊥
@@ -89,7 +96,7 @@ module _ {X : Type 0} where
       let heads : b ≡ x = cc in
       longer x b heads xs last before y (split_last xs last before y after tails)
 
--- entries within the limits and one more
+-- items within the limits and one more
 pub sizes_push : (schema : DatabaseSchema) (user : UserProfile) (entries : History) (last : AnsweredQuery) → KeepsSizes schema user entries
     → KeepsSizesAt schema user entries last → KeepsSizes schema user (entries ++ last ∷ [])
 sizes_push schema user entries last sizes here before entry after e = at (split_last entries last before entry after e)
@@ -98,23 +105,23 @@ sizes_push schema user entries last sizes here before entry after e = at (split_
     at (inl same) = subst (λ h. KeepsSizesAt schema user h entry) (sym same.0) (subst (λ q. KeepsSizesAt schema user entries q) (sym same.1) here)
     at (inr (rest, is)) = sizes before entry rest is
 
--- what is kept, with one more entry
+-- what is kept, with one more item
 pub kept_push : (schema : DatabaseSchema) (world : FactSet) (user : UserProfile) (entries entries' : History) (last : AnsweredQuery)
     (view_schema view_schema' : DatabaseSchema) (view_log view_log' : List Signed) (text_bytes view_nodes more_text more_nodes : ℕ)
-    → IsConsistentLog schema world user entries view_schema view_log text_bytes view_nodes → LegalHistoriesGrow → LogsGrow
-    → KeepsSizesAt schema user entries last → last.mark ≡ rule schema world user (log user entries) last.query
+    → IsConsistentLog schema world user entries view_schema view_log text_bytes view_nodes → LegalHistoriesGrow → LogsGrow → SecretsGrow
+    → KeepsSizesAt schema user entries last → IsLegalItem schema world user entries last
     → entries' ≡ entries ++ last ∷ [] → view_schema' ≡ view_schema
     → view_log' ≡ view_log ++ told_by last.mark last.query → more_text ≡ last.length → more_nodes ≡ told_nodes schema last.mark last.query
     → IsConsistentLog schema world user entries' view_schema' view_log' (text_bytes + more_text) (view_nodes + more_nodes)
-kept_push schema world user entries entries' last view_schema view_schema' view_log view_log' text_bytes view_nodes more_text more_nodes kept grow logs here
-    marks pushed same_schema told same_text same_nodes =
+kept_push schema world user entries entries' last view_schema view_schema' view_log view_log' text_bytes view_nodes more_text more_nodes kept grow logs
+    secrets here next pushed same_schema told same_text same_nodes =
     subst (λ h. IsConsistentLog schema world user h view_schema' view_log' (text_bytes + more_text) (view_nodes + more_nodes)) (sym pushed) record {
       limits = kept.limits;
       schema_is = same_schema ∙ kept.schema_is;
       log_is = told ∙ ap (λ l. l ++ told_by last.mark last.query) kept.log_is ∙ sym (logs user entries last);
       text_is = text_of;
       nodes_are = nodes_of;
-      legal = grow schema world user entries last kept.legal marks;
+      legal = grow schema world user entries last kept.legal next;
       sizes = sizes_push schema user entries last kept.sizes here;
     }
   where
@@ -122,7 +129,7 @@ kept_push schema world user entries entries' last view_schema view_schema' view_
     text_of = let was = kept.text_is in grind (arith, common_steps, was, same_text)
 
     nodes_of : view_nodes + more_nodes ≡ view_size schema user (entries ++ last ∷ [])
-    nodes_of = let was = kept.nodes_are in let now = view_size-push schema user entries last logs in omega (arith, was, now, same_nodes)
+    nodes_of = let was = kept.nodes_are in let now = view_size-push schema user entries last logs secrets in omega (arith, was, now, same_nodes)
 
 -- what a marked reply says of its query
 pub answer_means : (full large : Bool) (told mark : Mark) → (if full then history_full else if large then too_large else marked told) ≡ marked mark
@@ -131,13 +138,79 @@ answer_means true large told mark e = absurd cc
 answer_means false true told mark e = absurd cc
 answer_means false false told mark e = (refl, refl, cc)
 
--- the entry of an answer keeps the sizes and has the rule's mark
+-- and what it says of a sentence that was to be added
+protection_means : (full large most safe : Bool) (mark : Mark)
+    → (if full then history_full else if large then too_large else if most then secrets_full else if safe then marked Protected else unsafe_secret)
+    ≡ marked mark
+    → (full ≡ false) × (large ≡ false) × (most ≡ false) × (safe ≡ true) × (mark ≡ Protected)
+protection_means true large most safe mark e = absurd cc
+protection_means false true most safe mark e = absurd cc
+protection_means false false true safe mark e = absurd cc
+protection_means false false false false mark e = absurd cc
+protection_means false false false true mark e = (refl, refl, refl, refl, cc)
+
+-- the item of an answer came within the limits, and is legal
 pub answer_fits : (schema : DatabaseSchema) (world : FactSet) (user : UserProfile) (entries : History) (text : Text) (query : Formula) (mark : Mark)
-    → ReadingsAreSentences → IsAnswer schema world user entries text query mark
-    → KeepsSizesAt schema user entries (record { query = query; mark = mark; length = length text }) × (mark ≡ rule schema world user (log user entries) query)
-answer_fits schema world user entries text query mark sentences is =
-    let told : reply_by schema world user entries standing_open false text (Ok query) ≡ marked mark =
-    ap (reply_by schema world user entries standing_open false text) (sym is.read) ∙ is.answer in
+    → ReadingsAreSentences → RulesAddNone → IsSomeAnswer schema world user entries text query mark
+    → KeepsSizesAt schema user entries (record { query = query; mark = mark; length = length text })
+    × IsLegalItem schema world user entries (record { query = query; mark = mark; length = length text })
+answer_fits schema world user entries text query mark sentences none (Asking, is) =
+    let told : reply_by schema world user entries standing_open false Asking text (Ok query) ≡ marked mark =
+    ap (reply_by schema world user entries standing_open false Asking text) (sym is.read) ∙ is.answer in
     let means =
-    answer_means (is_full entries (length text)) (is_too_large schema user entries query) (rule schema world user (log user entries) query) mark told in
-    (record { sentence = sentences schema text query is.read; room = means.0; small = means.1 }, means.2)
+    answer_means (is_full entries (length text)) (is_too_large schema user entries query) (mark_after schema world user entries query) mark told in
+    let asked : is_added mark ≡ false = ap is_added means.2 ∙ none schema world (user_at user entries) (log user entries) query in (
+      record {
+        sentence = sentences schema text query is.read;
+        room = means.0;
+        small = means.1;
+        small_secret = λ added. absurd (both_ways (is_added mark) asked added);
+        secret_room = λ added. absurd (both_ways (is_added mark) asked added);
+      },
+      record { has_mark = λ _. means.2; is_safe = λ added. absurd (both_ways (is_added mark) asked added) },
+    )
+answer_fits schema world user entries text query mark sentences none (Protecting, is) =
+    let told : reply_by schema world user entries standing_open false Protecting text (Ok query) ≡ marked mark =
+    ap (reply_by schema world user entries standing_open false Protecting text) (sym is.read) ∙ is.answer in
+    let means =
+    protection_means (is_full entries (length text)) (is_too_large_secret schema user entries query) (has_all_secrets user entries)
+    (safe_after schema user entries query) mark told in (
+      record {
+        sentence = sentences schema text query is.read;
+        room = means.0;
+        small = (or_parts (is_too_large schema user entries query) _ means.1).0;
+        small_secret = λ _. means.1;
+        secret_room = λ _. means.2;
+      },
+      record { has_mark = λ asked. absurd (both_ways (is_added mark) asked (ap is_added means.4)); is_safe = λ _. means.3 },
+    )
+
+-- ---- the user behind one more item
+
+asked_adds : (mark : Mark) (sentence : Formula) → is_added mark ≡ false → secrets_by mark sentence ≡ []
+asked_adds Yes sentence asked = refl
+asked_adds No sentence asked = refl
+asked_adds Refused sentence asked = refl
+asked_adds Undecided sentence asked = refl
+asked_adds Protected sentence asked = absurd cc
+
+-- behind one that was asked he is as he was
+pub amended_asked : (schema : DatabaseSchema) (user : UserProfile) (entries entries' : History) (item : AnsweredQuery) (now : UserProfile)
+    (guards : GuardedSentences) → SecretsGrow → entries' ≡ entries ++ item ∷ [] → is_added item.mark ≡ false
+    → IsAmended schema user entries now guards → IsAmended schema user entries' now guards
+amended_asked schema user entries entries' item now guards secrets pushed asked was = record {
+  now_is = was.now_is
+      ∙ ap (with_secrets user) (sym (secrets user entries item ∙ ap (λ more. (user_at user entries).secrets ++ more) (asked_adds item.mark item.query asked)
+      ∙ append-nil (user_at user entries).secrets))
+      ∙ ap (user_at user) (sym pushed);
+  schema_is = was.schema_is;
+  guarded_are = was.guarded_are;
+}
+
+-- behind one that was added he has its sentence behind his secrets
+pub amended_added : (user : UserProfile) (entries : History) (item : AnsweredQuery) (now made : UserProfile) → SecretsGrow → item.mark ≡ Protected
+    → now ≡ user_at user entries → made ≡ with_secrets now (now.secrets ++ item.query ∷ []) → made ≡ user_at user (entries ++ item ∷ [])
+amended_added user entries item now made secrets added now_is made_is =
+    made_is
+    ∙ (λ k. with_secrets (now_is k) ((now_is k).secrets ++ item.query ∷ []))
+    ∙ ap (with_secrets user) (sym (secrets user entries item ∙ ap (λ m. (user_at user entries).secrets ++ secrets_by m item.query) added))

@@ -3,7 +3,7 @@ use Rattle.std.proofs.Common.{◌≡◌, map, sym, subst}
 use mathlib.Core.HLevel.{is_prop→PathP}
 use Rattle.cqe_base.specs.History.{profile_of, answered_query_of}
 use Rattle.entailment.specs.Views.{LogView, schema_of, log_of}
-use Rattle.user_log.specs.Kept.{IsConsistentLog, IsConsistentLog-prop, AreGuardsOf, AreGuardsOf-prop}
+use Rattle.user_log.specs.Kept.{IsConsistentLog, IsConsistentLog-prop, IsAmended, IsAmended-prop}
 use Rattle.user_log.specs.declared.log.UserLog.{UserLog}
 
 module _ (log : UserLog) where
@@ -16,10 +16,18 @@ module _ (log : UserLog) where
   pub kept_with : (view : LogView) → view ≡ log.views → KeptWith view
   kept_with view same = subst KeptWith (sym same) log.kept
 
+<<<<<<< e03a0a72e89ef5fb69bf5d03133d0b83cc2ad840
   pub same_log : (view : LogView) → view ≡ log.views → (kept : KeptWith view) (guarding : AreGuardsOf log.schema.now (profile_of log.user.now) log.guards)
       → record log { views = view; kept = kept; guarding = guarding } ≡ log
   same_log view same kept guarding = λ i. record log {
     views = same i;
+=======
+  pub same_log : (view : LogView) → view ≡ log.view → (kept : KeptWith view)
+      (amended : IsAmended log.schema.now (profile_of log.user.now) (map answered_query_of log.entries.items) (profile_of log.now) log.guards)
+      → record log { view = view; kept = kept; amended = amended } ≡ log
+  same_log view same kept amended = λ i. record log {
+    view = same i;
+>>>>>>> 72f02d3bb47d01954616bcb4f4e9576c7b038719
     kept = is_prop→PathP (λ j. KeptWith (same j)) (λ j. IsConsistentLog-prop _ _ _ _ _ _ _ _) kept log.kept i;
-    guarding = AreGuardsOf-prop _ _ _ guarding log.guarding i;
+    amended = IsAmended-prop _ _ _ _ _ amended log.amended i;
   }

@@ -1,14 +1,18 @@
+<<<<<<< e03a0a72e89ef5fb69bf5d03133d0b83cc2ad840
 //! Replies to an ask.
 ghost use Rattle.std.specs.Prelude.{◌≡◌};
 ghost use Rattle.cqe_base.specs.Transcript.{reply_text};
 ghost use Rattle.line_protocol.specs.Replies.{text_of};
 ghost use Rattle.user_log.specs.Replies.{reply_of};
+=======
+//! Replies to a call.
+>>>>>>> 72f02d3bb47d01954616bcb4f4e9576c7b038719
 
 use cqe_base::sentence::Sentence;
 use cqe_base::text::TextError;
 use cqe_base::user::Mark;
 
-/// The reply to an ask: a mark, or a code.
+/// The reply to a call: a mark, or a code. The mark `Protected` tells that a secret was added.
 #[derive(Clone, Copy, Debug, PartialEq, Eq)]
 pub enum Reply {
     Mark(Mark),
@@ -16,7 +20,7 @@ pub enum Reply {
     Syntax(TextError),
     /// 22: the history is full.
     Full,
-    /// 21: the query, or the view with it, is too large.
+    /// 21: the sentence, or the view or the secrets with it, are too large.
     Size,
     /// 24: the user isn't admitted.
     Closed,
@@ -26,6 +30,10 @@ pub enum Reply {
     Broken,
     /// 50: memory is wanting.
     Memory,
+    /// 27: a secret is to be added, and there are 16.
+    Secrets,
+    /// A secret is to be added that isn't safe.
+    Unsafe,
 }
 
 /// A text that was weighed and not yet added.
@@ -33,7 +41,7 @@ pub enum Reply {
 pub enum Weighed {
     /// It is answered by a code and adds nothing.
     Code(Reply),
-    /// It is this query, and this mark answers it.
+    /// It is this sentence, and this mark answers the call.
     Answer(Sentence, Mark),
 }
 

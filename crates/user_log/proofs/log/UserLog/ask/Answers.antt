@@ -1,4 +1,9 @@
+<<<<<<< e03a0a72e89ef5fb69bf5d03133d0b83cc2ad840
 use Rattle.std.proofs.Common.{◌++◌, ◌∷◌, [], length, sym, ap, subst, ◌∙◌}
+=======
+use Rattle.std.proofs.Common.{◌++◌, ◌∷◌, [], length, refl, sym, ap, subst, ◌∙◌}
+use Rattle.cqe_base.specs.declared.user.Purpose.TheVariants.{Asking}
+>>>>>>> 72f02d3bb47d01954616bcb4f4e9576c7b038719
 use Rattle.cqe_base.specs.Formula.{formula_of}
 use Rattle.cqe_base.specs.History.{AnsweredQuery}
 use Rattle.user_log.specs.Asked.{IsAsked, wanted}
@@ -12,14 +17,14 @@ use Rattle.user_log.proofs.log.UserLog.ask.Goals as goal
 pub returns-in-Ok-Code-clause-asked : goal.returns-in-Ok-Code-clause-asked
 returns-in-Ok-Code-clause-asked c =
     let old = c.args.self.now in
-    subst (λ (l : UserLog). IsAsked (kept_schema old) (kept_world old) (kept_user old) (kept_history old) (kept_history l) c.args.text.now
+    subst (λ (l : UserLog). IsAsked (kept_schema old) (kept_world old) (kept_user old) (kept_history old) (kept_history l) Asking c.args.text.now
     (reply_of c.in-Ok-Code.code))
-    (sym c.weigh.ensures.same) (code_asked _ _ _ _ _ _ (rw c.in-Ok-Code.field-0-is at c.in-Ok-Code.ensures.weighed))
+    (sym c.weigh.ensures.same) (code_asked _ _ _ _ _ _ _ (rw c.in-Ok-Code.field-0-is at c.in-Ok-Code.ensures.weighed))
 
 pub returns-in-Ok-clause-asked : goal.returns-in-Ok-clause-asked
 returns-in-Ok-clause-asked c =
     let entry : AnsweredQuery = record { query = formula_of c.in-Ok-Answer.query; mark = c.in-Ok-Answer.mark; length = length c.args.text.now } in
-    mark_asked _ _ _ _ _ _ _ _ (rw c.in-Ok-Answer.field-0-is at c.in-Ok-Answer.ensures.weighed)
+    mark_asked _ _ _ _ _ _ _ _ _ (rw c.in-Ok-Answer.field-0-is at c.in-Ok-Answer.ensures.weighed)
     (c.in-Ok.ensures.added ∙ ap (λ (l : UserLog). kept_history l ++ entry ∷ []) c.weigh.ensures.same)
 
 pub returns-in-Err-add-clause-asked : goal.returns-in-Err-add-clause-asked

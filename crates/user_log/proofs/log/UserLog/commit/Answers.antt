@@ -1,12 +1,17 @@
 use Rattle.std.proofs.Common.{◌≤◌, ◌+◌, ◌++◌, arith, sym, ap, subst, ◌∙◌}
 use Rattle.std.proofs.lemmas.Grind.{common_steps}
 use Rattle.cqe_base.specs.Formula.{formula_of, nodes, is_sentence_of}
-use Rattle.cqe_base.specs.History.{log, told_by, signed_nodes}
+use Rattle.cqe_base.specs.History.{profile_of, log, told_by, signed_nodes}
 use Rattle.entailment.specs.Logs.{log_nodes}
+<<<<<<< e03a0a72e89ef5fb69bf5d03133d0b83cc2ad840
 use Rattle.entailment.specs.Views.{log_of}
+=======
+use Rattle.entailment.specs.Views.{schema_of, log_of}
+use Rattle.user_log.specs.Kept.{IsAmended}
+>>>>>>> 72f02d3bb47d01954616bcb4f4e9576c7b038719
 use Rattle.user_log.specs.Prepared.{prepared_entry}
 use Rattle.user_log.specs.UserLogs.{kept_schema, kept_user, kept_history}
-use Rattle.user_log.proofs.Keeping.{kept_push}
+use Rattle.user_log.proofs.Keeping.{kept_push, amended_asked}
 use Rattle.user_log.proofs.log.UserLog.commit.Goals as goal
 
 pub tell-requires-clause-sentence : goal.tell-requires-clause-sentence
@@ -32,14 +37,36 @@ tell-requires-clause-nodes c =
     (subst (λ q. log_nodes (kept_schema before) (log (kept_user before) (kept_history before)) + signed_nodes (kept_schema before) q yes
     ≤ 60000) (sym c.requires.told) (fits.log_nodes yes)))
 
+-- behind an item that was added the user is the one that was prepared
+pub invariant_of-self-in-Some : goal.invariant_of-self-in-Some
+invariant_of-self-in-Some c =
+    let before = c.args.self.now in
+    let entry = prepared_entry c.args.prepared in
+    let pushed = grind (arith, common_steps) in
+    record {
+      kept = kept_push _ _ _ _ _ entry _ _ _ _ _ _ _ _ before.kept c.law_legal_grows.ensures.grows c.law_logs.ensures.grows
+          c.law_added_secrets.ensures.grows c.requires.sizes c.requires.legal
+          (grind (arith, common_steps)) c.tell.ensures.schema
+          (c.tell.ensures.told ∙ ap (λ q. log_of before.view ++ told_by entry.mark q) c.requires.told) c.from.ensures c.requires.nodes;
+      amended = subst (λ entries. IsAmended (kept_schema before) (kept_user before) entries (profile_of c.in-Some.user) c.in-Some.guards) (sym pushed)
+          (rw c.in-Some.is at c.requires.amended);
+    }
+
+-- behind one that was asked he is as he was
 pub invariant_of-self : goal.invariant_of-self
 invariant_of-self c =
     let before = c.args.self.now in
     let entry = prepared_entry c.args.prepared in
     record {
-      kept = kept_push _ _ _ _ _ entry _ _ _ _ _ _ _ _ before.kept c.law_legal_grows.ensures.grows c.law_logs.ensures.grows c.requires.sizes
-          c.requires.mark
+      kept = kept_push _ _ _ _ _ entry _ _ _ _ _ _ _ _ before.kept c.law_legal_grows.ensures.grows c.law_logs.ensures.grows
+          c.law_added_secrets.ensures.grows c.requires.sizes c.requires.legal
           (grind (arith, common_steps)) c.tell.ensures.schema
+<<<<<<< e03a0a72e89ef5fb69bf5d03133d0b83cc2ad840
           (c.tell.ensures.told ∙ ap (λ q. log_of before.views ++ told_by entry.mark q) c.requires.told) c.from.ensures c.requires.nodes;
       guarding = before.guarding;
+=======
+          (c.tell.ensures.told ∙ ap (λ q. log_of before.view ++ told_by entry.mark q) c.requires.told) c.from.ensures c.requires.nodes;
+      amended = amended_asked (kept_schema before) (kept_user before) (kept_history before) _ entry (profile_of before.now) before.guards
+          c.law_added_secrets.ensures.grows (grind (arith, common_steps)) (rw c.in-None.is at c.requires.amended) before.amended;
+>>>>>>> 72f02d3bb47d01954616bcb4f4e9576c7b038719
     }
