@@ -1,8 +1,8 @@
 -- A mark of the rule, and the reply to a text, are undecided by cost alone.
 use Rattle.std.proofs.Common.{◌≡◌, false, sym, ◌∙◌}
-use Rattle.std.specs.Prelude.{Result, Ok, Err, None}
+use Rattle.std.specs.Prelude.{Result, Ok, Err, None, IfOk}
 use Rattle.cqe_base.specs.declared.user.Mark.{Mark}
-use Rattle.cqe_base.specs.declared.user.Purpose.TheVariants.{Asking}
+use Rattle.cqe_base.specs.declared.user.Purpose.TheVariants.{Asking, Protecting}
 use Rattle.cqe_base.specs.Schema.{DatabaseSchema, Text}
 use Rattle.cqe_base.specs.Facts.{FactSet}
 use Rattle.cqe_base.specs.Formula.{Formula}
@@ -13,15 +13,22 @@ use Rattle.cqe_base.specs.Censor.{mark_after}
 use Rattle.censors.specs.Costs.{UndecidedIsCost}
 use Rattle.user_log.specs.declared.reply.Reply.{Reply}
 use Rattle.user_log.specs.declared.reply.Reply.TheVariants as reply
+use Rattle.user_log.specs.declared.reply.Weighed.{Weighed}
 use Rattle.user_log.specs.Asked.{IsAnswer, open_reply}
 use Rattle.user_log.specs.Replies.{reply_of}
-use Rattle.user_log.specs.Undecided.{IsMarkByCost, IsReplyByCost}
+use Rattle.user_log.specs.Undecided.{IsMarkByCost, IsUndecidedByCost, IsReplyByCost}
 
 pub mark_by_cost : UndecidedIsCost → (schema : DatabaseSchema) (world : FactSet) (user : UserProfile) (entries : History) (query : Formula) (mark : Mark)
     → mark ≡ mark_after schema world user entries query → IsMarkByCost schema user entries query mark
 mark_by_cost law schema world user entries query mark is =
     let both = law schema world (user_at user entries) (log user entries) query in
     (λ h. both.0 (sym is ∙ h), λ h. is ∙ both.1 h)
+
+-- nothing is said of one that is added
+pub added_by_cost : {E : Type 0} (schema : DatabaseSchema) (user : UserProfile) (entries : History) (weighed : Result Weighed E)
+    → IfOk weighed (IsUndecidedByCost schema user entries Protecting)
+added_by_cost schema user entries (Ok weighed) = tt
+added_by_cost schema user entries (Err failed) = tt
 
 module _
     (schema : DatabaseSchema) (world : FactSet) (user : UserProfile) (entries : History) (text : Text)

@@ -1,5 +1,6 @@
 -- What is kept of a user, from the empty history and item by item.
-use Rattle.std.proofs.Common.{◌≡◌, ℕ, ◌+◌, Bool, true, false, List, [], ◌∷◌, ◌++◌, length, refl, sym, ap, ◌∙◌, subst, append-nil, arith}
+use Rattle.std.proofs.Common.{◌≡◌, ◌≤◌, ℕ, ◌+◌, Bool, true, false, List, [], ◌∷◌, ◌++◌, length, refl, sym, ap, ◌∙◌, subst, append-nil, arith}
+use Rattle.std.proofs.Common.{length-append}
 use Rattle.std.specs.Prelude.{◌⊎◌, sum_by, Option, Ok, if◌then◌else◌}
 use Rattle.std.proofs.Common.{inl, inr}
 use Rattle.std.proofs.lemmas.Bool.{both_ways, or_parts}
@@ -17,7 +18,7 @@ use Rattle.cqe_base.specs.Formula.{Formula}
 use Rattle.cqe_base.specs.Truth.{true_in}
 use Rattle.cqe_base.specs.Entailment.{Signed}
 use Rattle.cqe_base.specs.History.{UserProfile, AnsweredQuery, History, EmptyLogIsKnown, LogsGrow, SecretsGrow, told_by, is_added, user_at, log, view_size}
-use Rattle.cqe_base.specs.History.{known, with_secrets, secrets_by}
+use Rattle.cqe_base.specs.History.{known, with_secrets, secrets_by, added_secrets}
 use Rattle.cqe_base.specs.Censor.{AreFindings, FindingsDecide, RulesAddNone, IsLegalItem, EmptyHistoryIsLegal, LegalHistoriesGrow, mark_by, rule}
 use Rattle.cqe_base.specs.Censor.{mark_after, safe_after}
 use Rattle.cqe_base.specs.Limits.{KeepsLimits, KeepsSizes, KeepsSizesAt}
@@ -27,12 +28,13 @@ use Rattle.user_log.specs.Nodes.{told_nodes}
 use Rattle.user_log.proofs.Sizes.{view_size-push}
 
 -- the table gives the rule's mark from findings of what is kept
-pub decided : (schema view_schema : DatabaseSchema) (world : FactSet) (user : UserProfile) (log_is view_log : List Signed) (query : Formula) (spent : Bool)
-    (implied : Option Bool) (yes_harm no_harm : Bool) → view_schema ≡ schema → view_log ≡ log_is → FindingsDecide
-    → AreFindings view_schema user view_log query spent implied yes_harm no_harm
+pub decided : (schema view_schema : DatabaseSchema) (world : FactSet) (user view_user : UserProfile) (log_is view_log : List Signed) (query : Formula)
+    (spent : Bool) (implied : Option Bool) (yes_harm no_harm : Bool) → view_schema ≡ schema → view_user ≡ user → view_log ≡ log_is → FindingsDecide
+    → AreFindings view_schema view_user view_log query spent implied yes_harm no_harm
     → mark_by user.method spent implied yes_harm no_harm (true_in schema world query) ≡ rule schema world user log_is query
-decided schema view_schema world user log_is view_log query spent implied yes_harm no_harm same_schema same_log decide found =
-    let at_schema = subst (λ s. AreFindings s user view_log query spent implied yes_harm no_harm) same_schema found in
+decided schema view_schema world user view_user log_is view_log query spent implied yes_harm no_harm same_schema same_user same_log decide found =
+    let of_user = subst (λ u. AreFindings view_schema u view_log query spent implied yes_harm no_harm) same_user found in
+    let at_schema = subst (λ s. AreFindings s user view_log query spent implied yes_harm no_harm) same_schema of_user in
     let at_log = subst (λ l. AreFindings schema user l query spent implied yes_harm no_harm) same_log at_schema in
     decide schema world user log_is query spent implied yes_harm no_harm at_log
 
@@ -195,22 +197,31 @@ asked_adds Undecided sentence asked = refl
 asked_adds Protected sentence asked = absurd cc
 
 -- behind one that was asked he is as he was
-pub amended_asked : (schema : DatabaseSchema) (user : UserProfile) (entries entries' : History) (item : AnsweredQuery) (now : UserProfile)
+pub amended_asked : (schema : DatabaseSchema) (user : UserProfile) (entries entries' : History) (item : AnsweredQuery) (current : UserProfile)
     (guards : GuardedSentences) → SecretsGrow → entries' ≡ entries ++ item ∷ [] → is_added item.mark ≡ false
-    → IsAmended schema user entries now guards → IsAmended schema user entries' now guards
-amended_asked schema user entries entries' item now guards secrets pushed asked was = record {
-  now_is = was.now_is
+    → IsAmended schema user entries current guards → IsAmended schema user entries' current guards
+amended_asked schema user entries entries' item current guards secrets pushed asked was = record {
+  current_is = was.current_is
       ∙ ap (with_secrets user) (sym (secrets user entries item ∙ ap (λ more. (user_at user entries).secrets ++ more) (asked_adds item.mark item.query asked)
       ∙ append-nil (user_at user entries).secrets))
       ∙ ap (user_at user) (sym pushed);
-  schema_is = was.schema_is;
-  guarded_are = was.guarded_are;
+  guarding = was.guarding;
 }
 
 -- behind one that was added he has its sentence behind his secrets
-pub amended_added : (user : UserProfile) (entries : History) (item : AnsweredQuery) (now made : UserProfile) → SecretsGrow → item.mark ≡ Protected
-    → now ≡ user_at user entries → made ≡ with_secrets now (now.secrets ++ item.query ∷ []) → made ≡ user_at user (entries ++ item ∷ [])
-amended_added user entries item now made secrets added now_is made_is =
+pub amended_added : (user : UserProfile) (entries : History) (item : AnsweredQuery) (current made : UserProfile) → SecretsGrow → item.mark ≡ Protected
+    → current ≡ user_at user entries → made ≡ with_secrets current (current.secrets ++ item.query ∷ []) → made ≡ user_at user (entries ++ item ∷ [])
+amended_added user entries item current made secrets added current_is made_is =
     made_is
-    ∙ (λ k. with_secrets (now_is k) ((now_is k).secrets ++ item.query ∷ []))
+    ∙ (λ k. with_secrets (current_is k) ((current_is k).secrets ++ item.query ∷ []))
     ∙ ap (with_secrets user) (sym (secrets user entries item ∙ ap (λ m. (user_at user entries).secrets ++ secrets_by m item.query) added))
+
+-- with no more secrets than before he is as he was
+pub amended_none : (user : UserProfile) (entries : History) → length (user_at user entries).secrets ≤ length user.secrets → user_at user entries ≡ user
+amended_none user entries few = by (added_secrets entries) refl
+  where
+    by : (more : List Formula) → added_secrets entries ≡ more → user_at user entries ≡ user
+    by [] is = ap (λ more. with_secrets user (user.secrets ++ more)) is ∙ ap (with_secrets user) (append-nil user.secrets)
+    by (s ∷ more) is =
+        let longer = ap (λ added. length (user.secrets ++ added)) is ∙ length-append user.secrets (s ∷ more) in
+        absurd (omega (arith, few, longer))

@@ -16,18 +16,11 @@ module _ (log : UserLog) where
   pub kept_with : (view : LogView) → view ≡ log.views → KeptWith view
   kept_with view same = subst KeptWith (sym same) log.kept
 
-<<<<<<< e03a0a72e89ef5fb69bf5d03133d0b83cc2ad840
-  pub same_log : (view : LogView) → view ≡ log.views → (kept : KeptWith view) (guarding : AreGuardsOf log.schema.now (profile_of log.user.now) log.guards)
-      → record log { views = view; kept = kept; guarding = guarding } ≡ log
-  same_log view same kept guarding = λ i. record log {
-    views = same i;
-=======
-  pub same_log : (view : LogView) → view ≡ log.view → (kept : KeptWith view)
-      (amended : IsAmended log.schema.now (profile_of log.user.now) (map answered_query_of log.entries.items) (profile_of log.now) log.guards)
-      → record log { view = view; kept = kept; amended = amended } ≡ log
+  pub same_log : (view : LogView) → view ≡ log.views → (kept : KeptWith view)
+      (amended : IsAmended log.schema.now (profile_of log.user.now) (map answered_query_of log.entries.items) (profile_of log.current) log.guards)
+      → record log { views = view; kept = kept; amended = amended } ≡ log
   same_log view same kept amended = λ i. record log {
-    view = same i;
->>>>>>> 72f02d3bb47d01954616bcb4f4e9576c7b038719
+    views = same i;
     kept = is_prop→PathP (λ j. KeptWith (same j)) (λ j. IsConsistentLog-prop _ _ _ _ _ _ _ _) kept log.kept i;
     amended = IsAmended-prop _ _ _ _ _ amended log.amended i;
   }

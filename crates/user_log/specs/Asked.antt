@@ -32,13 +32,6 @@ abbrev pub IsSomeAnswer : DatabaseSchema → FactSet → UserProfile → History
 IsSomeAnswer schema world user entries text query mark =
     (purpose : Purpose) × IsAnswer schema world user entries purpose text query mark
 
--- what was weighed is this sentence with the mark that the reply is, or a code that is the reply
--- and adds no item
-abbrev pub WeighsAs : Formula → Run.Reply → Weighed → Type 0
-WeighsAs sentence told (Code code) = (reply_of code ≡ told)
-    × ((text : Text) → entry_added text (Ok sentence) (reply_of code) ≡ None)
-WeighsAs sentence told (Answer query mark) = (formula_of query ≡ sentence) × (told ≡ marked mark)
-
 -- a text was weighed: a code answers the call, or the text is a sentence and a mark does
 abbrev pub IsWeighed : DatabaseSchema → FactSet → UserProfile → History → Purpose → Text → Weighed
     → Type 0

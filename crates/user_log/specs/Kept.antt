@@ -30,26 +30,30 @@ pub IsConsistentLog-prop : (schema : DatabaseSchema) (world : FactSet) (user : U
 IsConsistentLog-prop schema world user entries log_schema log_kept text_bytes view_nodes =
     hlevel (props, formula_set)
 
--- this is the user as he is at the end of the items, and the guards are over the schema what is
--- guarded from him then
-pub record IsAmended (schema : DatabaseSchema) (user : UserProfile) (entries : History)
-    (now : UserProfile) (guards : GuardedSentences) : Type 0 where
-  pub now_is : now ≡ user_at user entries
+-- the guards are over the schema, and what is guarded from the user
+pub record AreGuardsOf (schema : DatabaseSchema) (user : UserProfile) (guards : GuardedSentences) :
+    Type 0 where
   pub schema_is : guards.schema ≡ schema
-  pub guarded_are : guards.sentences ≡ guarded now
+  pub guarded_are : guards.sentences ≡ guarded user
 
 -- a fact that holds in one way
-<<<<<<< e03a0a72e89ef5fb69bf5d03133d0b83cc2ad840
 pub AreGuardsOf-prop : (schema : DatabaseSchema) (user : UserProfile) (guards : GuardedSentences)
     → IsProp (AreGuardsOf schema user guards)
 AreGuardsOf-prop schema user guards = hlevel (props, formula_set)
 
+-- this is the user as he is at the end of the items, and the guards are his as he is then
+pub record IsAmended (schema : DatabaseSchema) (user : UserProfile) (entries : History)
+    (current : UserProfile) (guards : GuardedSentences) : Type 0 where
+  pub current_is : current ≡ user_at user entries
+  pub guarding : AreGuardsOf schema current guards
+
+-- a fact that holds in one way
+pub IsAmended-prop : (schema : DatabaseSchema) (user : UserProfile) (entries : History)
+    (current : UserProfile) (guards : GuardedSentences)
+    → IsProp (IsAmended schema user entries current guards)
+IsAmended-prop schema user entries current guards = hlevel (props, formula_set)
+
+-- a fact that holds in one way
 pub KeepsLimits-prop : (schema : DatabaseSchema) (user : UserProfile)
     → IsProp (KeepsLimits schema user)
 KeepsLimits-prop schema user = hlevel (props, formula_set)
-=======
-pub IsAmended-prop : (schema : DatabaseSchema) (user : UserProfile) (entries : History)
-    (now : UserProfile) (guards : GuardedSentences)
-    → IsProp (IsAmended schema user entries now guards)
-IsAmended-prop schema user entries now guards = hlevel (props, formula_set)
->>>>>>> 72f02d3bb47d01954616bcb4f4e9576c7b038719

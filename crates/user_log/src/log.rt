@@ -1,27 +1,17 @@
 //! A user's entries, with the view of their log and their sizes.
 
-<<<<<<< e03a0a72e89ef5fb69bf5d03133d0b83cc2ad840
 ghost use Rattle.std.specs.Prelude.{◌≡◌, ◌≤◌, ◌<◌, ◌+◌, ◌++◌, ◌∷◌, [], ◌&&◌, true, false, Bool};
 ghost use Rattle.std.specs.Prelude.{length, map, sum_by, Ok, IfOk, OnOk, OnErr, IfSome, IfNone};
 ghost use Rattle.cqe_base.specs.Formula.{formula_of, nodes, is_sentence_of};
 ghost use Rattle.cqe_base.specs.History.{profile_of, answered_query_of, log, view_size, told_by};
-ghost use Rattle.cqe_base.specs.History.{signed_nodes};
+ghost use Rattle.cqe_base.specs.History.{signed_nodes, user_at};
 ghost use Rattle.cqe_base.specs.Truth.{true_in};
-ghost use Rattle.cqe_base.specs.Censor.{rule, IsLegal, guarded, mark_by};
+ghost use Rattle.cqe_base.specs.Censor.{mark_after, safe_with, safe_after, IsLegal, guarded};
+ghost use Rattle.cqe_base.specs.Censor.{mark_by};
 ghost use Rattle.cqe_base.specs.Reading.{reading};
-ghost use Rattle.cqe_base.specs.Run.{is_full, is_too_large};
-ghost use Rattle.cqe_base.specs.Limits.{KeepsLimits, KeepsSizes};
-=======
-ghost use Rattle.std.specs.Prelude.{◌≡◌, ◌≤◌, ◌<◌, ◌+◌, ◌++◌, ◌∷◌, [], ◌&&◌, true, false, Bool, ℕ};
-ghost use Rattle.std.specs.Prelude.{length, map, sum_by, IfOk, OnOk, OnErr};
-ghost use Rattle.cqe_base.specs.Formula.{formula_of, nodes, is_sentence_of};
-ghost use Rattle.cqe_base.specs.History.{profile_of, answered_query_of, log, view_size, told_by};
-ghost use Rattle.cqe_base.specs.History.{signed_nodes};
-ghost use Rattle.cqe_base.specs.Censor.{mark_after, safe_after, IsLegal};
-ghost use Rattle.cqe_base.specs.Run.{is_full, is_too_large, is_too_large_secret};
-ghost use Rattle.cqe_base.specs.Run.{answer_to, protection_of};
-ghost use Rattle.cqe_base.specs.Limits.{KeepsLimits, KeepsSizes, KeepsSizesAt};
->>>>>>> 72f02d3bb47d01954616bcb4f4e9576c7b038719
+ghost use Rattle.cqe_base.specs.Run.{is_full, is_too_large, is_too_large_secret, has_all_secrets};
+ghost use Rattle.cqe_base.specs.Limits.{KeepsLimits, KeepsSizes, KeepsSizesAt, FitsProbes};
+ghost use Rattle.cqe_base.specs.Limits.{FitsAddition};
 ghost use Rattle.entailment.specs.Views.{schema_of, log_of, room_of};
 ghost use Rattle.entailment.specs.Logs.{log_nodes};
 ghost use Rattle.censors.specs.Found.{HasFindings};
@@ -30,24 +20,18 @@ ghost use Rattle.user_log.specs.Kept.{IsConsistentLog, IsConsistentLog-prop, IsA
 ghost use Rattle.user_log.specs.Kept.{IsAmended-prop};
 ghost use Rattle.entailment.specs.GroundSentences.{sentence_of, IsGroundOver};
 
-<<<<<<< e03a0a72e89ef5fb69bf5d03133d0b83cc2ad840
-use crate::{Examined, Examiner, Prepared, Reply, Weighed};
-use censors::{Findings, Guards, decide, examine, law_undecided_is_cost};
-use cqe_base::laws::{law_findings_decide, law_legal_grows, law_limits, law_logs, law_reading};
-=======
 use crate::prepared::Amended;
-use crate::{Prepared, Reply, Weighed};
-use censors::{Guards, decide, examine, law_undecided_is_cost, safe_with};
+use crate::{Examined, Examiner, Lent, Prepared, Reply, Weighed};
+use censors::{Findings, Guards, decide, examine, law_undecided_is_cost, safe_with};
 use cqe_base::laws::{
     law_added_secrets, law_amended_limits, law_findings_decide, law_legal_grows, law_limits,
     law_logs, law_reading, law_rules_add_none,
 };
->>>>>>> 72f02d3bb47d01954616bcb4f4e9576c7b038719
 use cqe_base::schema::Schema;
 use cqe_base::sentence::{Sentence, nodes};
 use cqe_base::user::{Entry, Mark, Purpose, User};
 use cqe_base::world::World;
-use entailment::{GroundSentence, View, Views};
+use entailment::{GroundSentence, Views};
 use sentence_text::{ReadError, read_sentence};
 use std::alloc::{AllocError, Global};
 use truth_eval::holds;
@@ -77,7 +61,7 @@ pub struct UserLog<'w> {
     world: &'w World,
     user: &'w User,
     /// The user with the secrets that were added to him.
-    now: User,
+    current: User,
     guards: Guards<'w>,
     views: Views<'w>,
     entries: Vec<Entry>,
@@ -87,21 +71,17 @@ pub struct UserLog<'w> {
         (map answered_query_of entries.items) (schema_of views) (log_of views)
         text_bytes view_nodes } by { IsConsistentLog-prop _ _ _ _ _ _ _ _ },
     ghost amended: { IsAmended schema.now (profile_of user.now)
-        (map answered_query_of entries.items) (profile_of now)
+        (map answered_query_of entries.items) (profile_of current)
         guards } by { IsAmended-prop _ _ _ _ _ },
 }
 
 impl<'w> UserLog<'w> {
     ghost use Rattle.user_log.specs.UserLogs.{kept_schema, kept_world, kept_user, kept_history};
     ghost use Rattle.user_log.specs.UserLogs.{IsOfSame};
-<<<<<<< e03a0a72e89ef5fb69bf5d03133d0b83cc2ad840
-    ghost use Rattle.user_log.specs.Asked.{IsAnswer, IsWeighed, IsAsked};
+    ghost use Rattle.user_log.specs.Asked.{IsSomeAnswer, IsWeighed, IsAsked};
     ghost use Rattle.user_log.specs.Examining.{IsExamined, IsLent};
     ghost use Rattle.user_log.specs.Examiners.{examiner_schema, examiner_user};
-=======
-    ghost use Rattle.user_log.specs.Asked.{IsSomeAnswer, WeighsAs, IsWeighed, IsAsked};
-    ghost use Rattle.cqe_base.specs.declared.user.Purpose.TheVariants.{Asking};
->>>>>>> 72f02d3bb47d01954616bcb4f4e9576c7b038719
+    ghost use Rattle.cqe_base.specs.declared.user.Purpose.TheVariants.{Asking, Protecting};
     ghost use Rattle.user_log.specs.Undecided.{IsMarkByCost, IsUndecidedByCost, IsReplyByCost};
     ghost use Rattle.user_log.specs.Replies.{reply_of};
     ghost use Rattle.user_log.specs.Prepared.{IsPrepared, IsBehind, prepared_entry};
@@ -126,27 +106,17 @@ impl<'w> UserLog<'w> {
         schema.known();
         let entries = Vec::new(alloc);
         let view_nodes = user.view_nodes(schema);
-<<<<<<< e03a0a72e89ef5fb69bf5d03133d0b83cc2ad840
-        let guards = Guards::new(alloc, schema, user)?;
+        let current = user.after(alloc, entries.as_slice())?;
+        let guards = Guards::new(alloc, schema, &current)?;
         let views = Views::new(alloc, schema, user)?;
-=======
-        let now = user.after(alloc, entries.as_slice())?;
-        let guards = Guards::new(alloc, schema, &now)?;
-        let view = View::new(alloc, schema, user)?;
->>>>>>> 72f02d3bb47d01954616bcb4f4e9576c7b038719
         Ok(UserLog {
             schema,
             world,
             user,
-            now,
+            current,
             guards,
-<<<<<<< e03a0a72e89ef5fb69bf5d03133d0b83cc2ad840
             views,
-            entries: Vec::new(alloc),
-=======
-            view,
             entries,
->>>>>>> 72f02d3bb47d01954616bcb4f4e9576c7b038719
             text_bytes: 0,
             view_nodes,
         })
@@ -159,8 +129,7 @@ impl<'w> UserLog<'w> {
         self.user
     }
 
-<<<<<<< e03a0a72e89ef5fb69bf5d03133d0b83cc2ad840
-    /// What examines the user's texts outside of the log.
+    /// What examines the user's texts outside of the log, as long as no secret is added.
     pub fn examiner(&self, alloc: Global) -> Result<Examiner<'w>, AllocError>
         ensures schema { IfOk result (λ examiner.
             examiner_schema examiner ≡ kept_schema self.now) }
@@ -169,10 +138,7 @@ impl<'w> UserLog<'w> {
         Examiner::new(alloc, self.schema, self.user)
     }
 
-    /// The entries, oldest first.
-=======
     /// The items, oldest first.
->>>>>>> 72f02d3bb47d01954616bcb4f4e9576c7b038719
     pub fn entries(&self) -> &[Entry]
         ensures { map answered_query_of result.now ≡ kept_history self.now }
     {
@@ -189,10 +155,34 @@ impl<'w> UserLog<'w> {
             (kept_history self.now) }
     {}
 
-<<<<<<< e03a0a72e89ef5fb69bf5d03133d0b83cc2ad840
-    /// The reply to a text by the entries so far, with what was found of it before, if that was
+    /// The reply to a call by the items so far, with what was found of a query before, if that was
     /// done. It changes nothing that a caller sees.
     pub fn weigh(
+        &mut self,
+        alloc: Global,
+        purpose: Purpose,
+        text: &str,
+        examined: Option<Examined<'w>>,
+    ) -> Result<Weighed, AllocError>
+        requires few { length text.now ≤ 4096 }
+        requires examined { IfSome examined (IsExamined (kept_schema self.old) (kept_user self.old)
+            (kept_history self.old) text.now) }
+        ensures same { self.new ≡ self.old }
+        ensures weighed { IfOk result
+            (IsWeighed (kept_schema self.old) (kept_world self.old) (kept_user self.old)
+            (kept_history self.old) purpose text.now) }
+        ensures undecided { IfOk result
+            (IsUndecidedByCost (kept_schema self.old) (kept_user self.old)
+            (kept_history self.old) purpose) }
+    {
+        match purpose {
+            Purpose::Asking => self.weigh_query(alloc, text, examined),
+            Purpose::Protecting => self.weigh_secret(alloc, text),
+        }
+    }
+
+    /// The reply to a text that is asked.
+    fn weigh_query(
         &mut self,
         alloc: Global,
         text: &str,
@@ -204,10 +194,10 @@ impl<'w> UserLog<'w> {
         ensures same { self.new ≡ self.old }
         ensures weighed { IfOk result
             (IsWeighed (kept_schema self.old) (kept_world self.old) (kept_user self.old)
-            (kept_history self.old) text.now) }
+            (kept_history self.old) Asking text.now) }
         ensures undecided { IfOk result
             (IsUndecidedByCost (kept_schema self.old) (kept_user self.old)
-            (kept_history self.old)) }
+            (kept_history self.old) Asking) }
     {
         match examined {
             Some(examined) => self.weigh_examined(alloc, text, examined),
@@ -217,66 +207,29 @@ impl<'w> UserLog<'w> {
 
     /// The same of a text of which nothing was found before.
     fn weigh_text(&mut self, alloc: Global, text: &str) -> Result<Weighed, AllocError>
-=======
-    /// The reply to a call by the items so far. It changes nothing that a caller sees.
-    pub fn weigh(
-        &mut self,
-        alloc: Global,
-        purpose: Purpose,
-        text: &str,
-    ) -> Result<Weighed, AllocError>
->>>>>>> 72f02d3bb47d01954616bcb4f4e9576c7b038719
         requires { length text.now ≤ 4096 }
         ensures same { self.new ≡ self.old }
         ensures weighed { IfOk result
             (IsWeighed (kept_schema self.old) (kept_world self.old) (kept_user self.old)
-            (kept_history self.old) purpose text.now) }
-        ensures undecided { IfOk result
-            (IsUndecidedByCost (kept_schema self.old) (kept_user self.old)
-            (kept_history self.old) purpose) }
-    {
-        let sentence = match read_sentence(alloc, self.schema, text) {
-            Ok(sentence) => sentence,
-            Err(ReadError::Text(error)) => return Ok(Weighed::Code(Reply::Syntax(error))),
-            Err(ReadError::Memory) => return Err(AllocError),
-        };
-<<<<<<< e03a0a72e89ef5fb69bf5d03133d0b83cc2ad840
-        if let Some(code) = self.refusal(text, &query) {
-            return Ok(Weighed::Code(code));
-=======
-        if self.is_full(text.len()) {
-            return Ok(Weighed::Code(Reply::Full));
-        }
-        match purpose {
-            Purpose::Asking => self.weigh_query(alloc, sentence),
-            Purpose::Protecting => self.weigh_secret(alloc, sentence),
-        }
-    }
-
-    /// The reply to a query for which the history isn't full.
-    fn weigh_query(&mut self, alloc: Global, query: Sentence) -> Result<Weighed, AllocError>
-        requires sentence { is_sentence_of (kept_schema self.old) (formula_of query) ≡ true }
-        ensures same { self.new ≡ self.old }
-        ensures weighed { IfOk result (λ weighed. (len : ℕ)
-            → is_full (kept_history self.old) len ≡ false
-            → WeighsAs (formula_of query) (answer_to (kept_schema self.old) (kept_world self.old)
-            (kept_user self.old) (kept_history self.old) len (formula_of query)) weighed) }
+            (kept_history self.old) Asking text.now) }
         ensures undecided { IfOk result
             (IsUndecidedByCost (kept_schema self.old) (kept_user self.old)
             (kept_history self.old) Asking) }
     {
-        law_limits();
-        if self.is_too_large(&query) {
-            return Ok(Weighed::Code(Reply::Size));
->>>>>>> 72f02d3bb47d01954616bcb4f4e9576c7b038719
+        let query = match read_sentence(alloc, self.schema, text) {
+            Ok(query) => query,
+            Err(ReadError::Text(error)) => return Ok(Weighed::Code(Reply::Syntax(error))),
+            Err(ReadError::Memory) => return Err(AllocError),
+        };
+        if let Some(code) = self.refusal(text, &query) {
+            return Ok(Weighed::Code(code));
         }
         let query = GroundSentence::new(alloc, self.schema, query)?;
         let mark = self.mark(alloc, &query)?;
         Ok(Weighed::Answer(query.sentence, mark))
     }
 
-<<<<<<< e03a0a72e89ef5fb69bf5d03133d0b83cc2ad840
-    /// The same of a text that was examined after a beginning of the log.
+    /// The same of a text that was examined after the log of a first part of the items.
     fn weigh_examined(
         &mut self,
         alloc: Global,
@@ -289,18 +242,19 @@ impl<'w> UserLog<'w> {
         ensures same { self.new ≡ self.old }
         ensures weighed { IfOk result
             (IsWeighed (kept_schema self.old) (kept_world self.old) (kept_user self.old)
-            (kept_history self.old) text.now) }
+            (kept_history self.old) Asking text.now) }
         ensures undecided { IfOk result
             (IsUndecidedByCost (kept_schema self.old) (kept_user self.old)
-            (kept_history self.old)) }
+            (kept_history self.old) Asking) }
     {
         law_reading();
         let Examined {
             query,
             view,
+            items,
             findings,
         } = examined;
-        let is_whole = view.len() == self.views.len();
+        let is_whole = items == self.entries.len();
         self.views.put(view);
         if let Some(code) = self.refusal(text, &query.sentence) {
             return Ok(Weighed::Code(code));
@@ -309,9 +263,32 @@ impl<'w> UserLog<'w> {
         Ok(Weighed::Answer(query.sentence, mark))
     }
 
+    /// The reply to a text that is to be added to the secrets.
+    fn weigh_secret(&mut self, alloc: Global, text: &str) -> Result<Weighed, AllocError>
+        requires { length text.now ≤ 4096 }
+        ensures same { self.new ≡ self.old }
+        ensures weighed { IfOk result
+            (IsWeighed (kept_schema self.old) (kept_world self.old) (kept_user self.old)
+            (kept_history self.old) Protecting text.now) }
+    {
+        let secret = match read_sentence(alloc, self.schema, text) {
+            Ok(secret) => secret,
+            Err(ReadError::Text(error)) => return Ok(Weighed::Code(Reply::Syntax(error))),
+            Err(ReadError::Memory) => return Err(AllocError),
+        };
+        if let Some(code) = self.secret_refusal(text, &secret) {
+            return Ok(Weighed::Code(code));
+        }
+        let safe = self.is_safe(alloc, &secret)?;
+        if safe {
+            return Ok(Weighed::Answer(secret, Mark::Protected));
+        }
+        Ok(Weighed::Code(Reply::Unsafe))
+    }
+
     /// A view of the log, after which the query can be examined outside of it. There is none where
-    /// a code answers the query, or memory is wanting.
-    pub fn lend(&mut self, alloc: Global, text: &str, query: &GroundSentence) -> Option<View<'w>>
+    /// a code answers the query, where a secret was added, or where memory is wanting.
+    pub fn lend(&mut self, alloc: Global, text: &str, query: &GroundSentence) -> Option<Lent<'w>>
         requires { length text.now ≤ 4096 }
         ensures same { self.new ≡ self.old }
         ensures lent { IfSome result
@@ -322,10 +299,22 @@ impl<'w> UserLog<'w> {
         if let Some(_code) = self.refusal(text, &query.sentence) {
             return None;
         }
+        if self.has_more_secrets() {
+            return None;
+        }
+        let items = self.entries.len();
         match self.views.lend(alloc) {
-            Ok(view) => Some(view),
+            Ok(view) => Some(Lent { view, items }),
             Err(_) => None,
         }
+    }
+
+    /// Whether the items add a secret.
+    fn has_more_secrets(&self) -> bool
+        ensures { result ≡ false
+            → user_at (kept_user self.now) (kept_history self.now) ≡ kept_user self.now }
+    {
+        self.current.secrets.len() > self.user.secrets.len()
     }
 
     /// The code that answers the query of a text for want of room, if one does.
@@ -334,7 +323,7 @@ impl<'w> UserLog<'w> {
         ensures code { IfSome result (λ code.
             reading (kept_schema self.now) text.now ≡ Ok (formula_of query.now)
             → IsWeighed (kept_schema self.now) (kept_world self.now) (kept_user self.now)
-            (kept_history self.now) text.now (Weighed.Code code)) }
+            (kept_history self.now) Asking text.now (Weighed.Code code)) }
         ensures room { IfNone result (is_full (kept_history self.now) (length text.now) ≡ false) }
         ensures small { IfNone result (is_too_large (kept_schema self.now) (kept_user self.now)
             (kept_history self.now) (formula_of query.now) ≡ false) }
@@ -348,33 +337,40 @@ impl<'w> UserLog<'w> {
         None
     }
 
-    /// Whether the entries, or the texts with one of this length, are too many.
-=======
-    /// The reply to a sentence that is to be added to the secrets, for which the history isn't
-    /// full.
-    fn weigh_secret(&mut self, alloc: Global, secret: Sentence) -> Result<Weighed, AllocError>
-        requires sentence { is_sentence_of (kept_schema self.old) (formula_of secret) ≡ true }
-        ensures same { self.new ≡ self.old }
-        ensures weighed { IfOk result (λ weighed. (len : ℕ)
-            → is_full (kept_history self.old) len ≡ false
-            → WeighsAs (formula_of secret) (protection_of (kept_schema self.old)
-            (kept_user self.old) (kept_history self.old) len (formula_of secret)) weighed) }
+    /// The code that answers the sentence of a text that is to be added, for want of room, if one
+    /// does.
+    fn secret_refusal(&self, text: &str, secret: &Sentence) -> Option<Reply>
+        requires { length text.now ≤ 4096 }
+        ensures code { IfSome result (λ code.
+            reading (kept_schema self.now) text.now ≡ Ok (formula_of secret.now)
+            → IsWeighed (kept_schema self.now) (kept_world self.now) (kept_user self.now)
+            (kept_history self.now) Protecting text.now (Weighed.Code code)) }
+        ensures room { IfNone result (is_full (kept_history self.now) (length text.now) ≡ false) }
+        ensures small { IfNone result (is_too_large_secret (kept_schema self.now)
+            (kept_user self.now) (kept_history self.now) (formula_of secret.now) ≡ false) }
+        ensures few { IfNone result
+            (has_all_secrets (kept_user self.now) (kept_history self.now) ≡ false) }
     {
-        if self.is_too_large_secret(&secret) {
-            return Ok(Weighed::Code(Reply::Size));
+        if self.is_full(text.len()) {
+            return Some(Reply::Full);
         }
-        if self.now.secrets.len() >= SECRETS {
-            return Ok(Weighed::Code(Reply::Secrets));
+        if self.is_too_large_secret(secret) {
+            return Some(Reply::Size);
         }
-        if self.is_safe(alloc, &secret)? {
-            Ok(Weighed::Answer(secret, Mark::Protected))
-        } else {
-            Ok(Weighed::Code(Reply::Unsafe))
+        if self.has_all_secrets() {
+            return Some(Reply::Secrets);
         }
+        None
+    }
+
+    /// Whether the user has as many secrets as one can have.
+    fn has_all_secrets(&self) -> bool
+        ensures { result ≡ has_all_secrets (kept_user self.now) (kept_history self.now) }
+    {
+        self.current.secrets.len() >= SECRETS
     }
 
     /// Whether the items, or the texts with one of this length, are too many.
->>>>>>> 72f02d3bb47d01954616bcb4f4e9576c7b038719
     fn is_full(&self, length: usize) -> bool
         requires { length ≤ 4096 }
         ensures { result ≡ is_full (kept_history self.now) length }
@@ -392,9 +388,8 @@ impl<'w> UserLog<'w> {
         count > QUERY_NODES || self.view_nodes.saturating_add(count) > VIEW_NODES
     }
 
-<<<<<<< e03a0a72e89ef5fb69bf5d03133d0b83cc2ad840
-    /// The mark of a query by the rule, from findings after a view of the log, or where that isn't
-    /// the whole log from new ones.
+    /// The mark of a query by the rule, from findings after a first part of the items, or where that
+    /// isn't all of them from new ones.
     fn mark_with(
         &mut self,
         alloc: Global,
@@ -406,13 +401,14 @@ impl<'w> UserLog<'w> {
         requires grounded { IsGroundOver (kept_schema self.old) query.now }
         requires small { is_too_large (kept_schema self.old) (kept_user self.old)
             (kept_history self.old) (sentence_of query.now) ≡ false }
-        requires found { is_whole ≡ true → HasFindings (kept_schema self.old) (kept_user self.old)
+        requires found { is_whole ≡ true → HasFindings (kept_schema self.old)
+            (user_at (kept_user self.old) (kept_history self.old))
             (log (kept_user self.old) (kept_history self.old)) (sentence_of query.now)
             findings.now }
         ensures same { self.new ≡ self.old }
         ensures rule { IfOk result (λ mark. mark
-            ≡ rule (kept_schema self.old) (kept_world self.old) (kept_user self.old)
-            (log (kept_user self.old) (kept_history self.old)) (sentence_of query.now)) }
+            ≡ mark_after (kept_schema self.old) (kept_world self.old) (kept_user self.old)
+            (kept_history self.old) (sentence_of query.now)) }
         ensures undecided { IfOk result (λ mark.
             IsMarkByCost (kept_schema self.old) (kept_user self.old) (kept_history self.old)
             (sentence_of query.now) mark) }
@@ -423,7 +419,8 @@ impl<'w> UserLog<'w> {
             return Ok(decided(self.schema, self.world, self.user, query, findings));
         }
         self.mark(alloc, query)
-=======
+    }
+
     /// Whether the sentence is too large for a secret: for a query, or with the secrets or the
     /// view.
     fn is_too_large_secret(&self, secret: &Sentence) -> bool
@@ -433,7 +430,7 @@ impl<'w> UserLog<'w> {
     {
         let count = 1 + nodes(secret, self.schema);
         self.is_too_large(secret)
-            || self.now.secret_nodes(self.schema) + count > SECRET_NODES
+            || self.current.secret_nodes(self.schema) + count > SECRET_NODES
             || self.view_nodes.saturating_add(count) > VIEW_NODES
     }
 
@@ -449,9 +446,8 @@ impl<'w> UserLog<'w> {
     {
         law_limits();
         law_amended_limits();
-        let safe = safe_with(alloc, self.schema, &mut self.view, &self.now, secret)?;
+        let safe = safe_after(alloc, self.schema, &mut self.views, &self.current, secret)?;
         Ok(safe)
->>>>>>> 72f02d3bb47d01954616bcb4f4e9576c7b038719
     }
 
     /// The mark of a query by the rule.
@@ -472,14 +468,8 @@ impl<'w> UserLog<'w> {
         law_amended_limits();
         law_findings_decide();
         law_undecided_is_cost();
-<<<<<<< e03a0a72e89ef5fb69bf5d03133d0b83cc2ad840
-        let findings = found_after(alloc, &mut self.views, &self.guards, self.user, query)?;
+        let findings = found_after(alloc, &mut self.views, &self.guards, &self.current, query)?;
         Ok(decided(self.schema, self.world, self.user, query, &findings))
-=======
-        let findings = examine(alloc, &mut self.view, &self.guards, &self.now, query)?;
-        let truth = holds(self.schema, self.world, &query.sentence);
-        Ok(decide(self.user.method, &findings, truth))
->>>>>>> 72f02d3bb47d01954616bcb4f4e9576c7b038719
     }
 
     /// Takes all that adding the item of a text that was weighed takes, with the mark that answers
@@ -544,7 +534,7 @@ impl<'w> UserLog<'w> {
         law_amended_limits();
         match entry.mark {
             Mark::Protected => {
-                let user = self.now.with_secret(alloc, &entry.query)?;
+                let user = self.current.with_secret(alloc, &entry.query)?;
                 let guards = Guards::new(alloc, self.schema, &user)?;
                 Ok(Some(Amended { user, guards }))
             }
@@ -569,15 +559,11 @@ impl<'w> UserLog<'w> {
             nodes,
             amended,
         } = prepared;
-<<<<<<< e03a0a72e89ef5fb69bf5d03133d0b83cc2ad840
         tell(&mut self.views, told, new_entry.mark);
-=======
-        tell(&mut self.view, told, new_entry.mark);
         if let Some(Amended { user, guards }) = amended {
-            self.now = user;
+            self.current = user;
             self.guards = guards;
         }
->>>>>>> 72f02d3bb47d01954616bcb4f4e9576c7b038719
         self.text_bytes += u64::from(new_entry.length);
         self.view_nodes += nodes;
         self.entries.push_reserved(new_entry);
@@ -617,11 +603,7 @@ impl<'w> UserLog<'w> {
         ensures undecided { IsReplyByCost (kept_schema self.old) (kept_user self.old)
             (kept_history self.old) text.now result }
     {
-<<<<<<< e03a0a72e89ef5fb69bf5d03133d0b83cc2ad840
-        match self.weigh(alloc, text, None) {
-=======
-        match self.weigh(alloc, Purpose::Asking, text) {
->>>>>>> 72f02d3bb47d01954616bcb4f4e9576c7b038719
+        match self.weigh(alloc, Purpose::Asking, text, None) {
             Ok(Weighed::Code(code)) => code,
             Ok(Weighed::Answer(query, mark)) => match self.add(alloc, text, query, mark) {
                 Ok(()) => Reply::Mark(mark),
@@ -632,7 +614,6 @@ impl<'w> UserLog<'w> {
     }
 }
 
-<<<<<<< e03a0a72e89ef5fb69bf5d03133d0b83cc2ad840
 /// What the probes of a query find after the whole log.
 fn found_after(
     alloc: Global,
@@ -641,7 +622,7 @@ fn found_after(
     user: &User,
     query: &GroundSentence,
 ) -> Result<Findings, AllocError>
-    requires limits { KeepsLimits (schema_of views.old) (profile_of user.now) }
+    requires fits { FitsProbes (schema_of views.old) (profile_of user.now) }
     requires guards_schema { guards.now.schema ≡ schema_of views.old }
     requires guarded { guards.now.sentences ≡ guarded (profile_of user.now) }
     requires sentence { is_sentence_of (schema_of views.old) (sentence_of query.now) ≡ true }
@@ -676,10 +657,28 @@ fn decided(
     decide(user.method, findings, truth)
 }
 
-/// What a mark adds to the nodes of the log.
-=======
+/// Whether one more secret is safe with a user after the whole log.
+fn safe_after(
+    alloc: Global,
+    schema: &Schema,
+    views: &mut Views<'_>,
+    user: &User,
+    secret: &Sentence,
+) -> Result<bool, AllocError>
+    requires schema { schema_of views.old ≡ schema.now }
+    requires addition { FitsAddition schema.now (profile_of user.now) (formula_of secret.now) }
+    requires log_nodes { log_nodes schema.now (log_of views.old) ≤ 60000 }
+    ensures safe { IfOk result (λ safe. safe ≡ safe_with schema.now (profile_of user.now)
+        (log_of views.old) (formula_of secret.now)) }
+    ensures same { views.new ≡ views.old }
+{
+    let mut view = views.lend(alloc)?;
+    let safe = safe_with(alloc, schema, &mut view, user, secret);
+    views.put(view);
+    safe
+}
+
 /// What an item with this mark adds to the nodes of the view.
->>>>>>> 72f02d3bb47d01954616bcb4f4e9576c7b038719
 fn told_nodes(schema: &Schema, query: &Sentence, mark: Mark) -> u64
     requires { nodes schema.now (formula_of query.now) ≤ 20000 }
     ensures { result ≡ told_nodes schema.now mark (formula_of query.now) }
@@ -703,14 +702,8 @@ fn tell(views: &mut Views<'_>, query: Sentence, mark: Mark)
     ensures told { log_of views.new ≡ log_of views.old ++ told_by mark (formula_of query) }
 {
     match mark {
-<<<<<<< e03a0a72e89ef5fb69bf5d03133d0b83cc2ad840
         Mark::Yes => views.push_reserved(query, true),
         Mark::No => views.push_reserved(query, false),
-        Mark::Refused | Mark::Undecided => {}
-=======
-        Mark::Yes => view.push_reserved(query, true),
-        Mark::No => view.push_reserved(query, false),
         Mark::Refused | Mark::Undecided | Mark::Protected => {}
->>>>>>> 72f02d3bb47d01954616bcb4f4e9576c7b038719
     }
 }

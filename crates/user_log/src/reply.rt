@@ -1,12 +1,8 @@
-<<<<<<< e03a0a72e89ef5fb69bf5d03133d0b83cc2ad840
-//! Replies to an ask.
+//! Replies to a call.
 ghost use Rattle.std.specs.Prelude.{◌≡◌};
 ghost use Rattle.cqe_base.specs.Transcript.{reply_text};
 ghost use Rattle.line_protocol.specs.Replies.{text_of};
 ghost use Rattle.user_log.specs.Replies.{reply_of};
-=======
-//! Replies to a call.
->>>>>>> 72f02d3bb47d01954616bcb4f4e9576c7b038719
 
 use cqe_base::sentence::Sentence;
 use cqe_base::text::TextError;
@@ -61,5 +57,7 @@ pub fn line_reply(reply: Reply) -> line_protocol::Reply
         Reply::Broken => line_protocol::Reply::Code(40),
         Reply::Sealed => line_protocol::Reply::Code(41),
         Reply::Memory => line_protocol::Reply::Code(50),
+        Reply::Secrets => line_protocol::Reply::Code(27),
+        Reply::Unsafe => line_protocol::Reply::Unsafe,
     }
 }

@@ -1,9 +1,5 @@
-<<<<<<< e03a0a72e89ef5fb69bf5d03133d0b83cc2ad840
 use Rattle.std.proofs.Common.{◌++◌, ◌∷◌, [], length, sym, ap, subst, ◌∙◌}
-=======
-use Rattle.std.proofs.Common.{◌++◌, ◌∷◌, [], length, refl, sym, ap, subst, ◌∙◌}
 use Rattle.cqe_base.specs.declared.user.Purpose.TheVariants.{Asking}
->>>>>>> 72f02d3bb47d01954616bcb4f4e9576c7b038719
 use Rattle.cqe_base.specs.Formula.{formula_of}
 use Rattle.cqe_base.specs.History.{AnsweredQuery}
 use Rattle.user_log.specs.Asked.{IsAsked, wanted}

@@ -3,12 +3,8 @@ use Rattle.std.proofs.lemmas.Grind.{common_steps}
 use Rattle.cqe_base.specs.Formula.{formula_of, nodes, is_sentence_of}
 use Rattle.cqe_base.specs.History.{profile_of, log, told_by, signed_nodes}
 use Rattle.entailment.specs.Logs.{log_nodes}
-<<<<<<< e03a0a72e89ef5fb69bf5d03133d0b83cc2ad840
 use Rattle.entailment.specs.Views.{log_of}
-=======
-use Rattle.entailment.specs.Views.{schema_of, log_of}
 use Rattle.user_log.specs.Kept.{IsAmended}
->>>>>>> 72f02d3bb47d01954616bcb4f4e9576c7b038719
 use Rattle.user_log.specs.Prepared.{prepared_entry}
 use Rattle.user_log.specs.UserLogs.{kept_schema, kept_user, kept_history}
 use Rattle.user_log.proofs.Keeping.{kept_push, amended_asked}
@@ -47,7 +43,7 @@ invariant_of-self-in-Some c =
       kept = kept_push _ _ _ _ _ entry _ _ _ _ _ _ _ _ before.kept c.law_legal_grows.ensures.grows c.law_logs.ensures.grows
           c.law_added_secrets.ensures.grows c.requires.sizes c.requires.legal
           (grind (arith, common_steps)) c.tell.ensures.schema
-          (c.tell.ensures.told ∙ ap (λ q. log_of before.view ++ told_by entry.mark q) c.requires.told) c.from.ensures c.requires.nodes;
+          (c.tell.ensures.told ∙ ap (λ q. log_of before.views ++ told_by entry.mark q) c.requires.told) c.from.ensures c.requires.nodes;
       amended = subst (λ entries. IsAmended (kept_schema before) (kept_user before) entries (profile_of c.in-Some.user) c.in-Some.guards) (sym pushed)
           (rw c.in-Some.is at c.requires.amended);
     }
@@ -61,12 +57,7 @@ invariant_of-self c =
       kept = kept_push _ _ _ _ _ entry _ _ _ _ _ _ _ _ before.kept c.law_legal_grows.ensures.grows c.law_logs.ensures.grows
           c.law_added_secrets.ensures.grows c.requires.sizes c.requires.legal
           (grind (arith, common_steps)) c.tell.ensures.schema
-<<<<<<< e03a0a72e89ef5fb69bf5d03133d0b83cc2ad840
           (c.tell.ensures.told ∙ ap (λ q. log_of before.views ++ told_by entry.mark q) c.requires.told) c.from.ensures c.requires.nodes;
-      guarding = before.guarding;
-=======
-          (c.tell.ensures.told ∙ ap (λ q. log_of before.view ++ told_by entry.mark q) c.requires.told) c.from.ensures c.requires.nodes;
-      amended = amended_asked (kept_schema before) (kept_user before) (kept_history before) _ entry (profile_of before.now) before.guards
+      amended = amended_asked (kept_schema before) (kept_user before) (kept_history before) _ entry (profile_of before.current) before.guards
           c.law_added_secrets.ensures.grows (grind (arith, common_steps)) (rw c.in-None.is at c.requires.amended) before.amended;
->>>>>>> 72f02d3bb47d01954616bcb4f4e9576c7b038719
     }

@@ -1,14 +1,7 @@
-<<<<<<< e03a0a72e89ef5fb69bf5d03133d0b83cc2ad840
 use Rattle.std.proofs.Common.{◌≤◌, ◌+◌, true, map, sym, subst, ◌∙◌}
 use Rattle.cqe_base.specs.Formula.{nodes}
-use Rattle.cqe_base.specs.History.{profile_of, answered_query_of}
-=======
-use Rattle.std.proofs.Common.{◌≡◌, ◌≤◌, ◌+◌, true, map, sym, ap, subst, ◌∙◌}
-use Rattle.cqe_base.specs.Formula.{nodes}
-use Rattle.cqe_base.specs.History.{profile_of, answered_query_of, log}
+use Rattle.cqe_base.specs.History.{profile_of, answered_query_of, user_at}
 use Rattle.cqe_base.specs.Limits.{FitsProbes}
-use Rattle.cqe_base.specs.Censor.{mark_by, rule}
->>>>>>> 72f02d3bb47d01954616bcb4f4e9576c7b038719
 use Rattle.entailment.specs.Logs.{log_nodes}
 use Rattle.entailment.specs.Views.{log_of}
 use Rattle.entailment.specs.GroundSentences.{sentence_of, IsGroundOver}
@@ -28,33 +21,27 @@ found_after-requires-clause-all_nodes c =
     subst (λ s. log_nodes s (log_of c.args.self.now.views) + nodes s query ≤ 60000) (sym kept.schema_is)
     (subst (λ told. log_nodes schema told + nodes schema query ≤ 60000) (sym kept.log_is) (fits.log_nodes true))
 
-<<<<<<< e03a0a72e89ef5fb69bf5d03133d0b83cc2ad840
-pub found_after-requires-clause-guards_schema : goal.found_after-requires-clause-guards_schema
-found_after-requires-clause-guards_schema c = c.args.self.now.guarding.schema_is ∙ sym c.args.self.now.kept.schema_is
-=======
-pub examine-requires-clause-fits : goal.examine-requires-clause-fits
-examine-requires-clause-fits c =
+pub found_after-requires-clause-fits : goal.found_after-requires-clause-fits
+found_after-requires-clause-fits c =
     let self = c.args.self.now in
-    subst (λ s. FitsProbes s (profile_of self.now)) (sym self.kept.schema_is)
-    (subst (FitsProbes (kept_schema self)) (sym self.amended.now_is)
+    subst (λ s. FitsProbes s (profile_of self.current)) (sym self.kept.schema_is)
+    (subst (FitsProbes (kept_schema self)) (sym self.amended.current_is)
     (c.law_amended_limits.ensures.probes (kept_schema self) (kept_user self) (kept_history self) self.kept.limits self.kept.sizes))
 
-pub examine-requires-clause-guards_schema : goal.examine-requires-clause-guards_schema
-examine-requires-clause-guards_schema c = c.args.self.now.amended.schema_is ∙ sym c.args.self.now.kept.schema_is
->>>>>>> 72f02d3bb47d01954616bcb4f4e9576c7b038719
+pub found_after-requires-clause-guards_schema : goal.found_after-requires-clause-guards_schema
+found_after-requires-clause-guards_schema c = c.args.self.now.amended.guarding.schema_is ∙ sym c.args.self.now.kept.schema_is
+
+pub found_after-requires-clause-guarded : goal.found_after-requires-clause-guarded
+found_after-requires-clause-guarded c = c.args.self.now.amended.guarding.guarded_are
 
 pub found_after-requires-clause-grounded : goal.found_after-requires-clause-grounded
 found_after-requires-clause-grounded c = subst (λ s. IsGroundOver s c.args.query.now) (sym c.args.self.now.kept.schema_is) c.requires.grounded
 
 pub invariant_of-self : goal.invariant_of-self
-<<<<<<< e03a0a72e89ef5fb69bf5d03133d0b83cc2ad840
 invariant_of-self c = record {
   kept = kept_with c.args.self.now c.found_after.new.views c.found_after.ensures.same;
-  guarding = c.args.self.now.guarding;
+  amended = c.args.self.now.amended;
 }
-=======
-invariant_of-self c = record { kept = kept_with c.args.self.now c.examine.new.view c.examine.ensures.same; amended = c.args.self.now.amended }
->>>>>>> 72f02d3bb47d01954616bcb4f4e9576c7b038719
 
 pub returns-in_err-findings-clause-same : goal.returns-in_err-findings-clause-same
 returns-in_err-findings-clause-same c = same_log c.args.self.now c.found_after.new.views c.found_after.ensures.same _ _
@@ -64,19 +51,10 @@ returns-clause-same c = same_log c.args.self.now c.found_after.new.views c.found
 
 pub returns-clause-rule : goal.returns-clause-rule
 returns-clause-rule c =
-<<<<<<< e03a0a72e89ef5fb69bf5d03133d0b83cc2ad840
-    let kept = c.args.self.now.kept in
-    c.decided.ensures
-    ∙ decided _ _ _ _ _ _ _ _ _ _ _ kept.schema_is kept.log_is c.law_findings_decide.ensures c.in_ok-findings.ensures.findings
-=======
-    let found = c.in_ok-findings.findings in
     let self = c.args.self.now in
-    let method : self.user.now.method ≡ self.now.method = sym (ap (λ u. u.method) self.amended.now_is) in
-    c.decide.ensures
-    ∙ (λ k. mark_by (method k) found.spent found.implied found.yes_harm found.no_harm (c.holds-truth.ensures k))
-    ∙ decided _ _ _ _ _ _ _ _ _ _ _ self.kept.schema_is self.kept.log_is c.law_findings_decide.ensures c.in_ok-findings.ensures.findings
-    ∙ (λ k. rule (kept_schema self) (kept_world self) (self.amended.now_is k) (log (kept_user self) (kept_history self)) (sentence_of c.args.query.now))
->>>>>>> 72f02d3bb47d01954616bcb4f4e9576c7b038719
+    c.decided.ensures
+    ∙ decided _ _ _ (user_at (kept_user self) (kept_history self)) _ _ _ _ _ _ _ _ self.kept.schema_is self.amended.current_is self.kept.log_is
+    c.law_findings_decide.ensures c.in_ok-findings.ensures.findings
 
 pub returns-clause-undecided : goal.returns-clause-undecided
 returns-clause-undecided c =
