@@ -188,19 +188,26 @@ module _ (schema : DatabaseSchema) (world : FactSet) (user : UserProfile) (befor
       lawful_by (is_full before (length text)) (is_too_large schema user before query) (mark_after schema world user before query) computed told in
       (is, query, answer.read, means.0, has, asked, means.1, other)
 
-  -- a record that has another mark is refused; one that adds a secret has none other
-  pub mark_refuses : (query : Formula) (stored computed : Mark) (number : ℕ) → number ≡ length before
+  -- one that adds a secret has none other
+  other_refuses : (query : Formula) (stored computed : Mark) (number : ℕ) → number ≡ length before
       → IsAnswer schema world user before (purpose_by stored) text query computed → mark_of kind ≡ Some stored → (stored ≡ computed → ⊥)
       → RefusesRecord schema world user before (kind, text) (Unlawful number stored computed)
-  mark_refuses query Yes computed number is answer has other = asked_refuses query Yes computed number is answer has refl other
-  mark_refuses query No computed number is answer has other = asked_refuses query No computed number is answer has refl other
-  mark_refuses query Refused computed number is answer has other = asked_refuses query Refused computed number is answer has refl other
-  mark_refuses query Undecided computed number is answer has other = asked_refuses query Undecided computed number is answer has refl other
-  mark_refuses query Protected computed number is answer has other =
+  other_refuses query Yes computed number is answer has other = asked_refuses query Yes computed number is answer has refl other
+  other_refuses query No computed number is answer has other = asked_refuses query No computed number is answer has refl other
+  other_refuses query Refused computed number is answer has other = asked_refuses query Refused computed number is answer has refl other
+  other_refuses query Undecided computed number is answer has other = asked_refuses query Undecided computed number is answer has refl other
+  other_refuses query Protected computed number is answer has other =
       let told : reply_by schema world user before standing_open false Protecting text (Ok query) ≡ marked computed =
       ap (λ r. reply_by schema world user before standing_open false Protecting text r) (sym answer.read) ∙ answer.answer in
       absurd (other (sym (protected_means (is_full before (length text)) (is_too_large_secret schema user before query) (has_all_secrets user before)
       (safe_after schema user before query) computed told)))
+
+  -- a record that has another mark is refused
+  pub mark_refuses : (purpose : Purpose) (query : Formula) (stored computed : Mark) (number : ℕ) → number ≡ length before → purpose ≡ purpose_by stored
+      → IsAnswer schema world user before purpose text query computed → mark_of kind ≡ Some stored → (stored ≡ computed → ⊥)
+      → RefusesRecord schema world user before (kind, text) (Unlawful number stored computed)
+  mark_refuses purpose query stored computed number is made answer has other =
+      other_refuses query stored computed number is (subst (λ p. IsAnswer schema world user before p text query computed) made answer) has other
 
 -- ---- a list of records
 

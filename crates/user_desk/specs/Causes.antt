@@ -1,15 +1,10 @@
 -- Which bytes open a desk, and why other bytes are refused.
-<<<<<<< e03a0a72e89ef5fb69bf5d03133d0b83cc2ad840
 use Rattle.std.specs.Prelude.{◌≡◌, ◌≢◌, ◌⊎◌, ℕ, ◌≤◌, Bool, true, false, ◌||◌, List, [], ◌∷◌, ◌++◌}
 use Rattle.std.specs.Prelude.{length, map, take, Some, Ok, Err}
-=======
-use Rattle.std.specs.Prelude.{◌≡◌, ◌≢◌, ◌⊎◌, ℕ, Bool, true, false, ◌||◌, List, [], ◌∷◌, ◌++◌}
-use Rattle.std.specs.Prelude.{length, map, Some, Ok, Err}
 use Rattle.cqe_base.specs.declared.user.Mark.{Mark}
 use Rattle.cqe_base.specs.declared.user.Mark.TheVariants.{Protected}
 use Rattle.cqe_base.specs.declared.user.Purpose.{Purpose}
 use Rattle.cqe_base.specs.declared.user.Purpose.TheVariants.{Asking, Protecting}
->>>>>>> 72f02d3bb47d01954616bcb4f4e9576c7b038719
 use Rattle.cqe_base.specs.Schema.{DatabaseSchema}
 use Rattle.cqe_base.specs.Facts.{FactSet}
 use Rattle.cqe_base.specs.Formula.{Formula}
@@ -25,11 +20,7 @@ use Rattle.log_journal.specs.Opening as journal
 use Rattle.log_journal.specs.declared.header.Header.{Header}
 use Rattle.log_journal.specs.declared.header.OpenError.TheVariants.{DiskFault, Memory}
 use Rattle.censors.specs.Admitting.{admission_of}
-<<<<<<< e03a0a72e89ef5fb69bf5d03133d0b83cc2ad840
-use Rattle.user_desk.specs.Entries.{mark_of, entry_of, StandsFor, StandsWithin}
-=======
-use Rattle.user_desk.specs.Entries.{mark_of, purpose_by, entry_of, StandsFor}
->>>>>>> 72f02d3bb47d01954616bcb4f4e9576c7b038719
+use Rattle.user_desk.specs.Entries.{mark_of, purpose_by, entry_of, StandsFor, StandsWithin}
 use Rattle.user_desk.specs.declared.standing.DeskError.{DeskError}
 use Rattle.user_desk.specs.declared.standing.DeskError.TheVariants.{Journal, Stale, Unlawful, Size}
 use Rattle.user_desk.specs.declared.standing.DeskError.TheVariants.{NotAdmitted, Unsafe}
@@ -45,7 +36,6 @@ module _ (schema : DatabaseSchema) (world : FactSet) (user : UserProfile) where
     pub sizes : KeepsSizes schema user entries
     pub none : admitted schema world user ≡ false → entries ≡ []
 
-<<<<<<< e03a0a72e89ef5fb69bf5d03133d0b83cc2ad840
   -- the bytes open a desk with a beginning of these entries that has at least so many
   pub record OpensWithin (header : List ℕ) (least : ℕ) (entries : History) (bytes : List ℕ) :
       Type 0 where
@@ -53,17 +43,12 @@ module _ (schema : DatabaseSchema) (world : FactSet) (user : UserProfile) where
     pub enough : least ≤ count
     pub opens : Opens header (take count entries) bytes
 
-  -- whether the history is full for a text of this length, or the view too large for its query
-  abbrev pub is_beyond : History → ℕ → Formula → Bool
-  is_beyond before size query = is_full before size || is_too_large schema user before query
-=======
   -- whether the history is full for a text of this length, or its sentence too large for the view;
   -- or it is to be added, and is too large for a secret or finds no room
   abbrev pub is_beyond : History → Purpose → ℕ → Formula → Bool
   is_beyond before Asking size query = is_full before size || is_too_large schema user before query
   is_beyond before Protecting size secret = is_full before size
       || (is_too_large_secret schema user before secret || has_all_secrets user before)
->>>>>>> 72f02d3bb47d01954616bcb4f4e9576c7b038719
 
   -- Behind these items a record is refused for this reason, and for none that stands before it: its
   -- text isn't a sentence; its text or its sentence is beyond the limits; it was asked, and the

@@ -1,23 +1,13 @@
-<<<<<<< e03a0a72e89ef5fb69bf5d03133d0b83cc2ad840
--- A user's state over asks, crashes and restarts, and the bytes that stand for it.
-use Rattle.std.specs.Prelude.{◌≡◌, ℕ, Bool, true, false, List, [], ◌++◌, Option, None, is_some}
-=======
 -- A user's state over calls, crashes and restarts, and the bytes that stand for it.
-use Rattle.std.specs.Prelude.{◌≡◌, ℕ, Bool, true, false, List, Option, None, is_some}
+use Rattle.std.specs.Prelude.{◌≡◌, ℕ, Bool, true, false, List, [], ◌++◌, Option, None, is_some}
 use Rattle.cqe_base.specs.declared.user.Purpose.{Purpose}
->>>>>>> 72f02d3bb47d01954616bcb4f4e9576c7b038719
 use Rattle.cqe_base.specs.Schema.{DatabaseSchema, Text}
 use Rattle.cqe_base.specs.Facts.{FactSet}
 use Rattle.cqe_base.specs.History.{UserProfile, AnsweredQuery, History}
 use Rattle.cqe_base.specs.Run
-<<<<<<< e03a0a72e89ef5fb69bf5d03133d0b83cc2ad840
-use Rattle.cqe_base.specs.Run.{Reply, UserState, Ending, Event, failed, ask, restart, after_event}
+use Rattle.cqe_base.specs.Run.{Reply, UserState, Ending, Event, failed, call, restart, after_event}
 use Rattle.cqe_base.specs.Run.{after_events}
-use Rattle.cqe_base.specs.Run.{reply_to_ask, entries_found, entry_at, standing_sealed}
-=======
-use Rattle.cqe_base.specs.Run.{Reply, UserState, Ending, failed, call, restart, after_event}
 use Rattle.cqe_base.specs.Run.{reply_to_call, entries_found, entry_at, standing_sealed}
->>>>>>> 72f02d3bb47d01954616bcb4f4e9576c7b038719
 use Rattle.outside.specs.Faults.{Rose}
 use Rattle.user_desk.specs.Causes.{Opens}
 use Rattle.user_desk.specs.declared.standing.Standing.{Standing}
@@ -47,7 +37,6 @@ module _ (schema : DatabaseSchema) (world : FactSet) (user : UserProfile) where
     pub sought : found ≡ true → is_some state.pending ≡ true
     pub opens : Opens schema world user header (entries_found schema world user state found) bytes
 
-<<<<<<< e03a0a72e89ef5fb69bf5d03133d0b83cc2ad840
   -- the bytes hold the state behind the first of these events and some of those that come next
   pub record HoldsFrom (header : List ℕ) (state : UserState) (front rest : List Event)
       (bytes : List ℕ) : Type 0 where
@@ -60,10 +49,7 @@ module _ (schema : DatabaseSchema) (world : FactSet) (user : UserProfile) where
   abbrev pub HoldsAmid : List ℕ → UserState → List Event → List ℕ → Type 0
   HoldsAmid header state events bytes = HoldsFrom header state [] events bytes
 
-  -- an ask of the text, with some ending, leads from the state to one that is now, and has this
-=======
   -- a call with the text, with some ending, leads from the state to one that is now, and has this
->>>>>>> 72f02d3bb47d01954616bcb4f4e9576c7b038719
   -- reply; an append failed only where the count of faults rose
   pub record Settles (is_now : UserState → Type 0) (state : UserState) (purpose : Purpose)
       (text : Text) (answer : Reply) (before now : ℕ) : Type 0 where

@@ -5,7 +5,8 @@ ghost use Rattle.std.specs.Prelude.{IsTrue, IfOk};
 ghost use Rattle.outside.specs.Disk.{Elapses};
 ghost use Rattle.outside.specs.Faults.{Rose};
 ghost use Rattle.cqe_base.specs.Formula.{formula_of};
-ghost use Rattle.cqe_base.specs.History.{answered_query_of, profile_of};
+ghost use Rattle.cqe_base.specs.History.{answered_query_of, profile_of, is_added};
+ghost use Rattle.cqe_base.specs.declared.user.Purpose.TheVariants.{Asking};
 ghost use Rattle.cqe_base.specs.Limits.{KeepsLimits, KeepsSizes};
 ghost use Rattle.cqe_base.specs.Censor.{IsLegal, admitted};
 ghost use Rattle.cqe_base.specs.Run.{UserState, after_event, stop};
@@ -20,17 +21,14 @@ ghost use Rattle.user_desk.specs.Standings.{is_open, is_sealed};
 use crate::kinds::kind_of;
 use crate::standing::Standing;
 use crate::store::Store;
+use cqe_base::laws::law_asks_are_answered;
 use cqe_base::sentence::Sentence;
-<<<<<<< e03a0a72e89ef5fb69bf5d03133d0b83cc2ad840
-use cqe_base::user::{Entry, Mark, User};
-use entailment::{GroundSentence, View};
-=======
 use cqe_base::user::{Entry, Mark, Purpose, User};
->>>>>>> 72f02d3bb47d01954616bcb4f4e9576c7b038719
+use entailment::GroundSentence;
 use log_journal::Header;
 use outside::Disk;
 use std::alloc::{AllocError, Global};
-use user_log::{Examined, Examiner, Reply, UserLog, Weighed};
+use user_log::{Examined, Examiner, Lent, Reply, UserLog, Weighed};
 
 /// One user's desk: his log, and a journal of it on a disk.
 #[derive(Drop)]
@@ -172,16 +170,10 @@ impl<'w, D: Disk> Desk<'w, D> {
         self.store.known();
     }
 
-<<<<<<< e03a0a72e89ef5fb69bf5d03133d0b83cc2ad840
     /// A view of the log, after which the query of a text can be examined outside of the desk.
-    /// There is none where a code answers the text, or memory is wanting. The desk stays as it is.
-    pub fn lend(&mut self, alloc: Global, text: &str, query: &GroundSentence) -> Option<View<'w>>
-=======
-    /// The reply to a call by the items so far. A mark comes once its item is on the disk, and adds
-    /// it; want of memory and a code change nothing, and from the first write on the answer is a
-    /// mark or that the append failed.
-    pub fn settle(&mut self, alloc: Global, purpose: Purpose, text: &str) -> Reply
->>>>>>> 72f02d3bb47d01954616bcb4f4e9576c7b038719
+    /// There is none where a code answers the text, where a secret was added, or where memory is
+    /// wanting. The desk stays as it is.
+    pub fn lend(&mut self, alloc: Global, text: &str, query: &GroundSentence) -> Option<Lent<'w>>
         requires { length text.now ≤ 4096 }
         ensures same { IsOfSame self.old self.new }
         ensures opening { IsOfOneOpening self.old self.new }
@@ -197,10 +189,18 @@ impl<'w, D: Disk> Desk<'w, D> {
         self.log.lend(alloc, text, query)
     }
 
-    /// The reply to a text by the entries so far, with what was found of it before, if that was
-    /// done. A mark comes once its entry is on the disk, and adds it; want of memory and a code
+    /// The reply to a call by the items so far, with what was found of a query before, if that was
+    /// done. A mark comes once its item is on the disk, and adds it; want of memory and a code
     /// change nothing, and from the first write on the answer is a mark or that the append failed.
-    pub fn settle(&mut self, alloc: Global, text: &str, examined: Option<Examined<'w>>) -> Reply
+    pub fn settle(
+        &mut self,
+        alloc: Global,
+        purpose: Purpose,
+        text: &str,
+        examined: Option<Examined<'w>>,
+    ) -> Reply
+        // A journal has no kind of record for an added secret yet.
+        requires asks { purpose ≡ Asking }
         requires short { length text.now ≤ 4096 }
         requires examined { IfSome examined (IsExamined (desk_schema self.old) (desk_user self.old)
             (desk_history self.old) text.now) }
@@ -227,17 +227,13 @@ impl<'w, D: Disk> Desk<'w, D> {
         ensures time { Elapses (D.moment (desk_disk self.old)) (D.moment (desk_disk self.new))
             (D.image_since (desk_disk self.old)) (D.image_since (desk_disk self.new)) }
     {
+        law_asks_are_answered();
         self.log.known();
         if let Some(code) = self.refusal() {
             return code;
         }
-<<<<<<< e03a0a72e89ef5fb69bf5d03133d0b83cc2ad840
-        match self.log.weigh(alloc, text, examined) {
-            Ok(Weighed::Answer(query, mark)) => self.record(alloc, text, query, mark),
-=======
-        match self.log.weigh(alloc, purpose, text) {
+        match self.log.weigh(alloc, purpose, text, examined) {
             Ok(Weighed::Answer(query, mark)) => self.record(alloc, purpose, text, query, mark),
->>>>>>> 72f02d3bb47d01954616bcb4f4e9576c7b038719
             Ok(Weighed::Code(code)) => code,
             Err(_) => Reply::Memory,
         }
@@ -274,6 +270,7 @@ impl<'w, D: Disk> Desk<'w, D> {
         mark: Mark,
     ) -> Reply
         requires short { length text.now ≤ 4096 }
+        requires asked { is_added mark ≡ false }
         requires opened { desk_standing self.old ≡ Standing.Open }
         requires whole { entry_in_flight self.old ≡ None }
         requires answer { IsAnswer (desk_schema self.old) (desk_world self.old) (desk_user self.old)

@@ -93,12 +93,8 @@ fn take_record(
     let Ok(text) = str::from_utf8(&next.text) else {
         return Ok(Some(DeskError::Stale(number)));
     };
-<<<<<<< e03a0a72e89ef5fb69bf5d03133d0b83cc2ad840
-    match log.weigh(alloc, text, None)? {
-=======
     let stored = mark_of(next.kind);
-    match log.weigh(alloc, purpose_by(stored), text)? {
->>>>>>> 72f02d3bb47d01954616bcb4f4e9576c7b038719
+    match log.weigh(alloc, purpose_by(stored), text, None)? {
         Weighed::Code(code) => Ok(Some(refused_by(code, number))),
         Weighed::Answer(query, computed) => {
             if !is_same(stored, computed) {

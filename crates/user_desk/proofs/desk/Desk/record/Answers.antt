@@ -59,6 +59,9 @@ split g c told =
     c.reserve.ensures.disk (c.append.ensures.opened ∙ c.reserve.ensures.opened) c.known-2.ensures.time.later c.append.ensures.time
     (c.append.ensures.moments told)
 
+pub append-requires-clause-high : goal.append-requires-clause-high
+append-requires-clause-high g c = c.kind_of.ensures.asked c.requires.asked
+
 -- ---- where there was no room
 
 pub prepare-requires-clause-answer : goal.prepare-requires-clause-answer
@@ -104,7 +107,7 @@ invariant_of-self-in-Ok-append g c =
 
 pub returns-in-Ok-append-clause-moments : goal.returns-in-Ok-append-clause-moments
 returns-in-Ok-append-clause-moments g c told c' here =
-    moment_holds (grows g (goal.at.returns-in-Ok-append-clause-moments g c).After-append) c.args.text.now (formula_of c.args.query) c.args.mark
+    moment_holds (grows g (goal.at.returns-in-Ok-append-clause-moments g c).After-append) c.args.purpose c.args.text.now (formula_of c.args.query) c.args.mark
     c.requires.answer refl told c' (c.append.ensures.moments told c'
     (subst (λ d. g.D.Disk.image_since (stored_disk c.append.new.self) (g.D.Disk.moment d) c') (sym c.reserve.ensures.disk) here))
 
@@ -125,7 +128,6 @@ pub invariant_of-self-in-Err : goal.invariant_of-self-in-Err
 invariant_of-self-in-Err g c =
     let at = (goal.at.invariant_of-self-in-Err g c).After-append in
     let same = c.in-Ok.ensures.same in
-<<<<<<< e03a0a72e89ef5fb69bf5d03133d0b83cc2ad840
     record {
       still = λ count none. absurd (some_not_none none);
       size = λ told whole. absurd cc;
@@ -135,20 +137,6 @@ invariant_of-self-in-Err g c =
       since = since_flying (grows g at) (λ i. g.D.Disk.image_since (stored_disk c.append.new.self) (g.D.Disk.moment (opened_disk c.append.new.self)) i)
           c.args.self.now.since (split g at) _ _ _ _ same.schema c.in-Ok.ensures.unchanged (c.into_entry.ensures ∙ c.in-Ok.ensures.entry);
     }
-=======
-    let legal = legal_back _ _ _ _ _ _
-    (kept_history desk.log) _ entry _ same.schema same.world same.user c.in-Ok.ensures.unchanged c.in-Ok.ensures.entry c.in-Ok.ensures.legal in
-    let sizes =
-    sizes_back _ _ _ _ (kept_history desk.log) _ entry _ same.schema same.user c.in-Ok.ensures.unchanged c.in-Ok.ensures.entry c.in-Ok.ensures.sizes in
-    let read = λ (told : g.D.Disk.tells). subst (λ d. g.D.Disk.image d bytes) c.reserve.ensures.disk (g.met.D.Disk.read_is_image (stored_disk store) told) in
-    let is = record_of_answer (kept_schema desk.log) c.args.text.now c.as_bytes.result.now
-    (formula_of c.args.query) c.args.mark c.kind_of.result c.as_bytes.ensures.value c.kind_of.ensures.back c.requires.answer.read in
-    let grows = growing _ _ _ _ _ _ _ _ _ _ _ entry next bytes desk.kept c.requires.opened c.requires.whole c.known.ensures.legal c.known.ensures.sizes legal
-    sizes read is in
-    let since = subst (λ d. g.D.Disk.image_since (stored_disk c.append.new.self) (g.D.Disk.moment d) c') (sym c.reserve.ensures.disk) here in
-    moment_holds _ _ _ _ _ _ _ _ _ entry next bytes grows c.args.purpose c.args.text.now (formula_of c.args.query) c.args.mark c.requires.answer refl told c'
-    (c.append.ensures.moments told c' since)
->>>>>>> 72f02d3bb47d01954616bcb4f4e9576c7b038719
 
 pub returns-in-Err-clause-settled : goal.returns-in-Err-clause-settled
 returns-in-Err-clause-settled g c =
@@ -164,42 +152,9 @@ returns-in-Err-clause-settled g c =
 
 pub returns-in-Err-clause-moments : goal.returns-in-Err-clause-moments
 returns-in-Err-clause-moments g c told c' here =
-<<<<<<< e03a0a72e89ef5fb69bf5d03133d0b83cc2ad840
-    moment_holds (grows g (goal.at.returns-in-Err-clause-moments g c).After-append) c.args.text.now (formula_of c.args.query) c.args.mark
+    moment_holds (grows g (goal.at.returns-in-Err-clause-moments g c).After-append) c.args.purpose c.args.text.now (formula_of c.args.query) c.args.mark
     c.requires.answer refl told c' (c.append.ensures.moments told c'
     (subst (λ d. g.D.Disk.image_since (stored_disk c.append.new.self) (g.D.Disk.moment d) c') (sym c.reserve.ensures.disk) here))
-=======
-    let desk = c.args.self.now in
-    let store = c.reserve.new.self in
-    let entry : AnsweredQuery = record { query = formula_of c.args.query; mark = c.args.mark; length = length c.args.text.now } in
-    let next : Recorded = (c.kind_of.result, c.as_bytes.result.now) in
-    let bytes : List ℕ = g.D.Disk.reads (stored_disk store) in
-    let same = c.in-Ok.ensures.same in
-    let legal = legal_back _ _ _ _ _ _
-    (kept_history desk.log) _ entry _ same.schema same.world same.user c.in-Ok.ensures.unchanged c.in-Ok.ensures.entry c.in-Ok.ensures.legal in
-    let sizes =
-    sizes_back _ _ _ _ (kept_history desk.log) _ entry _ same.schema same.user c.in-Ok.ensures.unchanged c.in-Ok.ensures.entry c.in-Ok.ensures.sizes in
-    let read = λ (told : g.D.Disk.tells). subst (λ d. g.D.Disk.image d bytes) c.reserve.ensures.disk (g.met.D.Disk.read_is_image (stored_disk store) told) in
-    let is = record_of_answer (kept_schema desk.log) c.args.text.now c.as_bytes.result.now
-    (formula_of c.args.query) c.args.mark c.kind_of.result c.as_bytes.ensures.value c.kind_of.ensures.back c.requires.answer.read in
-    let grows = growing _ _ _ _ _ _ _ _ _ _ _ entry next bytes desk.kept c.requires.opened c.requires.whole c.known.ensures.legal c.known.ensures.sizes legal
-    sizes read is in
-    let since = subst (λ d. g.D.Disk.image_since (stored_disk c.append.new.self) (g.D.Disk.moment d) c') (sym c.reserve.ensures.disk) here in
-    moment_holds _ _ _ _ _ _ _ _ _ entry next bytes grows c.args.purpose c.args.text.now (formula_of c.args.query) c.args.mark c.requires.answer refl told c'
-    (c.append.ensures.moments told c' since)
-
-pub returns-in-Ok-append-clause-opening : goal.returns-in-Ok-append-clause-opening
-returns-in-Ok-append-clause-opening g c =
-    let desk = c.args.self.now in
-    let entry : AnsweredQuery = record { query = formula_of c.args.query; mark = c.args.mark; length = length c.args.text.now } in
-    let grown = c.commit.ensures.added ∙ ap (λ (h : History). h ++ prepared_entry c.in-Ok.prepared ∷ []) c.in-Ok.ensures.unchanged
-    ∙ ap (λ e. kept_history desk.log ++ e ∷ []) c.in-Ok.ensures.entry in
-    record {
-      count = refl;
-      entries = ap (λ (h : History). take desk.opened h) grown ∙ take-append-le desk.opened (kept_history desk.log) (entry ∷ []) desk.since.begins;
-      disk = c.append.ensures.opened ∙ c.reserve.ensures.opened;
-    }
->>>>>>> 72f02d3bb47d01954616bcb4f4e9576c7b038719
 
 pub returns-in-Err-clause-opening : goal.returns-in-Err-clause-opening
 returns-in-Err-clause-opening g c = record {
