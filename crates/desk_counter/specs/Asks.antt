@@ -1,11 +1,6 @@
-<<<<<<< e03a0a72e89ef5fb69bf5d03133d0b83cc2ad840
--- What an ask answers, and what it adds.
+-- What a call answers, and what it adds.
 use Rattle.std.specs.Prelude.{◌≡◌, ◌⊎◌, ℕ, ◌≤◌, [], ◌∷◌, ◌++◌, length, Option, None, Ok}
 use Rattle.std.specs.Prelude.{option_to_list}
-=======
--- What a call answers, and what it adds.
-use Rattle.std.specs.Prelude.{◌≡◌, ◌⊎◌, ℕ, ◌≤◌, [], ◌∷◌, ◌++◌, length, None, Ok}
->>>>>>> 72f02d3bb47d01954616bcb4f4e9576c7b038719
 use Rattle.cqe_base.specs.declared.user.Mark as base
 use Rattle.cqe_base.specs.declared.user.Purpose.{Purpose}
 use Rattle.cqe_base.specs.Schema.{Text}
@@ -49,8 +44,8 @@ pub record Looked {D : Type 0} (old new : Pass TurnItem (Fixed D)) : Type 0 wher
   pub same_shares : shares new ≡ shares old
 
 module _ {D : Type 0} (fixed : Fixed D) where
-  -- a text was examined before these pairs or behind a beginning of them, and so it was for all
-  -- that begin with them
+  -- a text was examined behind a beginning of these pairs, and so it was for all that begin with
+  -- them
   abbrev pub IsExaminedBehind : Entries TurnItem → Text → Examined → Type 0
   IsExaminedBehind pairs text examined = (later : Entries TurnItem) → IsPrefix pairs later
       → IsExamined fixed.schema fixed.user (history_of later) text examined
@@ -83,15 +78,10 @@ module _ {D : Type 0} (fixed : Fixed D) where
 
   -- What a call does with a pass: it found pairs that begin with all that the pass had seen, and
   -- are all of that where the pass has all shares; what it added, with a ticket that is new to the
-<<<<<<< e03a0a72e89ef5fb69bf5d03133d0b83cc2ad840
   -- pass, was then seen, and is the pass's own. It may have drawn a ticket more before, for a turn
   -- that added nothing.
-  pub record Asked (old new : Pass TurnItem (Fixed D)) (text : Text) (reply : Reply) : Type 0 where
-=======
-  -- pass, was then seen, and is the pass's own.
   pub record Asked (old new : Pass TurnItem (Fixed D)) (purpose : Purpose) (text : Text)
       (reply : Reply) : Type 0 where
->>>>>>> 72f02d3bb47d01954616bcb4f4e9576c7b038719
     pub ticket : ℕ
     pub looked : Option ℕ
     pub found : Entries TurnItem
