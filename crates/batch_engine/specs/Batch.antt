@@ -7,7 +7,8 @@ use Rattle.cqe_base.specs.Facts.{FactSet}
 use Rattle.cqe_base.specs.Censor.{IsLegal, admitted}
 use Rattle.cqe_base.specs.Headline.{HidesInScript}
 use Rattle.cqe_base.specs.Run.{desk_broken, opening, replies, final_history}
-use Rattle.cqe_base.specs.Transcript.{NamedUser, ScriptEvent, script_call, script_restart}
+use Rattle.cqe_base.specs.Transcript.{NamedUser, ScriptEvent, by_session, script_call}
+use Rattle.cqe_base.specs.Transcript.{script_restart}
 use Rattle.cqe_base.specs.Transcript.{script_opening, Line, reply_line, own_events, own_replies}
 use Rattle.cqe_base.specs.Transcript.{state_after, transcript, line_text}
 use Rattle.user_desk.specs.Causes.{Opens}
@@ -17,30 +18,25 @@ use Rattle.user_desk.specs.declared.standing.DeskError.{DeskError}
 use Rattle.desk_crew.specs.Shelved.{Journals, KeepsJournal, KeepsJournals, StandsAllAlong}
 use Rattle.script_lines.specs.Read.{IsReadThrough}
 use Rattle.batch_engine.specs.BatchLines.{BatchItem, asked, restarted, batch_of}
-<<<<<<< e03a0a72e89ef5fb69bf5d03133d0b83cc2ad840
 use Rattle.desk_crew.specs.Openings.{OpensNone, OpensWith}
 use Rattle.batch_engine.specs.Lives.{
   RoseBy,
-  is_ask,
+  is_call,
   is_opened,
   is_failed_append,
   failures,
   AreCaused,
 }
 use Rattle.batch_engine.specs.Lives.{IsFirstRefusal}
-=======
-use Rattle.desk_crew.specs.Openings.{OpensNone, IsOpening}
-use Rattle.batch_engine.specs.Lives.{RoseBy, is_call, is_opened, is_failed, failures, AreCaused}
-use Rattle.batch_engine.specs.Lives.{IsRefusal}
->>>>>>> 72f02d3bb47d01954616bcb4f4e9576c7b038719
 use Rattle.batch_engine.specs.declared.run.BatchEnd.{BatchEnd}
 use Rattle.batch_engine.specs.declared.run.BatchEnd.TheVariants.{Done, Script as Refused, ReadFault}
 use Rattle.batch_engine.specs.declared.run.BatchEnd.TheVariants.{WriteFault, ShelfFault, Memory}
 
--- an event is of an item: a call with some ending, or a restart with some choice for each name
+-- an event is of an item: a session's ask with some ending, or a restart with some choice for each
+-- name
 abbrev pub IsEventOf : BatchItem → ScriptEvent → Type 0
 IsEventOf (asked ask) (script_call name caller text ending) =
-    (name ≡ ask.name) × (caller ≡ ask.caller) × (text ≡ ask.text)
+    (name ≡ ask.name) × (caller ≡ by_session ask.session) × (text ≡ ask.text)
 IsEventOf restarted (script_restart found opened) = Unit {0}
 IsEventOf item event = ⊥
 
@@ -105,8 +101,7 @@ module _ (schema : DatabaseSchema) (world : FactSet) (header : List ℕ) (journa
         (journals.reads user.name)
     -- and unless one held and a call was made for him, his journal is as it was
     pub kept : (list_any is_opened (own_events user.name events)
-<<<<<<< e03a0a72e89ef5fb69bf5d03133d0b83cc2ad840
-        && list_any is_ask (own_events user.name events)) ≡ false → KeepsJournal journals user.name
+        && list_any is_call (own_events user.name events)) ≡ false → KeepsJournal journals user.name
     -- At each moment since his journal was first opened each crash leaves his history behind some
     -- first of his events, or this and the entry in flight; before that, and where no opening held,
     -- nothing new.
@@ -114,9 +109,6 @@ module _ (schema : DatabaseSchema) (world : FactSet) (header : List ℕ) (journa
         (list_any is_opened (own_events user.name events))
         (HoldsAmid schema world user.profile header
         (opening schema world user.profile user.opened) (own_events user.name events))
-=======
-        && list_any is_call (own_events user.name events)) ≡ false → KeepsJournal journals user.name
->>>>>>> 72f02d3bb47d01954616bcb4f4e9576c7b038719
 
   -- what was written answers these items: it is the lines of the transcript of a script in which
   -- all journals are opened, each ask has some ending, and each restart finds and opens what it may

@@ -1,7 +1,6 @@
 -- What one line of a batch says, and what its lines add up to.
 use Rattle.std.specs.Prelude.{◌==◌, ℕ, ◌+◌, ◌-◌, ◌*◌, not, ◌&&◌, nat_le, List, [], ◌∷◌, ◌++◌}
 use Rattle.std.specs.Prelude.{Option, Some, None, Result, Ok, Err, if◌then◌else◌, codes, bytes_eq}
-use Rattle.std.specs.Prelude.{option_map}
 use Rattle.std.specs.List.{list_all, list_any, before_first, after_first}
 use Rattle.std.specs.Char.{is_ascii_digit}
 use Rattle.cqe_base.specs.declared.text.ScriptKind.{ScriptKind}
@@ -9,15 +8,14 @@ use Rattle.cqe_base.specs.declared.text.ScriptKind.TheVariants.{NotALine}
 use Rattle.cqe_base.specs.declared.text.ScriptError.{ScriptError}
 use Rattle.cqe_base.specs.Schema.{Text, is_schema_name}
 use Rattle.cqe_base.specs.Tokens.{is_blank}
-use Rattle.cqe_base.specs.Transcript.{Caller, by_session, by_operator}
 use Rattle.line_protocol.specs.Words.{is_printable}
 use Rattle.script_lines.specs.Scripts.{script_from}
 use Rattle.script_lines.specs.Silence.{is_silent}
 
--- a call for a named user: he asks in one of his sessions, or an operator adds to his secrets
+-- an ask of a named user in one of his sessions
 pub record NamedAsk : Type 0 where
   pub name : Text
-  pub caller : Caller
+  pub session : ℕ
   pub text : Text
 
 -- what a line says
@@ -43,38 +41,27 @@ session_number (a ∷ b ∷ []) =
     then Some (10 * (a - 48) + (b - 48)) else None
 session_number _ = None
 
--- who calls, by a word: an operator by `op`, and else the session of this number
-abbrev pub caller_of : Text → Option Caller
-caller_of word =
-    if bytes_eq word (codes "op") then Some by_operator
-    else option_map by_session (session_number word)
-
--- the word before the text of a call: a session's is `ask`, and an operator's `protect`
-abbrev pub call_word : Caller → Text
-call_word (by_session number) = codes "ask"
-call_word by_operator = codes "protect"
-
--- the text of a call: its word, one blank, and the text, or the word alone, for the empty text
-abbrev pub call_text : Text → Text → Option Text
-call_text word request =
+-- the text of an ask: `ask`, one blank, and the text, or `ask` alone, which asks the empty text
+abbrev pub ask_text : Text → Option Text
+ask_text request =
     if list_any is_blank request
-    then (if bytes_eq (before_first is_blank request) word
+    then (if bytes_eq (before_first is_blank request) (codes "ask")
     then Some (after_first is_blank request) else None)
-    else (if bytes_eq request word then Some [] else None)
+    else (if bytes_eq request (codes "ask") then Some [] else None)
 
--- the call for a name by a caller, if he is there and the request is his
-abbrev pub call_of : Text → Text → Option Caller → Option BatchLine
-call_of name request None = None
-call_of name request (Some caller) =
-    option_map (λ text. asks (record { name = name; caller = caller; text = text }))
-    (call_text (call_word caller) request)
+-- the ask of a name with a session and a text, if both are there
+abbrev pub ask_of : Text → Option ℕ → Option Text → Option BatchLine
+ask_of name (Some session) (Some text) =
+    Some (asks (record { name = name; session = session; text = text }))
+ask_of name (Some session) None = None
+ask_of name None text = None
 
--- a name of the form of a constant's, one blank, a session or `op`, one blank, and `ask TEXT` or
--- `ask` of a session, `protect TEXT` or `protect` of an operator
+-- a name of the form of a constant's, one blank, a session, one blank, and `ask TEXT` or `ask`
 abbrev pub named_ask : Text → Text → Option BatchLine
 named_ask name rest =
     if is_schema_name name && list_any is_blank rest
-    then call_of name (after_first is_blank rest) (caller_of (before_first is_blank rest)) else None
+    then ask_of name (session_number (before_first is_blank rest))
+    (ask_text (after_first is_blank rest)) else None
 
 -- the line of a first word, and the text behind the blank that ends it: `* restart`, or an ask of a
 -- name

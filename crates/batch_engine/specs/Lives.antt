@@ -35,21 +35,12 @@ is_refused (call purpose text ending) = false
 is_refused (stop purpose text) = false
 
 -- whether it is an append that failed, or that a crash cut
-<<<<<<< e03a0a72e89ef5fb69bf5d03133d0b83cc2ad840
 abbrev pub is_failed_append : Event → Bool
-is_failed_append (ask text failed) = true
-is_failed_append (ask text kept) = false
-is_failed_append (ask text want) = false
-is_failed_append (stop text) = true
+is_failed_append (call purpose text failed) = true
+is_failed_append (call purpose text kept) = false
+is_failed_append (call purpose text want) = false
+is_failed_append (stop purpose text) = true
 is_failed_append (restart found opened) = false
-=======
-abbrev pub is_failed : Event → Bool
-is_failed (call purpose text failed) = true
-is_failed (call purpose text kept) = false
-is_failed (call purpose text want) = false
-is_failed (stop purpose text) = true
-is_failed (restart found opened) = false
->>>>>>> 72f02d3bb47d01954616bcb4f4e9576c7b038719
 
 -- an append that failed and an opening that was refused count one each
 abbrev pub failures_in : Event → ℕ
@@ -71,8 +62,8 @@ module _ (schema : DatabaseSchema) (world : FactSet) (user : UserProfile) where
   abbrev pub IsCaused : UserState → Event → Type 0
   IsCaused state (call purpose text want) = Unit {0}
   IsCaused state (call purpose text kept) = Unit {0}
-  IsCaused state (call purpose text failed) =
-      is_some (entry_at schema world user state purpose text) ≡ true
+  IsCaused state (call purpose text failed) = is_some (entry_at schema world user state purpose
+      text) ≡ true
   IsCaused state (stop purpose text) = ⊥
   IsCaused state (restart found opened) = found ≡ true → is_some state.pending ≡ true
 

@@ -5,7 +5,7 @@ use Rattle.outside.specs.declared.disk.Disk.{Ghosts as DiskGhosts}
 use Rattle.cqe_base.specs.Schema.{DatabaseSchema}
 use Rattle.cqe_base.specs.Facts.{FactSet}
 use Rattle.cqe_base.specs.Run.{Reply, desk_broken}
-use Rattle.cqe_base.specs.Transcript.{purpose_of, reply_line, restart_line, line_text}
+use Rattle.cqe_base.specs.Transcript.{by_session, reply_line, restart_line, line_text}
 use Rattle.batch_engine.specs.BatchLines.{BatchItem, asked, restarted}
 use Rattle.desk_crew.specs.Crew.{Tells, AreReopened}
 use Rattle.desk_crew.specs.Seats.{DeskSeat}
@@ -18,20 +18,14 @@ is_broken_reply (Some desk_broken) = true
 is_broken_reply reply = false
 
 module _ (schema : DatabaseSchema) (world : FactSet) (header : List ℕ) {D : Type 0} (told : Type 0)
-<<<<<<< e03a0a72e89ef5fb69bf5d03133d0b83cc2ad840
     (Disk : DiskGhosts D) where
   -- what an item does: an ask is replied to by the user of its name, and a restart closes and opens
-=======
-    (reads : D → List ℕ) (image : D → List ℕ → Type 0) (faults : D → ℕ) where
-  -- what an item does: a call is replied to by the user of its name, and a restart closes and opens
->>>>>>> 72f02d3bb47d01954616bcb4f4e9576c7b038719
   -- every desk; its line, and whether that says that an append failed
   abbrev pub Carries : {g h : _} → BatchItem → List (DeskSeat D g h) → List (DeskSeat D g h)
       → List ℕ → Bool → Type 0
   Carries (asked ask) old new line is_broken =
-      (reply : Option Reply)
-      × Tells schema world ask.name (purpose_of ask.caller) ask.text old new reply
-      × (line ≡ line_text (reply_line ask.name ask.caller reply) ++ 10 ∷ [])
+      (reply : Option Reply) × Tells schema world ask.name ask.text old new reply
+      × (line ≡ line_text (reply_line ask.name (by_session ask.session) reply) ++ 10 ∷ [])
       × (is_broken ≡ is_broken_reply reply)
   Carries restarted old new line is_broken =
       AreReopened schema world header told Disk old new

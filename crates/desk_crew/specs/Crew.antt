@@ -3,6 +3,7 @@ use Rattle.std.specs.Prelude.{◌≡◌, ℕ, ◌≤◌, ◌*◌, ◌^◌, Bool,
 use Rattle.std.specs.Prelude.{bytes_eq, Option, Some, None, Result, Ok, Err, string_bytes}
 use Rattle.outside.specs.Disk.{Elapses}
 use Rattle.outside.specs.declared.disk.Disk.{Ghosts as DiskGhosts}
+use Rattle.cqe_base.specs.declared.user.Purpose.TheVariants.{Asking}
 use Rattle.cqe_base.specs.Schema.{Text, DatabaseSchema}
 use Rattle.cqe_base.specs.Facts.{FactSet}
 use Rattle.cqe_base.specs.History.{History, profile_of}
@@ -18,7 +19,7 @@ use Rattle.user_desk.specs.declared.standing.DeskError.{DeskError}
 use Rattle.user_desk.specs.declared.standing.Standing.{Standing}
 use Rattle.user_desk.specs.declared.standing.Standing.TheVariants.{Open, Closed, Sealed}
 use Rattle.desk_counter.specs.declared.item.Fixed.{Fixed}
-use Rattle.desk_counter.specs.Lives.{IsAskOf}
+use Rattle.desk_counter.specs.Lives.{IsCallOf}
 use Rattle.desk_counter.specs.Items.{history_of, has_broke}
 use Rattle.turnstile.specs.Passes.{mine, turns}
 use Rattle.desk_counter.specs.Closed as counter
@@ -139,7 +140,8 @@ module _ (schema : DatabaseSchema) (world : FactSet) where
     pub refusal_is : new.refusal ≡ old.refusal
     pub kept_is : seat_kept new ≡ seat_kept old
     pub settled : (state : UserState) → IsSeatIn old state
-        → IsAskOf schema world (profile_of (seat_user old)) (IsSeatIn new) state text told_reply
+        → IsCallOf schema world (profile_of (seat_user old)) (IsSeatIn new) state Asking text
+        told_reply
 
   -- an ask of a name goes to the first seat of that name, and to no other; without such a seat
   -- there is no reply
