@@ -265,8 +265,6 @@ impl<'w, D: Disk> CounterOf<'w, TicketedDesk<'w, D>> {
         ensures closed { IsClosed D.tells D.Disk (kept_by self.entry) (first_pairs self.entry)
             (mine pass) (seen pass) (desk_disk result) }
         ensures drew { DrewEachOnce (view_of pass) }
-        ensures sizes { KeepsSizes (kept_by self.entry).schema (kept_by self.entry).user
-            (history_of (seen pass)) }
 
         // Where no append failed, each crash leaves just that history.
         ensures whole { D.tells → is_sealed (kept_by self.entry).standing ≡ false

@@ -72,6 +72,7 @@ module _ (schema : DatabaseSchema) (world : FactSet) (header : List ℕ) {D : Ty
       record {
         holds = λ t. closed.holds (tells t);
         legal = closed.legal;
+        sizes = closed.sizes;
         added = closed.added;
         items = closed.items;
         idle = closed.idle;

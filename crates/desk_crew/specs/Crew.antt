@@ -13,6 +13,7 @@ use Rattle.cqe_base.specs.declared.user.User.{User}
 use Rattle.censors.specs.Admitting.{admission_of}
 use Rattle.user_desk.specs.Causes.{IsStanding}
 use Rattle.cqe_base.specs.Censor.{IsLegal}
+use Rattle.cqe_base.specs.Limits.{KeepsSizes}
 use Rattle.user_desk.specs.Standings.{is_sealed}
 use Rattle.user_desk.specs.Lives.{Holds, Restarts}
 use Rattle.user_desk.specs.declared.standing.DeskError.{DeskError}
@@ -184,6 +185,7 @@ module _ (schema : DatabaseSchema) (world : FactSet) (header : List ℕ) where
       pub fresh : IsSeatAsOpened seat
       pub opening_is : (seat_kept seat).opening ≡ seat_history seat
       pub legal : IsLegal schema world (profile_of (seat_user seat)) (seat_history seat)
+      pub sizes : KeepsSizes schema (profile_of (seat_user seat)) (seat_history seat)
       -- what was put under its counter is what its pass has seen, which has all turns and nothing
       -- of its own
       pub first_is : first_pairs (counter_in seat.desk) ≡ pairs_of_sole seat.desk

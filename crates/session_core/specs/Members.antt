@@ -29,23 +29,15 @@ module _ {D : Type 0} where
   abbrev pub AreDesksOf : List User → List (Fixed D) → Type 0
   AreDesksOf users fixeds = map (λ fixed. fixed.user) fixeds ≡ map profile_of users
 
-<<<<<<< e03a0a72e89ef5fb69bf5d03133d0b83cc2ad840
   -- What the pass at a desk has seen is a legal history of its user, and an entry in flight stands
-  -- last. He is a user of the schema, and served only where he is admitted.
-=======
-  -- What the pass at a desk has seen is a legal history of its user. He and his history are of the
-  -- schema, and he is served only where he is admitted.
->>>>>>> 72f02d3bb47d01954616bcb4f4e9576c7b038719
+  -- last. He and his history are of the schema, and he is served only where he is admitted.
   pub record HasSeenLegal (fixed : Fixed D) (pass : Pass TurnItem (Fixed D)) : Type 0 where
     pub valid : is_valid_schema fixed.schema ≡ true
     pub user_of : is_user_of fixed.schema fixed.user ≡ true
     pub admits : is_open fixed.standing ≡ true → admitted fixed.schema fixed.world fixed.user ≡ true
     pub legal : IsLegal fixed.schema fixed.world fixed.user (history_of (seen pass))
-<<<<<<< e03a0a72e89ef5fb69bf5d03133d0b83cc2ad840
-    pub last : is_broke_last (seen pass) ≡ true
-=======
     pub sentences : is_history_of fixed.schema (history_of (seen pass)) ≡ true
->>>>>>> 72f02d3bb47d01954616bcb4f4e9576c7b038719
+    pub last : is_broke_last (seen pass) ≡ true
 
   -- what each pass has seen is legal
   abbrev pub HaveSeenLegal : List (Fixed D) → List (Pass TurnItem (Fixed D)) → Type 0

@@ -17,12 +17,7 @@ ghost use Rattle.session_core.specs.Asked.{Replies, IsShort};
 ghost use Rattle.session_core.specs.Sessions.{Session};
 
 use crate::counters::{Counters, Passes};
-<<<<<<< e03a0a72e89ef5fb69bf5d03133d0b83cc2ad840
-use cqe_base::laws::law_hides;
-=======
-use case_engine::line_reply;
 use cqe_base::laws::{law_hides, law_sizes};
->>>>>>> 72f02d3bb47d01954616bcb4f4e9576c7b038719
 use cqe_base::user::User;
 use line_protocol::{
     LineBuffer, LineOutcome, Reply, Request, login_ok, read_line, read_request, write_reply,

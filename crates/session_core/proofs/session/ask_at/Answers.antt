@@ -48,13 +48,10 @@ returns-clause-passes g c =
           (subst (λ d. IsPassOf c.ask.new.pass d) c.index-counter.ensures c.ask.ensures.pass);
       legal = legal_set counters passes c.args.place c.ask.new.pass desk low c.requires.passes.legal
           (subst (λ d. IsLegal (kept_by d).schema (kept_by d).world (kept_by d).user (history_of (seen c.ask.new.pass))) c.index-counter.ensures
-<<<<<<< e03a0a72e89ef5fb69bf5d03133d0b83cc2ad840
-          c.ask.ensures.legal) (broke_last (seen c.ask.new.pass) c.ask.ensures.last);
-=======
           c.ask.ensures.legal)
           (subst (λ d. is_history_of (kept_by d).schema (history_of (seen c.ask.new.pass)) ≡ true) c.index-counter.ensures
-          (c.law_sizes.ensures.of_schema (kept_by desk).schema (kept_by desk).user (history_of (seen c.ask.new.pass)) c.ask.ensures.sizes));
->>>>>>> 72f02d3bb47d01954616bcb4f4e9576c7b038719
+          (c.law_sizes.ensures.of_schema (kept_by desk).schema (kept_by desk).user (history_of (seen c.ask.new.pass)) c.ask.ensures.sizes))
+          (broke_last (seen c.ask.new.pass) c.ask.ensures.last);
     }
 
 pub returns-clause-asked : goal.returns-clause-asked
