@@ -88,16 +88,14 @@ serving schema user entries found method is some pairs each = record {
       secrecy_true schema user entries k (found_at method found (2 * k + 1)) pairs low (all (2 * k + 1) (omega (arith, enough, low)));
 }
   where
-    abbrev many : ℕ
-    many = length (user_at user entries).secrets
-
-    served : (m : Method) → user.method ≡ m → ((k : ℕ) → k < worlds_for m many → IsOther schema user entries k (slice_index_or found k None))
-        → (k : ℕ) → k < many → IsOther schema user entries k (found_at m found k)
+    served : (m : Method) → user.method ≡ m → ((k : ℕ) → k < worlds_for m (length (user_at user entries).secrets)
+        → IsOther schema user entries k (slice_index_or found k None))
+        → (k : ℕ) → k < length (user_at user entries).secrets → IsOther schema user entries k (found_at m found k)
     served Lying lies each k low = other_each schema user entries (slice_index_or found 0 None) k lies low (each 0 (omega arith))
     served Refusal is each k low = each k low
     served Combined is each k low = each k low
 
-    all : (k : ℕ) → k < many → IsOther schema user entries k (found_at method found k)
+    all : (k : ℕ) → k < length (user_at user entries).secrets → IsOther schema user entries k (found_at method found k)
     all = served method is each
 
     one : (m : Method) → user.method ≡ m → user.method ≡ Lying → (j k : ℕ) → found_at m found j ≡ found_at m found k

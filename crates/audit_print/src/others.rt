@@ -13,7 +13,7 @@ use cqe_base::world::World;
 use std::alloc::{AllocError, Global};
 use two_worlds::other_world;
 
-/// The worlds that were found: one for each secret of the user as he is now, for a liar one for all.
+/// The worlds that were found: one for each secret that the user has now, for a liar one for all.
 pub(crate) fn other_worlds(
     alloc: Global,
     schema: &Schema,

@@ -19,11 +19,11 @@ use Rattle.desk_counter.specs.Sole.{IsAsOpened}
 
 -- A desk, of which no turn changed what is kept, leaves this disk, once all pairs are these: unless
 -- its journal was refused, each image holds the state that they show, whose history is legal and
--- within the limits; they are those that it was put under the counter with and then the pass's own, with one entry in
--- flight at most; only of a user who is served are there any; the count rose where an append
--- failed; where none did, the disk has grown for the entries alone; and where nothing was appended
--- it is as it was at the opening. Since the opening each image opens a desk with a beginning of the
--- history, with the entry in flight, that has all entries at the opening.
+-- within the limits; they are those that it was put under the counter with and then the pass's own,
+-- with one entry in flight at most; only of a user who is served are there any; the count rose
+-- where an append failed; where none did, the disk has grown for the entries alone; and where
+-- nothing was appended it is as it was at the opening. Since the opening each image opens a desk
+-- with a beginning of the history, with the entry in flight, that has all entries at the opening.
 pub record IsClosed {D : Type 0} (told : Type 0) (Disk : DiskGhosts D) (kept : Fixed D)
     (first own pairs : Entries TurnItem) (disk : D) : Type 0 where
   pub holds : told → is_sealed kept.standing ≡ false → (c : List ℕ) → Disk.image disk c

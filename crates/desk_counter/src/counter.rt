@@ -146,9 +146,9 @@ impl<'w, D: Disk> CounterOf<'w, TicketedDesk<'w, D>> {
     }
 
     /// Asks a text, in two turns. In the first one it takes a view of the log. Between both it
-    /// examines the text after that view. In the second one it settles the text by the entries of
-    /// all calls before, with what was found where the items are as many as they were, and else with
-    /// what it finds then. A pass that has all shares makes the second turn alone, and so does an ask of
+    /// examines the text after that view. In the second one it settles the text by the items of all
+    /// calls before, with what was found where these are as many as they were, and else with what
+    /// it finds then. A pass that has all shares makes the second turn alone, and so does an ask of
     /// which nothing is to be examined. The gate is passed between both turns and after the second.
     pub fn ask<R: Wait, G: Gate>(
         &self,

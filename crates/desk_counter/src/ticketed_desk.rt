@@ -7,7 +7,6 @@ ghost use Rattle.desk_counter.specs.Items.{pairs_of};
 ghost use Rattle.desk_counter.specs.Desks.{fixed_of};
 
 use crate::item::{Fixed, TurnItem};
-use cqe_base::user::Purpose;
 use entailment::GroundSentence;
 use outside::Disk;
 use std::alloc::{AllocError, Global};
@@ -160,7 +159,7 @@ impl<'w, D: Disk> TicketedDesk<'w, D> {
         if self.tickets.reserve(1).is_err() {
             return Reply::Memory;
         }
-        let reply = self.desk.settle(alloc, Purpose::Asking, text, examined);
+        let reply = self.desk.settle(alloc, text, examined);
         self.desk.known();
         match reply {
             Reply::Mark(_) => self.tickets.push_reserved(ticket),

@@ -1,8 +1,8 @@
 //! What is kept of one user between the calls for him: his items, the view of their log, their
 //! sizes, and the user as he is at their end, with the secrets that were added.
 //!
-//! `UserLog::weigh` gives the reply to a text by the user's own history, without adding anything: to
-//! one that he asks, or to one that is to be added to his secrets. `UserLog::ask` adds the item of a
+//! `UserLog::weigh` gives the reply to a text by the user's own history, without adding anything: a
+//! text that is asked, or one that is to be added to the secrets. `UserLog::ask` adds the item of a
 //! mark as well, and `UserLog::prepare` and `UserLog::commit` do that in two steps, of which the
 //! second takes no memory.
 //! A text that is asked may be examined before it is weighed: `UserLog::lend` lends a view of the

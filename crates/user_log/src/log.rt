@@ -2,6 +2,7 @@
 
 ghost use Rattle.std.specs.Prelude.{◌≡◌, ◌≤◌, ◌<◌, ◌+◌, ◌++◌, ◌∷◌, [], ◌&&◌, true, false, Bool};
 ghost use Rattle.std.specs.Prelude.{length, map, sum_by, Ok, IfOk, OnOk, OnErr, IfSome, IfNone};
+ghost use Rattle.cqe_base.specs.Schema.{Text};
 ghost use Rattle.cqe_base.specs.Formula.{formula_of, nodes, is_sentence_of};
 ghost use Rattle.cqe_base.specs.History.{profile_of, answered_query_of, log, view_size, told_by};
 ghost use Rattle.cqe_base.specs.History.{signed_nodes, user_at};
@@ -276,7 +277,10 @@ impl<'w> UserLog<'w> {
             Err(ReadError::Text(error)) => return Ok(Weighed::Code(Reply::Syntax(error))),
             Err(ReadError::Memory) => return Err(AllocError),
         };
-        if let Some(code) = self.secret_refusal(text, &secret) {
+        if self.is_full(text.len()) {
+            return Ok(Weighed::Code(Reply::Full));
+        }
+        if let Some(code) = self.secret_refusal(&secret) {
             return Ok(Weighed::Code(code));
         }
         let safe = self.is_safe(alloc, &secret)?;
@@ -337,23 +341,19 @@ impl<'w> UserLog<'w> {
         None
     }
 
-    /// The code that answers the sentence of a text that is to be added, for want of room, if one
-    /// does.
-    fn secret_refusal(&self, text: &str, secret: &Sentence) -> Option<Reply>
-        requires { length text.now ≤ 4096 }
-        ensures code { IfSome result (λ code.
-            reading (kept_schema self.now) text.now ≡ Ok (formula_of secret.now)
+    /// The code that answers each text that is this sentence and is to be added, if the history has
+    /// room for the text but not for the secret.
+    fn secret_refusal(&self, secret: &Sentence) -> Option<Reply>
+        ensures code { IfSome result (λ code. (text : Text)
+            → is_full (kept_history self.now) (length text) ≡ false
+            → reading (kept_schema self.now) text ≡ Ok (formula_of secret.now)
             → IsWeighed (kept_schema self.now) (kept_world self.now) (kept_user self.now)
-            (kept_history self.now) Protecting text.now (Weighed.Code code)) }
-        ensures room { IfNone result (is_full (kept_history self.now) (length text.now) ≡ false) }
+            (kept_history self.now) Protecting text (Weighed.Code code)) }
         ensures small { IfNone result (is_too_large_secret (kept_schema self.now)
             (kept_user self.now) (kept_history self.now) (formula_of secret.now) ≡ false) }
         ensures few { IfNone result
             (has_all_secrets (kept_user self.now) (kept_history self.now) ≡ false) }
     {
-        if self.is_full(text.len()) {
-            return Some(Reply::Full);
-        }
         if self.is_too_large_secret(secret) {
             return Some(Reply::Size);
         }
@@ -388,8 +388,8 @@ impl<'w> UserLog<'w> {
         count > QUERY_NODES || self.view_nodes.saturating_add(count) > VIEW_NODES
     }
 
-    /// The mark of a query by the rule, from findings after a first part of the items, or where that
-    /// isn't all of them from new ones.
+    /// The mark of a query by the rule, from findings after a first part of the items, or from new
+    /// ones where that isn't all of them.
     fn mark_with(
         &mut self,
         alloc: Global,
