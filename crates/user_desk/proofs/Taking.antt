@@ -17,7 +17,7 @@ use Rattle.cqe_base.specs.Censor.{IsLegal, mark_after, safe_after, admitted}
 use Rattle.cqe_base.specs.Limits.{KeepsSizes}
 use Rattle.cqe_base.specs.Run
 use Rattle.cqe_base.specs.Run.{is_full, is_too_large, is_too_large_secret, has_all_secrets, protection_by, reply_to, reply_by, standing_open, marked}
-use Rattle.cqe_base.specs.Run.{no_sentence, history_full, too_large, secrets_full, unsafe_secret, entry_added}
+use Rattle.cqe_base.specs.Run.{no_sentence, history_full, too_large, unsafe_secret, entry_added}
 use Rattle.sentence_text.specs.Laws.{SentencesAreAscii}
 use Rattle.log_journal.specs.Records.{Recorded}
 use Rattle.log_journal.specs.Opening.{recorded}
