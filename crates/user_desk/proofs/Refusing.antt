@@ -173,6 +173,8 @@ module _ (schema : DatabaseSchema) (world : FactSet) (user : UserProfile) where
       all_lawful (records bytes) entries (Size number) opens.stands.are opens.legal opens.sizes refused.2
   not_refused header bytes entries (Unlawful number stored computed) opens refused =
       all_lawful (records bytes) entries (Unlawful number stored computed) opens.stands.are opens.legal opens.sizes refused.2
+  not_refused header bytes entries (Unsafe number) opens refused =
+      all_lawful (records bytes) entries (Unsafe number) opens.stands.are opens.legal opens.sizes refused.2
 
   -- where they open a desk, only a fault of the disk seals it
   pub sealed_by_fault : (told : Type 0) (header : Header) (bytes : List ℕ) (entries : History) (before now : ℕ) (why : DeskError) → told
@@ -193,6 +195,8 @@ module _ (schema : DatabaseSchema) (world : FactSet) (user : UserProfile) where
   sealed_by_fault told header bytes entries before now (Size number) is opens sealed = absurd (not_refused header bytes entries (Size number) opens (sealed is))
   sealed_by_fault told header bytes entries before now (Unlawful number stored computed) is opens sealed =
       absurd (not_refused header bytes entries (Unlawful number stored computed) opens (sealed is))
+  sealed_by_fault told header bytes entries before now (Unsafe number) is opens sealed =
+      absurd (not_refused header bytes entries (Unsafe number) opens (sealed is))
 
   -- ---- from the records to the standing
 
@@ -254,6 +258,14 @@ module _ (schema : DatabaseSchema) (world : FactSet) (user : UserProfile) where
       journal_of header bytes all (journal is),
       replay.1,
       subst (λ l. RefusesRecords schema world user l (Unlawful number stored computed)) (sym (records_are header all bytes (journal is))) replay.2,
+    ),
+  )
+  standing_from told header bytes all entries before now (Sealed (Unsafe number)) journal legal sizes replay = (
+    replay.0,
+    λ is. (
+      journal_of header bytes all (journal is),
+      replay.1,
+      subst (λ l. RefusesRecords schema world user l (Unsafe number)) (sym (records_are header all bytes (journal is))) replay.2,
     ),
   )
 
