@@ -8,19 +8,8 @@ use Rattle.cqe_base.specs.Facts.{FactSet}
 use Rattle.cqe_base.specs.History.{UserProfile}
 use Rattle.cqe_base.specs.Run
 use Rattle.cqe_base.specs.Run.{Reply}
-use Rattle.cqe_base.specs.Transcript.{
-  NamedUser,
-  ScriptEvent,
-  Caller,
-  by_session,
-  script_call,
-  script_restart,
-  Line,
-  reply_line,
-  restart_line,
-  written_after,
-  lines_after,
-}
+use Rattle.cqe_base.specs.Transcript.{NamedUser, ScriptEvent, Caller, by_session, script_call, script_restart, Line, reply_line, restart_line, written_after}
+use Rattle.cqe_base.specs.Transcript.{lines_after}
 use Rattle.cqe_base.specs.Transcript.{transcript, line_text}
 use Rattle.batch_engine.specs.BatchLines.{BatchItem, asked, restarted}
 use Rattle.batch_engine.specs.Batch.{IsEventOf, AreEventsOf, line_bytes, is_broken_line, with_opening}

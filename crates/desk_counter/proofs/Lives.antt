@@ -9,20 +9,8 @@ use Rattle.cqe_base.specs.Formula.{Formula}
 use Rattle.cqe_base.specs.Reading.{Refusal, reading}
 use Rattle.cqe_base.specs.History.{AnsweredQuery, History}
 use Rattle.cqe_base.specs.Run as run
-use Rattle.cqe_base.specs.Run.{
-  UserState,
-  want,
-  kept,
-  failed,
-  call,
-  after_event,
-  after_failure,
-  reply_at,
-  reply_at_failure,
-  entry_at,
-  entry_added,
-  standing_open,
-}
+use Rattle.cqe_base.specs.Run.{UserState, want, kept, failed, call, after_event, after_failure, reply_at, reply_at_failure, entry_at, entry_added}
+use Rattle.cqe_base.specs.Run.{standing_open}
 use Rattle.cqe_base.specs.Run.{marked}
 use Rattle.turnstile.specs.History.{Entries}
 use Rattle.user_log.specs.Replies.{reply_of}

@@ -11,19 +11,8 @@ use Rattle.cqe_base.specs.Facts.{FactSet}
 use Rattle.cqe_base.specs.History.{UserProfile, History, AnsweredQuery}
 use Rattle.cqe_base.specs.Run.{Reply, desk_broken, Event, call, restart, want, kept, failed, UserState, entry_at, reply_at, reply_at_failure, after_event}
 use Rattle.cqe_base.specs.Run.{after_events, opening}
-use Rattle.cqe_base.specs.Transcript.{
-  NamedUser,
-  Caller,
-  purpose_of,
-  ScriptEvent,
-  script_call,
-  script_stop,
-  script_restart,
-  script_opening,
-  reply_line,
-  own_event,
-  own_events,
-}
+use Rattle.cqe_base.specs.Transcript.{NamedUser, Caller, purpose_of, ScriptEvent, script_call, script_stop, script_restart, script_opening, reply_line}
+use Rattle.cqe_base.specs.Transcript.{own_event, own_events}
 use Rattle.cqe_base.specs.Transcript.{state_after, told_after, lines_after, transcript}
 use Rattle.cqe_base.proofs.Lists.{one_found}
 use Rattle.log_journal.specs.Walk.{records}

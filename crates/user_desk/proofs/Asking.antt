@@ -12,19 +12,8 @@ use Rattle.cqe_base.specs.Reading.{Refusal, reading}
 use Rattle.cqe_base.specs.History.{UserProfile, AnsweredQuery, History, is_added}
 use Rattle.cqe_base.specs.Run
 use Rattle.cqe_base.specs.Run.{UserState, standing_open, standing_closed, standing_sealed, want, kept, failed, call, stop, after_event, after_failure, reply_at}
-use Rattle.cqe_base.specs.Run.{
-  AsksAreAnswered,
-  is_answer,
-  entry_at,
-  entry_added,
-  marked,
-  reply_by,
-  user_closed,
-  desk_sealed,
-  desk_broken,
-  no_memory,
-  entries_found,
-}
+use Rattle.cqe_base.specs.Run.{AsksAreAnswered, is_answer}
+use Rattle.cqe_base.specs.Run.{entry_at, entry_added, marked, reply_by, user_closed, desk_sealed, desk_broken, no_memory, entries_found}
 use Rattle.outside.specs.Faults.{Rose}
 use Rattle.user_log.specs.Asked.{IsAnswer}
 use Rattle.user_desk.specs.Causes.{Opens}
