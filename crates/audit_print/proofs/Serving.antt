@@ -12,8 +12,8 @@ use Rattle.cqe_base.specs.Facts.{FactSet}
 use Rattle.cqe_base.specs.Formula.{falsum}
 use Rattle.cqe_base.specs.Outcome.{Spent, outcome}
 use Rattle.cqe_base.specs.History.{UserProfile, History, secret_at, log, user_at, added_secrets}
-use Rattle.cqe_base.specs.Censor.{admission_budget}
-use Rattle.cqe_base.specs.OtherWorlds.{guard_at, guard_by}
+use Rattle.cqe_base.specs.Censor.{admission_budget, guard_by}
+use Rattle.cqe_base.specs.OtherWorlds.{guard_at}
 use Rattle.cqe_base.specs.Secrecies.{secrecy_at, HasPairs}
 use Rattle.cqe_base.specs.Truth.{true_in}
 use Rattle.cqe_base.proofs.Confidential.{negated_false}
