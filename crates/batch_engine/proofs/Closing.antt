@@ -147,6 +147,7 @@ module _ (schema : DatabaseSchema) (world : FactSet) (users : List NamedUser) (h
       record {
         holds = λ told. left.is_closed.holds s;
         legal = left.is_closed.legal;
+        sizes = left.is_closed.sizes;
         added = left.is_closed.added;
         items = left.is_closed.items;
         idle = left.is_closed.idle;

@@ -34,6 +34,7 @@ loop-seat-preserved g c =
           (record {
             holds = λ told. closed.holds (g.met.F.Shelf.tells_disks told);
             legal = closed.legal;
+            sizes = closed.sizes;
             added = closed.added;
             items = closed.items;
             idle = closed.idle;
