@@ -208,6 +208,12 @@ amended_asked schema user entries entries' item current guards secrets pushed as
   guarding = was.guarding;
 }
 
+-- behind the items that were pushed he is as he is behind these
+pub amended_pushed : (schema : DatabaseSchema) (user : UserProfile) (entries entries' : History) (item : AnsweredQuery) (current : UserProfile)
+    (guards : GuardedSentences) → entries' ≡ entries ++ item ∷ [] → IsAmended schema user (entries ++ item ∷ []) current guards
+    → IsAmended schema user entries' current guards
+amended_pushed schema user entries entries' item current guards pushed is = subst (λ h. IsAmended schema user h current guards) (sym pushed) is
+
 -- behind one that was added he has its sentence behind his secrets
 pub amended_added : (user : UserProfile) (entries : History) (item : AnsweredQuery) (current made : UserProfile) → SecretsGrow → item.mark ≡ Protected
     → current ≡ user_at user entries → made ≡ with_secrets current (current.secrets ++ item.query ∷ []) → made ≡ user_at user (entries ++ item ∷ [])

@@ -560,9 +560,13 @@ impl<'w> UserLog<'w> {
             amended,
         } = prepared;
         tell(&mut self.views, told, new_entry.mark);
-        if let Some(Amended { user, guards }) = amended {
-            self.current = user;
-            self.guards = guards;
+        match amended {
+            Some(amended) => {
+                let Amended { user, guards } = amended;
+                self.current = user;
+                self.guards = guards;
+            }
+            None => {}
         }
         self.text_bytes += u64::from(new_entry.length);
         self.view_nodes += nodes;

@@ -4,10 +4,9 @@ use Rattle.cqe_base.specs.Formula.{formula_of, nodes, is_sentence_of}
 use Rattle.cqe_base.specs.History.{profile_of, log, told_by, signed_nodes}
 use Rattle.entailment.specs.Logs.{log_nodes}
 use Rattle.entailment.specs.Views.{log_of}
-use Rattle.user_log.specs.Kept.{IsAmended}
 use Rattle.user_log.specs.Prepared.{prepared_entry}
 use Rattle.user_log.specs.UserLogs.{kept_schema, kept_user, kept_history}
-use Rattle.user_log.proofs.Keeping.{kept_push, amended_asked}
+use Rattle.user_log.proofs.Keeping.{kept_push, amended_asked, amended_pushed}
 use Rattle.user_log.proofs.log.UserLog.commit.Goals as goal
 
 pub tell-requires-clause-sentence : goal.tell-requires-clause-sentence
@@ -38,19 +37,18 @@ pub invariant_of-self-in-Some : goal.invariant_of-self-in-Some
 invariant_of-self-in-Some c =
     let before = c.args.self.now in
     let entry = prepared_entry c.args.prepared in
-    let pushed = grind (arith, common_steps) in
     record {
       kept = kept_push _ _ _ _ _ entry _ _ _ _ _ _ _ _ before.kept c.law_legal_grows.ensures.grows c.law_logs.ensures.grows
           c.law_added_secrets.ensures.grows c.requires.sizes c.requires.legal
           (grind (arith, common_steps)) c.tell.ensures.schema
           (c.tell.ensures.told ∙ ap (λ q. log_of before.views ++ told_by entry.mark q) c.requires.told) c.from.ensures c.requires.nodes;
-      amended = subst (λ entries. IsAmended (kept_schema before) (kept_user before) entries (profile_of c.in-Some.user) c.in-Some.guards) (sym pushed)
-          (rw c.in-Some.is at c.requires.amended);
+      amended = amended_pushed (kept_schema before) (kept_user before) (kept_history before) _ entry (profile_of c.in-Some.amended.user)
+          c.in-Some.amended.guards (grind (arith, common_steps)) (rw c.in-Some.is at c.requires.amended);
     }
 
 -- behind one that was asked he is as he was
-pub invariant_of-self : goal.invariant_of-self
-invariant_of-self c =
+pub invariant_of-self-in-None : goal.invariant_of-self-in-None
+invariant_of-self-in-None c =
     let before = c.args.self.now in
     let entry = prepared_entry c.args.prepared in
     record {
