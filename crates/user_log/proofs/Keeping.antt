@@ -1,7 +1,7 @@
 -- What is kept of a user, from the empty history and item by item.
 use Rattle.std.proofs.Common.{◌≡◌, ◌≤◌, ℕ, ◌+◌, Bool, true, false, List, [], ◌∷◌, ◌++◌, length, refl, sym, ap, ◌∙◌, subst, append-nil, arith}
 use Rattle.std.proofs.Common.{length-append}
-use Rattle.std.specs.Prelude.{◌⊎◌, sum_by, Option, Ok, if◌then◌else◌}
+use Rattle.std.specs.Prelude.{◌⊎◌, sum_by, Option, Some, None, Ok, if◌then◌else◌}
 use Rattle.std.proofs.Common.{inl, inr}
 use Rattle.std.proofs.lemmas.Bool.{both_ways, or_parts}
 use Rattle.std.proofs.lemmas.Grind.{common_steps}
@@ -18,12 +18,14 @@ use Rattle.cqe_base.specs.Formula.{Formula}
 use Rattle.cqe_base.specs.Truth.{true_in}
 use Rattle.cqe_base.specs.Entailment.{Signed}
 use Rattle.cqe_base.specs.History.{UserProfile, AnsweredQuery, History, EmptyLogIsKnown, LogsGrow, SecretsGrow, told_by, is_added, user_at, log, view_size}
-use Rattle.cqe_base.specs.History.{known, with_secrets, secrets_by, added_secrets}
+use Rattle.cqe_base.specs.History.{profile_of, known, with_secrets, secrets_by, added_secrets}
 use Rattle.cqe_base.specs.Censor.{AreFindings, FindingsDecide, RulesAddNone, IsLegalItem, EmptyHistoryIsLegal, LegalHistoriesGrow, mark_by, rule}
 use Rattle.cqe_base.specs.Censor.{mark_after, safe_after}
 use Rattle.cqe_base.specs.Limits.{KeepsLimits, KeepsSizes, KeepsSizesAt}
 use Rattle.censors.specs.Guards.{GuardedSentences}
 use Rattle.user_log.specs.Kept.{IsConsistentLog, IsAmended}
+use Rattle.user_log.specs.Prepared.{IsBehind, IsAmendedTo}
+use Rattle.user_log.specs.declared.prepared.Amended.{Amended}
 use Rattle.user_log.specs.Nodes.{told_nodes}
 use Rattle.user_log.proofs.Sizes.{view_size-push}
 
@@ -197,7 +199,7 @@ asked_adds Undecided sentence asked = refl
 asked_adds Protected sentence asked = absurd cc
 
 -- behind one that was asked he is as he was
-pub amended_asked : (schema : DatabaseSchema) (user : UserProfile) (entries entries' : History) (item : AnsweredQuery) (current : UserProfile)
+amended_asked : (schema : DatabaseSchema) (user : UserProfile) (entries entries' : History) (item : AnsweredQuery) (current : UserProfile)
     (guards : GuardedSentences) → SecretsGrow → entries' ≡ entries ++ item ∷ [] → is_added item.mark ≡ false
     → IsAmended schema user entries current guards → IsAmended schema user entries' current guards
 amended_asked schema user entries entries' item current guards secrets pushed asked was = record {
@@ -208,11 +210,19 @@ amended_asked schema user entries entries' item current guards secrets pushed as
   guarding = was.guarding;
 }
 
--- behind the items that were pushed he is as he is behind these
-pub amended_pushed : (schema : DatabaseSchema) (user : UserProfile) (entries entries' : History) (item : AnsweredQuery) (current : UserProfile)
-    (guards : GuardedSentences) → entries' ≡ entries ++ item ∷ [] → IsAmended schema user (entries ++ item ∷ []) current guards
-    → IsAmended schema user entries' current guards
-amended_pushed schema user entries entries' item current guards pushed is = subst (λ h. IsAmended schema user h current guards) (sym pushed) is
+-- the user in place is the one behind the items that were pushed
+pub amended_behind : (schema : DatabaseSchema) (user : UserProfile) (entries entries' : History) (item : AnsweredQuery) (amended : Option Amended)
+    (current current' : UserProfile) (guards guards' : GuardedSentences) → SecretsGrow → entries' ≡ entries ++ item ∷ []
+    → IsBehind schema user entries item amended → IsAmendedTo amended current guards current' guards' → IsAmended schema user entries current guards
+    → IsAmended schema user entries' current' guards'
+amended_behind schema user entries entries' item None current current' guards guards' secrets pushed asked to was =
+    subst (λ u. IsAmended schema user entries' u guards') (sym to.0)
+    (subst (λ g. IsAmended schema user entries' current g) (sym to.1)
+    (amended_asked schema user entries entries' item current guards secrets pushed asked was))
+amended_behind schema user entries entries' item (Some amended) current current' guards guards' secrets pushed behind to was =
+    subst (λ h. IsAmended schema user h current' guards') (sym pushed)
+    (subst (λ u. IsAmended schema user (entries ++ item ∷ []) u guards') (sym to.0)
+    (subst (λ g. IsAmended schema user (entries ++ item ∷ []) (profile_of amended.user) g) (sym to.1) behind))
 
 -- behind one that was added he has its sentence behind his secrets
 pub amended_added : (user : UserProfile) (entries : History) (item : AnsweredQuery) (current made : UserProfile) → SecretsGrow → item.mark ≡ Protected

@@ -8,6 +8,7 @@ use Rattle.cqe_base.specs.History.{answered_query_of, is_added}
 use Rattle.cqe_base.specs.Censor.{IsLegalItem}
 use Rattle.cqe_base.specs.Limits.{KeepsSizesAt}
 use Rattle.entailment.specs.Views.{room_of}
+use Rattle.censors.specs.Guards.{GuardedSentences}
 use Rattle.user_log.specs.Kept.{IsAmended}
 use Rattle.user_log.specs.Nodes.{told_nodes}
 use Rattle.user_log.specs.UserLogs.{kept_schema, kept_world, kept_user, kept_history}
@@ -26,6 +27,14 @@ abbrev pub IsBehind : DatabaseSchema → UserProfile → History → AnsweredQue
 IsBehind schema user before item None = is_added item.mark ≡ false
 IsBehind schema user before item (Some amended) =
     IsAmended schema user (before ++ item ∷ []) (profile_of amended.user) amended.guards
+
+-- such a user and what is guarded from him have come in the place of those that were there, if
+-- there is one
+abbrev pub IsAmendedTo : Option Amended → UserProfile → GuardedSentences → UserProfile
+    → GuardedSentences → Type 0
+IsAmendedTo None before guards now now_guards = (now ≡ before) × (now_guards ≡ guards)
+IsAmendedTo (Some amended) before guards now now_guards =
+    (now ≡ profile_of amended.user) × (now_guards ≡ amended.guards)
 
 -- the item is legal behind the others and within the limits, its sentence is there once more, there
 -- is room for both, and the user is there as he is behind it

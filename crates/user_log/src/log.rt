@@ -19,6 +19,7 @@ ghost use Rattle.censors.specs.Found.{HasFindings};
 ghost use Rattle.user_log.specs.Nodes.{told_nodes};
 ghost use Rattle.user_log.specs.Kept.{IsConsistentLog, IsConsistentLog-prop, IsAmended};
 ghost use Rattle.user_log.specs.Kept.{IsAmended-prop};
+ghost use Rattle.user_log.specs.Prepared.{IsAmendedTo};
 ghost use Rattle.entailment.specs.GroundSentences.{sentence_of, IsGroundOver};
 
 use crate::prepared::Amended;
@@ -560,14 +561,7 @@ impl<'w> UserLog<'w> {
             amended,
         } = prepared;
         tell(&mut self.views, told, new_entry.mark);
-        match amended {
-            Some(amended) => {
-                let Amended { user, guards } = amended;
-                self.current = user;
-                self.guards = guards;
-            }
-            None => {}
-        }
+        amend(&mut self.current, &mut self.guards, amended);
         self.text_bytes += u64::from(new_entry.length);
         self.view_nodes += nodes;
         self.entries.push_reserved(new_entry);
@@ -615,6 +609,21 @@ impl<'w> UserLog<'w> {
             },
             Err(_) => Reply::Memory,
         }
+    }
+}
+
+/// Puts a user with one more secret in the place of the user as he was, if there is one.
+fn amend<'w>(current: &mut User, guarding: &mut Guards<'w>, amended: Option<Amended<'w>>)
+    ensures { IsAmendedTo amended (profile_of current.old) guarding.old (profile_of current.new)
+        guarding.new }
+{
+    match amended {
+        Some(amended) => {
+            let Amended { user, guards } = amended;
+            *current = user;
+            *guarding = guards;
+        }
+        None => {}
     }
 }
 

@@ -6,7 +6,7 @@ use Rattle.entailment.specs.Logs.{log_nodes}
 use Rattle.entailment.specs.Views.{log_of}
 use Rattle.user_log.specs.Prepared.{prepared_entry}
 use Rattle.user_log.specs.UserLogs.{kept_schema, kept_user, kept_history}
-use Rattle.user_log.proofs.Keeping.{kept_push, amended_asked, amended_pushed}
+use Rattle.user_log.proofs.Keeping.{kept_push, amended_behind}
 use Rattle.user_log.proofs.log.UserLog.commit.Goals as goal
 
 pub tell-requires-clause-sentence : goal.tell-requires-clause-sentence
@@ -32,9 +32,8 @@ tell-requires-clause-nodes c =
     (subst (λ q. log_nodes (kept_schema before) (log (kept_user before) (kept_history before)) + signed_nodes (kept_schema before) q yes
     ≤ 60000) (sym c.requires.told) (fits.log_nodes yes)))
 
--- behind an item that was added the user is the one that was prepared
-pub invariant_of-self-in-Some : goal.invariant_of-self-in-Some
-invariant_of-self-in-Some c =
+pub invariant_of-self : goal.invariant_of-self
+invariant_of-self c =
     let before = c.args.self.now in
     let entry = prepared_entry c.args.prepared in
     record {
@@ -42,20 +41,7 @@ invariant_of-self-in-Some c =
           c.law_added_secrets.ensures.grows c.requires.sizes c.requires.legal
           (grind (arith, common_steps)) c.tell.ensures.schema
           (c.tell.ensures.told ∙ ap (λ q. log_of before.views ++ told_by entry.mark q) c.requires.told) c.from.ensures c.requires.nodes;
-      amended = amended_pushed (kept_schema before) (kept_user before) (kept_history before) _ entry (profile_of c.in-Some.amended.user)
-          c.in-Some.amended.guards (grind (arith, common_steps)) (rw c.in-Some.is at c.requires.amended);
-    }
-
--- behind one that was asked he is as he was
-pub invariant_of-self-in-None : goal.invariant_of-self-in-None
-invariant_of-self-in-None c =
-    let before = c.args.self.now in
-    let entry = prepared_entry c.args.prepared in
-    record {
-      kept = kept_push _ _ _ _ _ entry _ _ _ _ _ _ _ _ before.kept c.law_legal_grows.ensures.grows c.law_logs.ensures.grows
-          c.law_added_secrets.ensures.grows c.requires.sizes c.requires.legal
-          (grind (arith, common_steps)) c.tell.ensures.schema
-          (c.tell.ensures.told ∙ ap (λ q. log_of before.views ++ told_by entry.mark q) c.requires.told) c.from.ensures c.requires.nodes;
-      amended = amended_asked (kept_schema before) (kept_user before) (kept_history before) _ entry (profile_of before.current) before.guards
-          c.law_added_secrets.ensures.grows (grind (arith, common_steps)) (rw c.in-None.is at c.requires.amended) before.amended;
+      amended = amended_behind (kept_schema before) (kept_user before) (kept_history before) _ entry c.args.prepared.amended
+          (profile_of before.current) (profile_of c.amend.new.current) before.guards c.amend.new.guarding c.law_added_secrets.ensures.grows
+          (grind (arith, common_steps)) c.requires.amended c.amend.ensures before.amended;
     }
