@@ -82,15 +82,6 @@ below_few count ws i m le = let less = below_times count ws i in omega arith
 
 -- ---- the literals that a clause watches
 
--- a literal that is one of them
-pub watched_one : (p : Pair) (l : Literal) → 0 < times_watched p l → (p.first ≡ l) ⊎ (p.second ≡ l)
-watched_one p l h = step (same_literal p.first l) (same_literal p.second l) refl refl h
-  where
-    step : (a b : Bool) → same_literal p.first l ≡ a → same_literal p.second l ≡ b → 0 < one_if a + one_if b → (p.first ≡ l) ⊎ (p.second ≡ l)
-    step true b e f lt = inl (same_literal-true p.first l e)
-    step false true e f lt = inr (same_literal-true p.second l f)
-    step false false e f lt = absurd (let none : 0 < 0 = lt in omega arith)
-
 beside_times : (p : Pair) (f other l : Literal) → WatchesBeside p f other → times_watched p l ≡ one_if (same_literal f l) + one_if (same_literal other l)
 beside_times p f other l beside = ⊎_elim
     (λ e. ap (λ m. one_if (same_literal m l) + one_if (same_literal p.second l)) e.0 ∙ ap (λ m. one_if (same_literal f l) + one_if (same_literal m l)) e.1)

@@ -1,7 +1,6 @@
 //! What is done with the disk of one user.
-ghost use Rattle.std.specs.Prelude.{◌≡◌, ◌≢◌, ◌≤◌, ◌++◌, ◌∷◌, [], List, ℕ, true, false, Some, IfOk};
+ghost use Rattle.std.specs.Prelude.{◌≡◌, ◌≢◌, ◌≤◌, [], false, Some};
 ghost use Rattle.std.specs.Prelude.{OnOk, IfErr};
-ghost use Rattle.outside.specs.Disk.{Only};
 ghost use Rattle.outside.specs.Faults.{HasCause};
 ghost use Rattle.outside.specs.Shelf.{SameNames, SameOthers, NoneFell, bytes_on};
 ghost use Rattle.log_journal.specs.Opening.{header_bytes};

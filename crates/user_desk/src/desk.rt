@@ -1,5 +1,5 @@
 //! A desk between its opening and its close.
-ghost use Rattle.std.specs.Prelude.{◌≡◌, ◌≤◌, ◌++◌, ◌∷◌, [], true, false, List, ℕ, length, map};
+ghost use Rattle.std.specs.Prelude.{◌≡◌, ◌≤◌, ◌++◌, [], true, false, List, ℕ, length, map};
 ghost use Rattle.std.specs.Prelude.{option_map, option_to_list, is_some, None, IfSome, IfNone, ◌↔◌};
 ghost use Rattle.std.specs.Prelude.{IsTrue, IfOk};
 ghost use Rattle.outside.specs.Disk.{Elapses};

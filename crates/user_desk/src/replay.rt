@@ -1,5 +1,5 @@
 //! The records of a journal, gone through as the entries of a user.
-ghost use Rattle.std.specs.Prelude.{◌≡◌, ◌≤◌, true, IfOk, Some, All, map, ◌↔◌, IsTrue};
+ghost use Rattle.std.specs.Prelude.{◌≡◌, true, IfOk, Some, All, map, ◌↔◌, IsTrue};
 ghost use Rattle.cqe_base.specs.History.{profile_of};
 ghost use Rattle.cqe_base.specs.Limits.{KeepsLimits};
 ghost use Rattle.cqe_base.specs.Censor.{admitted};

@@ -1,11 +1,8 @@
-use Rattle.std.proofs.Common.{◌≡◌, ◌+◌, ◌≤◌, true, nat_le, All, map, refl, sym, ap, subst, ◌∙◌}
-use Rattle.std.specs.List.{list_all}
-use Rattle.cqe_base.specs.Formula.{Formula, nodes, is_sentence_of}
+use Rattle.std.proofs.Common.{map, sym, ap, subst, ◌∙◌}
 use Rattle.cqe_base.specs.History.{profile_of}
 use Rattle.cqe_base.specs.Censor.{guarded}
-use Rattle.entailment.specs.Logs.{log_nodes}
-use Rattle.entailment.specs.Views.{LogView, schema_of, log_of}
-use Rattle.entailment.specs.GroundSentences.{sentence_of, IsGroundOver}
+use Rattle.entailment.specs.Views.{schema_of, log_of}
+use Rattle.entailment.specs.GroundSentences.{sentence_of}
 use Rattle.censors.specs.Found.{HasFindings}
 use Rattle.censors.proofs.Found.{found_by, same_harms}
 use Rattle.censors.proofs.Costs.{spent-by-cost, decide-undecided}

@@ -1,4 +1,4 @@
-use Rattle.std.proofs.Common.{◌≡◌, ◌≤◌, nat_le, true, [], ◌∷◌, ◌++◌, All, map, subst, sym, ap, ◌∙◌}
+use Rattle.std.proofs.Common.{◌≤◌, nat_le, true, [], ◌∷◌, ◌++◌, All, map, subst, sym, ap, ◌∙◌}
 use Rattle.std.proofs.lemmas.List.{map-append}
 use Rattle.std.proofs.lemmas.List.Elements.{All-push}
 use Rattle.std.proofs.lemmas.Bool.{leb-true}
