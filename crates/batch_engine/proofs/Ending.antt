@@ -1,6 +1,6 @@
 -- A batch from its opening to the disks that are back.
-use Rattle.std.proofs.Common.{◌≡◌, ◌⊎◌, inl, inr, ℕ, Bool, false, true, List, [], ◌∷◌, ◌++◌, map, take, refl, sym, ap, subst, ◌∙◌}
-use Rattle.std.specs.Prelude.{Option, All}
+use Rattle.std.proofs.Common.{◌≡◌, ◌⊎◌, ℕ, Bool, false, true, List, [], ◌∷◌, ◌++◌, map, take, refl, sym, ap, subst, ◌∙◌}
+use Rattle.std.specs.Prelude.{Option, All, ◌||◌}
 use Rattle.std.specs.List.{AllByRecursion}
 use Rattle.std.proofs.lemmas.List.Elements.{All-head, All-tail}
 use Rattle.script_lines.specs.Scripts.{script_from}
@@ -20,11 +20,11 @@ use Rattle.desk_crew.specs.Openings.{OpensNone, OpensWith}
 use Rattle.batch_engine.specs.Batch.{AppendsAll, AppendsSome, AppendsTo, unopened}
 use Rattle.desk_crew.specs.Crew.{named_user}
 use Rattle.desk_crew.specs.Shelved.{Journals, journals_by, AreBack, AreSeatsOf}
-use Rattle.batch_engine.specs.Steps.{Runs, nothing, more, RunsAll, RunsSome, RunsTo, IsLastLine}
+use Rattle.batch_engine.specs.Steps.{Runs, nothing, more, RunsAll, RunsSome, RunsTo}
 use Rattle.desk_crew.specs.Seats.{DeskSeat}
 use Rattle.batch_engine.proofs.Courses.{IsExclusive}
 use Rattle.batch_engine.proofs.Seating.{names, AreSeated, AreBegun, begin_all, Chosen, choose}
-use Rattle.batch_engine.proofs.Telling.{SoFar, so_far_first, so_far_more, LastLine, no_last, last_carried}
+use Rattle.batch_engine.proofs.Telling.{SoFar, so_far_first, so_far_more, adds_all}
 use Rattle.batch_engine.proofs.Closing.{clock_of, bytes_of, count_of, images_of, names_unopened, limits_named, answered_all, answered_some}
 
 -- what is read from a batch without items is the batch of the bytes
@@ -40,16 +40,20 @@ module _ (schema : DatabaseSchema) (world : FactSet) (header : List ℕ) {D : Ty
   all_alone is_broken all = record { output = all.output; appended = λ w. refl; runs = all.runs }
 
   pub some_alone : (some : RunsSome schema world header T Disk wrote items old new before after)
-      → RunsSome schema world header T Disk (Unit {0}) items old new [] (some.output ++ take 0 some.line)
+      → RunsSome schema world header T Disk (Unit {0}) items old new [] (some.output ++ take 0 some.lines)
   some_alone some =
       record {
-        front = some.front;
+        earlier = some.earlier;
+        stretch = some.stretch;
         back = some.back;
         split = some.split;
+        one = some.one;
+        mid = some.mid;
         output = some.output;
-        line = some.line;
-        is_broken = some.is_broken;
-        runs = some.runs;
+        lines = some.lines;
+        was_broken = some.was_broken;
+        says_broken = some.says_broken;
+        first = some.first;
         last = some.last;
         appended = λ w. (0, refl);
       }
@@ -186,28 +190,7 @@ module _ (schema : DatabaseSchema) (world : FactSet) (header directory : List �
       let all = finish_all wrote w to.front new to.is_broken before after to.all back in
       record { front = to.front; rest = to.rest; split = to.split; written = all.written; appended = all.appended; answers = all.answers }
 
-  last_run : (st : Start) (front : List BatchItem) (new : List (DeskSeat D g h)) (output line : List ℕ) (is_broken : Bool)
-      → Runs schema world header T Disk front seats (output ++ line) new is_broken
-      → (line ≡ []) ⊎ IsLastLine schema world header T Disk front seats new output line
-      → LastLine schema world st.named header directory T Disk t read_is_image
-      (clock_of Disk only_now directory disk) (bytes_of Disk.reads directory disk) (count_of directory count)
-      (images_of Disk.image directory disk) st.found st.opened front output line new
-  last_run st front new output line is_broken runs (inl none) =
-      no_last schema world st.named header directory T Disk t read_is_image
-      (clock_of Disk only_now directory disk) (bytes_of Disk.reads directory disk) (count_of directory count)
-      (images_of Disk.image directory disk) st.found st.opened front output line new is_broken none
-      (so_far_run st front new (output ++ line) is_broken runs)
-  last_run st front new output line is_broken runs (inr last) =
-      subst (λ items. LastLine schema world st.named header directory T Disk t read_is_image
-      (clock_of Disk only_now directory disk) (bytes_of Disk.reads directory disk)
-      (count_of directory count) (images_of Disk.image directory disk) st.found st.opened items output line new) (sym last.split)
-      (last_carried schema world st.named header directory T Disk t read_is_image
-      (clock_of Disk only_now directory disk) (bytes_of Disk.reads directory disk) (count_of directory count)
-      (images_of Disk.image directory disk) st.found st.opened exclusive st.differ last.first output last.mid new last.was_broken last.says_broken last.item
-      line
-      (so_far_run st last.first last.mid output last.was_broken last.runs) last.carried)
-
-  -- the first items were
+  -- some first stretches were
   finish_some : (wrote : Type 0) → wrote → (items : List BatchItem) (new : List (DeskSeat D g h)) (before after : List ℕ)
       → RunsSome schema world header T Disk wrote items seats new before after
       → AreBack S Disk disk' count' new
@@ -216,12 +199,16 @@ module _ (schema : DatabaseSchema) (world : FactSet) (header directory : List �
   finish_some wrote w items new before after some back =
       let st = start in
       let part = some.appended w in
+      let so_far = so_far_run st some.earlier some.mid some.output some.was_broken some.first in
       answered_some schema world st.named header directory T S s Disk t read_is_image only_now disk disk' count count' empty runs_legal
       hide alone valid
       (map named_user users) st.of_policy st.differ
-      (limits_named schema users st.named st.of_policy limits) st.openings st.found st.opened some.front some.back items part.0 before some.output some.line
-      after new
-      (last_run st some.front new some.output some.line some.is_broken some.runs some.last) back part.1 some.split
+      (limits_named schema users st.named st.of_policy limits) st.openings st.found st.opened some.earlier some.stretch some.back items part.0 before
+      some.output some.lines after some.mid new some.was_broken (some.was_broken || some.says_broken) so_far
+      (adds_all schema world st.named header directory T Disk t read_is_image
+      (clock_of Disk only_now directory disk) (bytes_of Disk.reads directory disk) (count_of directory count)
+      (images_of Disk.image directory disk) st.found st.opened exclusive st.differ some.earlier some.stretch some.output some.lines some.mid new
+      some.was_broken some.says_broken so_far some.last) back part.1 some.split some.one
 
   pub finishes : Finishes schema world header T S Disk
       (journals_by Disk.reads Disk.image Disk.moment Disk.image_since directory disk disk' count count') (map named_user users) seats disk' count'

@@ -18,8 +18,10 @@ use Rattle.desk_crew.specs.Openings.{OpensWith}
 use Rattle.desk_crew.specs.Shelved.{Journals}
 use Rattle.batch_engine.specs.Batch.{ServesUser, AnswersBatch, unopened}
 use Rattle.batch_engine.specs.BatchLines.{BatchItem}
+use Rattle.std.proofs.lemmas.List.Folds.{list_any-append}
+use Rattle.std.proofs.lemmas.Bool.{or_left}
 use Rattle.batch_engine.specs.Lives.{is_opened}
-use Rattle.batch_engine.specs.Joining.{call_of, cut_call_of, cut_span_of, BatchesAreCalls, BatchesAreSpans, IsCutBatch, CutBatchesAreCalls}
+use Rattle.batch_engine.specs.Joining.{call_of, cut_call_of, cut_span_of, BatchesAreCalls, BatchesAreSpans, IsCutBatch, CutBatchesAreCalls, LaterCutsAreCalls}
 use Rattle.batch_engine.specs.Joining.{IsNamed, script_of, IsOpenedTo, IsAnsweredTo, IsCutRun, BatchesJoin, CutBatchesJoin}
 use Rattle.batch_engine.proofs.Along.{goes_on}
 
@@ -131,6 +133,18 @@ cut_batches_are_calls journals schema world header users script user serves held
       split = amid.split;
       over = record { opens = opens; replied = refl; holds = amid.holds };
       part = part_of schema world header (journals.bytes user.name) user amid.more left opens amid.holds;
+    }
+
+pub later_cuts_are_calls : (journals : Journals) → LaterCutsAreCalls journals
+later_cuts_are_calls journals schema world header users script user serves front rest split ends held left at =
+    let behind = (serves.closings front rest split ends held).behind left at in
+    let some : list_any is_opened (own_events user.name script) ≡ true =
+    ap (list_any is_opened) split ∙ list_any-append is_opened front rest ∙ or_left (list_any is_opened front) (list_any is_opened rest) held in
+    record {
+      more = behind.more;
+      further = behind.further;
+      split = behind.split;
+      over = record { opens = opens_at schema world header journals users script user serves some; replied = refl; holds = behind.holds };
     }
 
 -- a batch that was answered, to the user of a name

@@ -19,7 +19,7 @@ use Rattle.cqe_base.specs.Transcript.{NamedUser, ScriptEvent, script_ask, own_ev
 use Rattle.cqe_base.proofs.Lists.{other_text, text_is}
 use Rattle.cqe_base.proofs.Truths.{or_first, or_second}
 use Rattle.user_desk.specs.Causes.{Opens, OpensWithin, IsStanding}
-use Rattle.user_desk.specs.Lives.{Holds, HoldsAmid, Restarts, IsState}
+use Rattle.user_desk.specs.Lives.{Holds, HoldsFrom, HoldsAmid, Restarts, IsState}
 use Rattle.user_desk.specs.Standings.{is_sealed}
 use Rattle.desk_counter.specs.declared.item.Fixed.{Fixed}
 use Rattle.desk_counter.specs.Items.{flying}
@@ -28,7 +28,7 @@ use Rattle.desk_counter.specs.Sole.{pairs_of_sole}
 use Rattle.log_journal.specs.Names.{journal_name}
 use Rattle.desk_crew.specs.Openings.{OpensNone, OpensWith}
 use Rattle.batch_engine.specs.Batch.{unopened}
-use Rattle.batch_engine.specs.Lives.{is_ask, is_opened}
+use Rattle.batch_engine.specs.Lives.{is_ask, is_opened, is_opening}
 use Rattle.desk_crew.specs.Shelved.{IsSeatOf, AreSeatsOf}
 use Rattle.desk_crew.specs.Crew.{named_user, first_refusal, seat_user, seat_name, seat_journal, seat_kept, seat_standing, seat_history, seat_state, seat_disk}
 use Rattle.desk_crew.specs.Crew.{IsSeatIn, IsSeatAsOpened, is_named, IsClosed, IsSeatServed, IsToldAt, IsReopened, AreReopened, Tells, nobody, here, further}
@@ -36,7 +36,8 @@ use Rattle.desk_crew.proofs.Asking.{still_served}
 use Rattle.desk_crew.specs.Seats.{DeskSeat}
 use Rattle.batch_engine.proofs.Courses.{any-push, Course, course_on, stays_on, IsRunning, IsLiving, live, closing, Asked, ask_step, Restarted, IsExclusive}
 use Rattle.batch_engine.proofs.Courses.{open_step}
-use Rattle.batch_engine.proofs.Along.{Clock, IsAlong, along_first, along_event, along_on, along_open, amid_all, amid_within, no_fewer, shown_at}
+use Rattle.batch_engine.proofs.Along.{Clock, IsAlong, IsAlongClosed, along_first, along_event, along_on, along_open, along_closed, amid_all, amid_within}
+use Rattle.batch_engine.proofs.Along.{behind_front, run_on, no_fewer, shown_at, BeginsLife, CutBefore, cut_push}
 use Rattle.desk_crew.proofs.Lasting.{taken_moment}
 
 -- ---- lists and texts
@@ -87,6 +88,28 @@ module _ (schema : DatabaseSchema) (world : FactSet) (header : List ℕ) (bytes 
   first_course user name opened now c counted same (inr (none, empty)) =
       record { later = omega (arith, counted); caused = tt; fits = inr (none, empty, same, refl); refused = refl }
 
+module _ (schema : DatabaseSchema) (world : FactSet) where
+  -- at the end of each stretch before the last opening there were at most so many entries
+  abbrev pub HasFewer : NamedUser → List Event → ℕ → Type 0
+  HasFewer user events count =
+      (front rest : List Event) → events ≡ front ++ rest → BeginsLife rest
+      → length (after_events schema world user.profile (opening schema world user.profile user.opened) front).entries ≤ count
+
+  -- an event that isn't an opening ends no stretch
+  fewer_asked : (user : NamedUser) (events : List Event) (event : Event) (count : ℕ) → is_opening event ≡ false → HasFewer user events count
+      → HasFewer user (events ++ event ∷ []) count
+  fewer_asked user events event count isnt fewer front rest split begins = by (cut_push events event front rest split)
+    where
+      of_less : (less : List Event) → rest ≡ less ++ event ∷ [] → events ≡ front ++ less
+          → length (after_events schema world user.profile (opening schema world user.profile user.opened) front).entries ≤ count
+      of_less [] is whole = let e : true ≡ false = sym (subst BeginsLife is begins) ∙ isnt in absurd cc
+      of_less (next ∷ less) is whole = fewer front (next ∷ less) whole (subst BeginsLife is begins)
+
+      by : ((front ≡ events ++ event ∷ []) × (rest ≡ [])) ⊎ CutBefore events event front rest
+          → length (after_events schema world user.profile (opening schema world user.profile user.opened) front).entries ≤ count
+      by (inl whole) = absurd (subst BeginsLife whole.1 begins)
+      by (inr part) = of_less part.less part.rest_is part.split
+
 module _ (schema : DatabaseSchema) (world : FactSet) (header directory : List ℕ) {D : Type 0} {g h : _} (T : Type 0) (Disk : DiskGhosts D) (t : T)
     (read_is_image : (d : D) → T → Disk.image d (Disk.reads d)) (clock : Clock Disk)
     (bytes : Text → List ℕ) (before : Text → ℕ) (images : Text → List ℕ → Type 0) where
@@ -99,12 +122,15 @@ module _ (schema : DatabaseSchema) (world : FactSet) (header directory : List �
     pub living : IsLiving schema world user.profile header (bytes user.name) (before user.name) (images user.name) user.opened events (seat_standing seat)
         (seat_state seat) (Disk.image (seat_disk seat)) (Disk.reads (seat_disk seat)) (Disk.faults (seat_disk seat)) seat.refusal
     pub fresh : list_any is_ask events ≡ false → IsSeatAsOpened seat
-    -- the moment at which the call began, and what each crash could leave since; at his desk's opening there were as many entries as at first
+    -- the moments at which the call began and his journal was first opened, and what each crash could leave since; at his desk's opening there were as many
+    -- entries as at first, and as at the end of each stretch before
     pub began : ℕ
     pub began_is : IfSome (clock.begins user.name) (λ begun. begun ≡ began)
-    pub along : IsAlong schema world user.profile header (images user.name) user.opened began events (Disk.moment (seat_disk seat))
+    pub opens_at : ℕ
+    pub along : IsAlong schema world user.profile header (images user.name) user.opened began opens_at events (Disk.moment (seat_disk seat))
         (Disk.image_since (seat_disk seat))
     pub least : is_sealed (seat_standing seat) ≡ false → length user.opened ≤ length (seat_kept seat).opening
+    pub fewer : is_sealed (seat_standing seat) ≡ false → HasFewer schema world user events (length (seat_kept seat).opening)
 
   -- all do, behind the events of a script
   abbrev pub AreSeated : List ScriptEvent → List NamedUser → List (DeskSeat D g h) → Type 0
@@ -150,13 +176,17 @@ module _ (schema : DatabaseSchema) (world : FactSet) (header directory : List �
           fresh = λ none. let e : true ≡ false = sym (any-push is_ask events (ask text asked.ending) ∙ or-true (list_any is_ask events)) ∙ none in absurd cc;
           began = seated.began;
           began_is = seated.began_is;
+          opens_at = seated.opens_at;
           along = subst (λ (f : Fixed D).
-              IsAlong schema world user.profile header (images user.name) user.opened seated.began (events ++ ask text asked.ending ∷ []) (Disk.moment f.disk)
-              (Disk.image_since f.disk)) (sym kept)
-              (along_event schema world user.profile header (images user.name) user.opened seated.began events (ask text asked.ending)
-              (Disk.moment (seat_disk old)) (Disk.image_since (seat_disk old)) refl seated.along);
+              IsAlong schema world user.profile header (images user.name) user.opened seated.began seated.opens_at (events ++ ask text asked.ending ∷ [])
+              (Disk.moment f.disk) (Disk.image_since f.disk)) (sym kept)
+              (along_event schema world user.profile header (images user.name) user.opened seated.began seated.opens_at events (ask text asked.ending)
+              (Disk.moment (seat_disk old)) (Disk.image_since (seat_disk old)) refl (λ opens. absurd cc) seated.along);
           least = λ served. subst (λ (f : Fixed D). length user.opened ≤ length f.opening) (sym kept)
               (seated.least (ap (λ (f : Fixed D). is_sealed f.standing) (sym kept) ∙ served));
+          fewer = λ served. subst (λ (f : Fixed D). HasFewer schema world user (events ++ ask text asked.ending ∷ []) (length f.opening)) (sym kept)
+              (fewer_asked schema world user events (ask text asked.ending) (length (seat_kept old).opening) refl
+              (seated.fewer (ap (λ (f : Fixed D). is_sealed f.standing) (sym kept) ∙ served)));
         };
       }
 
@@ -261,18 +291,25 @@ module _ (schema : DatabaseSchema) (world : FactSet) (header directory : List �
   -- what each crash could leave up to a close
   pub along_at : (user : NamedUser) (events : List Event) (seat : DeskSeat D g h) (disk : D) (seated : IsSeated user events seat)
       → IsClosed T Disk seat.desk disk
-      → IsAlong schema world user.profile header (images user.name) user.opened seated.began events (Disk.moment disk) (Disk.image_since disk)
-  along_at user events seat disk seated closed = by (is_sealed (seat_standing seat)) refl
+      → IsAlongClosed schema world user.profile header (images user.name) user.opened seated.began seated.opens_at events (Disk.moment disk)
+      (Disk.image_since disk)
+  along_at user events seat disk seated closed =
+      along_closed schema world user.profile header (images user.name) user.opened seated.began seated.opens_at events (Disk.moment disk)
+      (Disk.image_since disk) (by (is_sealed (seat_standing seat)) refl)
+      (λ some c at. (close_at user events seat disk seated closed).stays.stands some c (clock.only_now disk c at))
     where
-      state : UserState
-      state = after_events schema world user.profile (opening schema world user.profile user.opened) events
+      first : UserState
+      first = opening schema world user.profile user.opened
 
-      amid : is_sealed (seat_standing seat) ≡ false → (c : List ℕ) → Disk.image_since disk (Disk.moment (seat_disk seat)) c
-          → HoldsAmid schema world user.profile header (opening schema world user.profile user.opened) events c
-      amid served c at =
+      state : UserState
+      state = after_events schema world user.profile first events
+
+      -- what a crash leaves amid the asks opens a desk with at least the entries at the opening
+      within : is_sealed (seat_standing seat) ≡ false → (c : List ℕ) → Disk.image_since disk (Disk.moment (seat_disk seat)) c
+          → OpensWithin schema world user.profile header (length (seat_kept seat).opening) (state.entries ++ option_to_list state.pending) c
+      within served c at =
           let least = length (seat_kept seat).opening in
           let all = seat_history seat ++ option_to_list (flying (pairs_of_sole seat.desk)) in
-          amid_within schema world user.profile header (opening schema world user.profile user.opened) events least c (seated.least served)
           (subst (λ (s : UserState). OpensWithin schema world user.profile header least (s.entries ++ option_to_list s.pending) c)
           (sym (shown_at (seat_standing seat) (seat_state seat) state served seated.living.is_in))
           (subst (λ s. OpensWithin s world user.profile header least all c) seated.served.schema_is
@@ -281,14 +318,34 @@ module _ (schema : DatabaseSchema) (world : FactSet) (header directory : List �
           (subst (λ k. OpensWithin (seat_kept seat).schema (seat_kept seat).world (seat_kept seat).user k least all c) seated.served.header_is
           (closed.since t served c at))))))
 
+      -- so it is amid his events, and behind each stretch that ended before the opening
+      amid : is_sealed (seat_standing seat) ≡ false → (c : List ℕ) → Disk.image_since disk (Disk.moment (seat_disk seat)) c
+          → HoldsAmid schema world user.profile header first events c
+      amid served c at =
+          amid_within schema world user.profile header first events (length (seat_kept seat).opening) c (seated.least served) (within served c at)
+
+      behind : is_sealed (seat_standing seat) ≡ false → (front rest : List Event) → events ≡ front ++ rest → BeginsLife rest → (c : List ℕ)
+          → Disk.image_since disk (Disk.moment (seat_disk seat)) c → HoldsFrom schema world user.profile header first front rest c
+      behind served front rest split begins c at =
+          let middle : UserState = after_events schema world user.profile first front in
+          let same : after_events schema world user.profile middle rest ≡ state =
+          sym (run_on schema world user.profile first front rest) ∙ ap (after_events schema world user.profile first) (sym split) in
+          behind_front schema world user.profile header first front rest c
+          (amid_within schema world user.profile header middle rest (length (seat_kept seat).opening) c (seated.fewer served front rest split begins)
+          (subst (λ (s : UserState). OpensWithin schema world user.profile header (length (seat_kept seat).opening) (s.entries ++ option_to_list s.pending) c)
+          (sym same) (within served c at)))
+
       by : (b : Bool) → is_sealed (seat_standing seat) ≡ b
-          → IsAlong schema world user.profile header (images user.name) user.opened seated.began events (Disk.moment disk) (Disk.image_since disk)
+          → IsAlong schema world user.profile header (images user.name) user.opened seated.began seated.opens_at events (Disk.moment disk)
+          (Disk.image_since disk)
       by true sealed =
-          subst (λ d. IsAlong schema world user.profile header (images user.name) user.opened seated.began events (Disk.moment d) (Disk.image_since d))
-          (sym (closed.shut sealed)) seated.along
+          subst (λ d. IsAlong schema world user.profile header (images user.name) user.opened seated.began seated.opens_at events (Disk.moment d)
+          (Disk.image_since d)) (sym (closed.shut sealed)) seated.along
       by false served =
-          along_on schema world user.profile header (images user.name) user.opened seated.began events (Disk.moment (seat_disk seat)) (Disk.moment disk)
+          along_on schema world user.profile header (images user.name) user.opened seated.began seated.opens_at events (Disk.moment (seat_disk seat))
+          (Disk.moment disk)
           (Disk.image_since (seat_disk seat)) (Disk.image_since disk) closed.time (λ some. amid served)
+          (λ front rest split begins some. behind served front rest split begins)
           (λ none. let e : true ≡ false = sym (seated.living.held served) ∙ none in absurd cc) seated.along
 
   -- ---- openings
@@ -305,6 +362,24 @@ module _ (schema : DatabaseSchema) (world : FactSet) (header directory : List �
       (shown_at (seat_standing seat) (seat_state seat) end served is) in
       let count : length (seat_kept seat).opening ≡ length (seat_history seat) = ap length first in
       omega (arith, more, same, count)
+
+  -- and as at the end of each stretch before
+  fewer_at : (user : NamedUser) (events : List Event) (seat : DeskSeat D g h) → (seat_kept seat).opening ≡ seat_history seat
+      → is_sealed (seat_standing seat) ≡ false
+      → IsState (seat_standing seat) (seat_state seat) (after_events schema world user.profile (opening schema world user.profile user.opened) events)
+      → HasFewer schema world user events (length (seat_kept seat).opening)
+  fewer_at user events seat first served is front rest split begins =
+      let middle : UserState = after_events schema world user.profile (opening schema world user.profile user.opened) front in
+      let end : UserState = after_events schema world user.profile (opening schema world user.profile user.opened) events in
+      let more : length middle.entries ≤ length (after_events schema world user.profile middle rest).entries =
+      no_fewer schema world user.profile middle rest in
+      let whole : length (after_events schema world user.profile middle rest).entries ≡ length end.entries = ap (λ (s : UserState). length s.entries)
+      (sym (run_on schema world user.profile (opening schema world user.profile user.opened) front rest)
+      ∙ ap (after_events schema world user.profile (opening schema world user.profile user.opened)) (sym split)) in
+      let same : length end.entries ≡ length (seat_history seat) = ap (λ (s : UserState). length s.entries)
+      (shown_at (seat_standing seat) (seat_state seat) end served is) in
+      let count : length (seat_kept seat).opening ≡ length (seat_history seat) = ap length first in
+      omega (arith, more, whole, same, count)
 
   -- the choices of a user's opening
   abbrev pub Choice : NamedUser → List Event → DeskSeat D g h → Type 0
@@ -395,7 +470,15 @@ module _ (schema : DatabaseSchema) (world : FactSet) (header directory : List �
           on = again.left.later;
           holds = λ served c at. subst (λ p. Holds schema world p header (seat_state new) c) profile (opened.holds t served c at);
           here = read_is_image (seat_disk new) t;
-        }) in (
+        }) in
+        let along = along_open schema world user.profile header (images user.name) user.opened seated.began seated.opens_at events step.found step.opens
+        (Disk.moment closed) (Disk.moment (seat_disk new)) (Disk.image_since closed) (Disk.image_since (seat_disk new)) (Disk.image closed) again.left.time
+        again.left.rests running.stays.stands
+        (λ none c at. (running.stays.kept (ap (λ b. b && list_any is_ask events) none)).1 c at)
+        (λ held c at. amid_all schema world user.profile header (opening schema world user.profile user.opened)
+        (events ++ restart step.found step.opens ∷ []) c
+        (step.running.stays.stands (opened_behind events step.found step.opens held) c (clock.only_now (seat_disk new) c at)))
+        (along_at user events old closed seated again.is_closed) in (
           step.found,
           step.opens,
           record {
@@ -412,16 +495,10 @@ module _ (schema : DatabaseSchema) (world : FactSet) (header directory : List �
             fresh = λ none. opened.fresh;
             began = seated.began;
             began_is = seated.began_is;
-            along = along_open schema world user.profile header (images user.name) user.opened seated.began events step.found step.opens (Disk.moment closed)
-                (Disk.moment (seat_disk new)) (Disk.image_since closed) (Disk.image_since (seat_disk new)) (Disk.image closed) again.left.time again.left.rests
-                (λ some c at. amid_all schema world user.profile header (opening schema world user.profile user.opened) events c
-                (running.stays.stands some c at))
-                (λ none c at. (running.stays.kept (ap (λ b. b && list_any is_ask events) none)).1 c at)
-                (λ held c at. amid_all schema world user.profile header (opening schema world user.profile user.opened)
-                (events ++ restart step.found step.opens ∷ []) c
-                (step.running.stays.stands (opened_behind events step.found step.opens held) c (clock.only_now (seat_disk new) c at)))
-                (along_at user events old closed seated again.is_closed);
+            opens_at = along.0;
+            along = along.1;
             least = λ served. least_at user (events ++ restart step.found step.opens ∷ []) new opened.opening_is served step.running.is_in;
+            fewer = λ served. fewer_at user (events ++ restart step.found step.opens ∷ []) new opened.opening_is served step.running.is_in;
           },
         )
 
@@ -491,6 +568,15 @@ module _ (schema : DatabaseSchema) (world : FactSet) (header directory : List �
             holds = λ served c at. subst (λ p. Holds schema world p header (seat_state seat) c) profile (from.holds t served c at);
             here = read_is_image (seat_disk seat) t;
           }) in
+          let along = along_open schema world (profile_of user) header (images name) opened (Disk.moment is.taken) (Disk.moment is.taken) [] step.found
+          step.opens (Disk.moment is.taken) (Disk.moment (seat_disk seat)) (Disk.image_since is.taken) (Disk.image_since (seat_disk seat))
+          (Disk.image is.taken) is.left.time is.left.rests
+          (λ some. absurd cc) (λ none c at. first c at)
+          (λ held c at. amid_all schema world (profile_of user) header (Run.opening schema world (profile_of user) opened)
+          ([] ++ restart step.found step.opens ∷ []) c
+          (step.running.stays.stands (opened_behind [] step.found step.opens held) c (clock.only_now (seat_disk seat) c at)))
+          (along_first schema world (profile_of user) header (images name) opened (Disk.moment is.taken) (Disk.image_since is.taken)
+          (λ c at. first c (clock.only_now is.taken c at))) in
           record {
             opened = opened;
             opening = opening;
@@ -514,16 +600,11 @@ module _ (schema : DatabaseSchema) (world : FactSet) (header directory : List �
                 began_is = subst (λ o. IfSome o (λ begun. begun ≡ Disk.moment is.taken)) (sym (begins_are name))
                     (subst (λ j. IfSome (option_map Disk.moment (disk j)) (λ begun. begun ≡ Disk.moment is.taken)) is.journal_is
                     (taken_moment Disk.reads Disk.image Disk.moment (disk (seat_journal seat)) is.taken (is.from s)));
-                along = along_open schema world (profile_of user) header (images name) opened (Disk.moment is.taken) [] step.found step.opens
-                    (Disk.moment is.taken) (Disk.moment (seat_disk seat)) (Disk.image_since is.taken) (Disk.image_since (seat_disk seat))
-                    (Disk.image is.taken) is.left.time is.left.rests
-                    (λ some. absurd cc) (λ none c at. first c at)
-                    (λ held c at. amid_all schema world (profile_of user) header (Run.opening schema world (profile_of user) opened)
-                    ([] ++ restart step.found step.opens ∷ []) c
-                    (step.running.stays.stands (opened_behind [] step.found step.opens held) c (clock.only_now (seat_disk seat) c at)))
-                    (along_first schema world (profile_of user) header (images name) opened (Disk.moment is.taken) (Disk.image_since is.taken)
-                    (λ c at. first c (clock.only_now is.taken c at)));
+                opens_at = along.0;
+                along = along.1;
                 least = λ served. least_at (record { name = name; profile = profile_of user; opened = opened })
+                    ([] ++ restart step.found step.opens ∷ []) seat from.opening_is served step.running.is_in;
+                fewer = λ served. fewer_at (record { name = name; profile = profile_of user; opened = opened })
                     ([] ++ restart step.found step.opens ∷ []) seat from.opening_is served step.running.is_in;
               },
             );

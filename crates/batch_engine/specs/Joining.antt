@@ -10,7 +10,7 @@ use Rattle.user_desk.specs.Joining.{Call, IsCallOver, AreOneRun, Span, IsSpanOve
 use Rattle.desk_crew.specs.Shelved.{Journals}
 use Rattle.batch_engine.specs.Batch.{ServesUser, AnswersBatch, with_opening}
 use Rattle.batch_engine.specs.BatchLines.{BatchItem}
-use Rattle.batch_engine.specs.Lives.{is_opened}
+use Rattle.batch_engine.specs.Lives.{is_opened, IsStretchEnd}
 
 -- a batch as a call to one user, which left these bytes of his journal
 abbrev pub call_of : DatabaseSchema → FactSet → List NamedUser → List ScriptEvent → NamedUser
@@ -90,6 +90,29 @@ module _ (journals : Journals) where
       → list_any is_opened (own_events user.name script) ≡ true
       → (left : List ℕ) → journals.since user.name serves.moments.opening left
       → IsCutBatch schema world header script user left
+
+  -- A batch was cut so behind all events in front: it is a call with these and some of the others,
+  -- the first.
+  pub record IsLaterCut (schema : DatabaseSchema) (world : FactSet) (header : List ℕ)
+      (user : NamedUser) (front rest : List Event) (left : List ℕ) : Type 0 where
+    pub more : List Event
+    pub further : List Event
+    pub split : rest ≡ more ++ further
+    pub over : IsCallOver schema world user.profile header (journals.bytes user.name)
+        (cut_call_of schema world user (front ++ more) left)
+
+  -- so it is at each moment since a stretch of his events ended: whatever he was told by then was
+  -- told in this call too
+  abbrev pub LaterCutsAreCalls : Type 0
+  LaterCutsAreCalls =
+      (schema : DatabaseSchema) (world : FactSet) (header : List ℕ) (users : List NamedUser)
+      (script : List ScriptEvent) (user : NamedUser)
+      (serves : ServesUser schema world header journals users script user)
+      (front rest : List Event) (split : own_events user.name script ≡ front ++ rest)
+      (ends : IsStretchEnd rest) (held : list_any is_opened front ≡ true)
+      (left : List ℕ)
+      → journals.since user.name (serves.closings front rest split ends held).closing left
+      → IsLaterCut schema world header user front rest left
 
 -- the user of a name among others
 abbrev pub IsNamed : Text → List NamedUser → NamedUser → Type 0
