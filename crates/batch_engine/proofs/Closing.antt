@@ -24,7 +24,7 @@ use Rattle.desk_crew.specs.Openings.{OpensNone, OpensWith}
 use Rattle.batch_engine.specs.Lives.{RoseBy, is_opened, is_ask, failures, IsStretchEnd}
 use Rattle.batch_engine.specs.Batch.{StandsAmid, StandsBehind, ServesUser, AnswersBatch, AreRefusals, AppendsAll, AppendsSome, IsStretch}
 use Rattle.batch_engine.specs.Batch.{line_bytes, unopened, with_opening}
-use Rattle.desk_crew.specs.Crew.{named_user, seat_standing, seat_state, IsLeft, IsClosed}
+use Rattle.desk_crew.specs.Crew.{named_user, seat_standing, seat_state, IsLeft}
 use Rattle.cqe_base.specs.Run.{Event}
 use Rattle.desk_crew.specs.Shelved.{Journals, since_on, journals_by, StandsAllAlong, ClosedBehind, IsBack, AreBack}
 use Rattle.batch_engine.proofs.Along.{Clock, IsAlongClosed, IsClosedBehind, BeginsLife, at_end, along_still}
@@ -102,19 +102,20 @@ record Moments (schema : DatabaseSchema) (world : FactSet) (header : List ℕ) (
   closings : (front rest : List Event) → events ≡ front ++ rest → IsStretchEnd rest → list_any is_opened front ≡ true
       → ClosedBehind journals user.name moments.opening (StandsAmid schema world header user front) (StandsBehind schema world header user front rest)
 
-module _ (schema : DatabaseSchema) (world : FactSet) (users : List NamedUser) (header directory : List ℕ) {D : Type 0} {g h : _} (T S : Type 0) (s : S)
-    (Disk : DiskGhosts D) (t : T)
-    (read_is_image : (d : D) → T → Disk.image d (Disk.reads d)) (only_now : (d : D) (c : List ℕ) → Disk.image_since d (Disk.moment d) c → Disk.image d c)
+module _ (schema : DatabaseSchema) (world : FactSet) (users : List NamedUser) (header directory : List ℕ) {D : Type 0} {g h : _} (S : Type 0) (s : S)
+    (Disk : DiskGhosts D) (t : Disk.tells)
+    (read_is_image : (d : D) → Disk.tells → Disk.image d (Disk.reads d))
+    (only_now : (d : D) (c : List ℕ) → Disk.image_since d (Disk.moment d) c → Disk.image d c)
     (disk disk' : Text → Option D) (count count' : Text → ℕ) where
   abbrev Seated : NamedUser → List ScriptEvent → DeskSeat D g h → Type 0
   Seated user script seat =
-      IsSeated schema world header directory T Disk t read_is_image
+      IsSeated schema world header directory Disk t read_is_image
       (clock_of Disk only_now directory disk) (bytes_of Disk.reads directory disk) (count_of directory count)
       (images_of Disk.image directory disk) user (own_events user.name script) seat
 
   abbrev AllSeated : List ScriptEvent → List NamedUser → List (DeskSeat D g h) → Type 0
   AllSeated script us seats =
-      AreSeated schema world header directory T Disk t read_is_image
+      AreSeated schema world header directory Disk t read_is_image
       (clock_of Disk only_now directory disk) (bytes_of Disk.reads directory disk) (count_of directory count)
       (images_of Disk.image directory disk) script us seats
 
@@ -143,25 +144,9 @@ module _ (schema : DatabaseSchema) (world : FactSet) (users : List NamedUser) (h
   back user script seat seated is =
       let counted : count' (journal_name directory user.name) ≡ Disk.faults is.now = ap count' (sym seated.journal_is) ∙ is.counted in
       let left = is.left in
-      let closed : IsClosed T Disk seat.desk left.closed =
-      record {
-        holds = λ told. left.is_closed.holds s;
-        legal = left.is_closed.legal;
-        added = left.is_closed.added;
-        items = left.is_closed.items;
-        idle = left.is_closed.idle;
-        later =
-            left.is_closed.later;
-        cause = left.is_closed.cause;
-        size = λ told. left.is_closed.size s;
-        shut = left.is_closed.shut;
-        still = left.is_closed.still;
-        since = λ told. left.is_closed.since s;
-        time = left.is_closed.time;
-      } in
-      let running = close_at schema world header directory T Disk t read_is_image
+      let running = close_at schema world header directory Disk t read_is_image
       (clock_of Disk only_now directory disk) (bytes_of Disk.reads directory disk) (count_of directory count)
-      (images_of Disk.image directory disk) user (own_events user.name script) seat left.closed seated closed in
+      (images_of Disk.image directory disk) user (own_events user.name script) seat left.closed seated left.is_closed in
       record {
         now = is.now;
         held = ap disk' (sym seated.journal_is) ∙ is.held s;
@@ -186,9 +171,9 @@ module _ (schema : DatabaseSchema) (world : FactSet) (users : List NamedUser) (h
             (Disk.moment left.closed) (Disk.moment is.now) (Disk.image_since left.closed) (Disk.image_since is.now) left.left.time
             (λ some c at. running.stays.stands some c (left.left.rests c at))
             (λ none c at. (running.stays.kept (ap (λ b. b && list_any is_ask (own_events user.name script)) none)).1 c (left.left.rests c at))
-            (along_at schema world header directory T Disk t read_is_image
+            (along_at schema world header directory Disk t read_is_image
             (clock_of Disk only_now directory disk) (bytes_of Disk.reads directory disk) (count_of directory count)
-            (images_of Disk.image directory disk) user (own_events user.name script) seat left.closed seated closed);
+            (images_of Disk.image directory disk) user (own_events user.name script) seat left.closed seated left.is_closed);
       }
 
   -- a stretch that ended, by the disk that is back
@@ -326,12 +311,12 @@ module _ (schema : DatabaseSchema) (world : FactSet) (users : List NamedUser) (h
         (found opened : Text → Bool) where
       abbrev pub Told : List BatchItem → List ℕ → List ℕ → List (DeskSeat D g h) → Bool → Type 0
       Told items old new seats is_broken = (output : List ℕ) × (new ≡ old ++ output)
-          × SoFar schema world users header directory T Disk t read_is_image
+          × SoFar schema world users header directory Disk t read_is_image
           (clock_of Disk only_now directory disk) (bytes_of Disk.reads directory disk) (count_of directory count)
           (images_of Disk.image directory disk) found opened items output seats is_broken
 
       abbrev answers : (items : List BatchItem) (output : List ℕ) (seats : List (DeskSeat D g h)) (is_broken : Bool)
-          → SoFar schema world users header directory T Disk t read_is_image
+          → SoFar schema world users header directory Disk t read_is_image
           (clock_of Disk only_now directory disk) (bytes_of Disk.reads directory disk) (count_of directory count)
           (images_of Disk.image directory disk) found opened items output seats is_broken
           → AreBack S Disk disk' count' seats
@@ -365,10 +350,10 @@ module _ (schema : DatabaseSchema) (world : FactSet) (users : List NamedUser) (h
       -- some first stretches were answered, and of the lines of the last a part was written
       pub answered_some : (earlier stretch back all : List BatchItem) (n : ℕ) (old output lines new : List ℕ) (mid seats : List (DeskSeat D g h))
           (was is_broken : Bool)
-          (so_far : SoFar schema world users header directory T Disk t read_is_image
+          (so_far : SoFar schema world users header directory Disk t read_is_image
           (clock_of Disk only_now directory disk) (bytes_of Disk.reads directory disk) (count_of directory count)
           (images_of Disk.image directory disk) found opened earlier output mid was)
-          → Adds schema world users header directory T Disk t read_is_image
+          → Adds schema world users header directory Disk t read_is_image
           (clock_of Disk only_now directory disk) (bytes_of Disk.reads directory disk) (count_of directory count)
           (images_of Disk.image directory disk) found opened so_far.events (earlier ++ stretch) (length stretch) lines seats is_broken
           → AreBack S Disk disk' count' seats → new ≡ (old ++ output) ++ take n lines → all ≡ (earlier ++ stretch) ++ back → IsStretch stretch
@@ -376,7 +361,7 @@ module _ (schema : DatabaseSchema) (world : FactSet) (users : List NamedUser) (h
           policy all old new
       answered_some earlier stretch back all n old output lines new mid seats was is_broken so_far adds is appended split one =
           let whole = transcript schema world users (with_opening found opened so_far.events) in
-          let both = joined schema world users header directory T Disk t read_is_image
+          let both = joined schema world users header directory Disk t read_is_image
           (clock_of Disk only_now directory disk) (bytes_of Disk.reads directory disk) (count_of directory count)
           (images_of Disk.image directory disk) found opened earlier (earlier ++ stretch) output lines mid seats was is_broken (length stretch) so_far adds in
           record {

@@ -39,7 +39,7 @@ pub before_restart : (items done asks others : List BatchItem) → items ≡ (do
 before_restart items done asks others split =
     split ∙ ap (λ l. l ++ others) (sym (append_assoc done asks (restarted ∷ []))) ∙ append_assoc (done ++ asks) (restarted ∷ []) others
 
-module _ (schema : DatabaseSchema) (world : FactSet) (header : List ℕ) {D : Type 0} {g h : _} (told : Type 0) (Disk : DiskGhosts D) where
+module _ (schema : DatabaseSchema) (world : FactSet) (header : List ℕ) {D : Type 0} {g h : _} (Disk : DiskGhosts D) where
   abbrev pub Limits : List (DeskSeat D g h) → Type 0
   Limits seats = AllByRecursion (λ (s : DeskSeat D g h). KeepsLimits schema (profile_of (seat_user s))) seats
 
@@ -92,7 +92,7 @@ module _ (schema : DatabaseSchema) (world : FactSet) (header : List ℕ) {D : Ty
         later = λ count l. (l.0, tail.later count l.1);
       }
 
-  stay_reopened : (old new : List (DeskSeat D g h)) → AreReopened schema world header told Disk old new → Stay old new
+  stay_reopened : (old new : List (DeskSeat D g h)) → AreReopened schema world header Disk old new → Stay old new
   stay_reopened [] [] are = stay []
   stay_reopened [] (n ∷ new) are = absurd are
   stay_reopened (o ∷ old) [] are = absurd are
@@ -109,12 +109,12 @@ module _ (schema : DatabaseSchema) (world : FactSet) (header : List ℕ) {D : Ty
       }
 
   stay_carried : (item : BatchItem) (old new : List (DeskSeat D g h)) (line : List ℕ) (is_broken : Bool)
-      → Carries schema world header told Disk item old new line is_broken → Stay old new
+      → Carries schema world header Disk item old new line is_broken → Stay old new
   stay_carried (asked ask) old new line is_broken carried = stay_told ask.name ask.text old new carried.0 carried.1
   stay_carried restarted old new line is_broken carried = stay_reopened old new carried.0
 
   pub stay_run : (items : List BatchItem) (old new : List (DeskSeat D g h)) (output : List ℕ) (is_broken : Bool)
-      → Runs schema world header told Disk items old output new is_broken → Stay old new
+      → Runs schema world header Disk items old output new is_broken → Stay old new
   stay_run items old new output is_broken (nothing seats) = stay seats
   stay_run items old new output is_broken (more first old' mid new' before line was says item runs carried) =
       stay_on old' mid new' (stay_run first old' mid before was runs) (stay_carried item mid new' line says carried)
@@ -122,53 +122,53 @@ module _ (schema : DatabaseSchema) (world : FactSet) (header : List ℕ) {D : Ty
   -- ---- items behind others
 
   pub runs_then : (first second : List BatchItem) (old mid new : List (DeskSeat D g h)) (output lines : List ℕ) (was says : Bool)
-      → Runs schema world header told Disk first old output mid was → Runs schema world header told Disk second mid lines new says
-      → Runs schema world header told Disk (first ++ second) old (output ++ lines) new (was || says)
+      → Runs schema world header Disk first old output mid was → Runs schema world header Disk second mid lines new says
+      → Runs schema world header Disk (first ++ second) old (output ++ lines) new (was || says)
   runs_then first second old mid new output lines was says runs (nothing seats) =
-      subst (λ l. Runs schema world header told Disk l old (output ++ []) mid (was || false)) (sym (append-nil first))
-      (subst (λ o. Runs schema world header told Disk first old o mid (was || false)) (sym (append-nil output))
-      (subst (λ b. Runs schema world header told Disk first old output mid b) (sym (or-false was)) runs))
+      subst (λ l. Runs schema world header Disk l old (output ++ []) mid (was || false)) (sym (append-nil first))
+      (subst (λ o. Runs schema world header Disk first old o mid (was || false)) (sym (append-nil output))
+      (subst (λ b. Runs schema world header Disk first old output mid b) (sym (or-false was)) runs))
   runs_then first second old mid new output lines was says runs (more items old' middle new' before line broke says_broken item earlier carried) =
-      let step : Runs schema world header told Disk ((first ++ items) ++ item ∷ []) old ((output ++ before) ++ line) new
+      let step : Runs schema world header Disk ((first ++ items) ++ item ∷ []) old ((output ++ before) ++ line) new
       ((was || broke) || says_broken) =
       more (first ++ items) old middle new' (output ++ before) line (was || broke) says_broken item
       (runs_then first items old mid middle output before was broke runs earlier) carried in
-      subst (λ l. Runs schema world header told Disk l old (output ++ (before ++ line)) new (was || (broke || says_broken)))
+      subst (λ l. Runs schema world header Disk l old (output ++ (before ++ line)) new (was || (broke || says_broken)))
       (append_assoc first items (item ∷ []))
-      (subst (λ o. Runs schema world header told Disk ((first ++ items) ++ item ∷ []) old o new (was || (broke || says_broken)))
+      (subst (λ o. Runs schema world header Disk ((first ++ items) ++ item ∷ []) old o new (was || (broke || says_broken)))
       (append_assoc output before line)
-      (subst (λ b. Runs schema world header told Disk ((first ++ items) ++ item ∷ []) old ((output ++ before) ++ line) new b)
+      (subst (λ b. Runs schema world header Disk ((first ++ items) ++ item ∷ []) old ((output ++ before) ++ line) new b)
       (or_assoc was broke says_broken) step))
 
   -- nothing was carried out, and nothing appended
   pub all_first : (wrote : Type 0) (seats : List (DeskSeat D g h)) (before : List ℕ)
-      → RunsAll schema world header told Disk wrote [] seats seats false before before
+      → RunsAll schema world header Disk wrote [] seats seats false before before
   all_first wrote seats before = record { output = []; appended = λ w. sym (append-nil before); runs = nothing seats }
 
   -- a stretch more, with its restart
   pub restarted_more : (asks : List BatchItem) (old mid new : List (DeskSeat D g h)) (lines : List ℕ) (says : Bool)
-      → Runs schema world header told Disk asks old lines mid says → AreReopened schema world header told Disk mid new
-      → Runs schema world header told Disk (asks ++ restarted ∷ []) old (lines ++ restart_bytes true) new (says || false)
+      → Runs schema world header Disk asks old lines mid says → AreReopened schema world header Disk mid new
+      → Runs schema world header Disk (asks ++ restarted ∷ []) old (lines ++ restart_bytes true) new (says || false)
   restarted_more asks old mid new lines says runs again =
       more asks old mid new lines (restart_bytes true) says false restarted runs (again, refl, refl)
 
   pub all_more : (wrote : Type 0) (items next : List BatchItem) (old mid new : List (DeskSeat D g h)) (was says now : Bool) (before after last lines : List ℕ)
-      → now ≡ (was || says) → RunsAll schema world header told Disk wrote items old mid was before after
-      → Runs schema world header told Disk next mid lines new says → (wrote → last ≡ after ++ lines)
-      → RunsAll schema world header told Disk wrote (items ++ next) old new now before last
+      → now ≡ (was || says) → RunsAll schema world header Disk wrote items old mid was before after
+      → Runs schema world header Disk next mid lines new says → (wrote → last ≡ after ++ lines)
+      → RunsAll schema world header Disk wrote (items ++ next) old new now before last
   all_more wrote items next old mid new was says now before after last lines joined so_far runs appended = record {
     output = so_far.output ++ lines;
     appended = λ w. appended w ∙ ap (λ l. l ++ lines) (so_far.appended w) ∙ append_assoc before so_far.output lines;
-    runs = subst (λ b. Runs schema world header told Disk (items ++ next) old (so_far.output ++ lines) new b) (sym joined)
+    runs = subst (λ b. Runs schema world header Disk (items ++ next) old (so_far.output ++ lines) new b) (sym joined)
         (runs_then items next old mid new so_far.output lines was says so_far.runs runs);
   }
 
   -- of the lines of a stretch a part was written
   pub some_cut : (wrote : Type 0) (items earlier stretch back : List BatchItem) (old mid new : List (DeskSeat D g h)) (was says : Bool)
       (before after last lines : List ℕ) → items ≡ (earlier ++ stretch) ++ back → IsStretch stretch
-      → RunsAll schema world header told Disk wrote earlier old mid was before after
-      → Runs schema world header told Disk stretch mid lines new says → (wrote → (n : ℕ) × (last ≡ after ++ take n lines))
-      → RunsSome schema world header told Disk wrote items old new before last
+      → RunsAll schema world header Disk wrote earlier old mid was before after
+      → Runs schema world header Disk stretch mid lines new says → (wrote → (n : ℕ) × (last ≡ after ++ take n lines))
+      → RunsSome schema world header Disk wrote items old new before last
   some_cut wrote items earlier stretch back old mid new was says before after last lines split one so_far runs part = record {
     earlier = earlier;
     stretch = stretch;
@@ -188,23 +188,23 @@ module _ (schema : DatabaseSchema) (world : FactSet) (header : List ℕ) {D : Ty
   -- a write failed as a stretch ended, behind its restart or without it
   pub cut_off : (wrote : Type 0) (items done asks others : List BatchItem) (old mid last : List (DeskSeat D g h)) (was says : Bool)
       (before after final lines : List ℕ) → items ≡ (done ++ (asks ++ restarted ∷ [])) ++ others → IsStretch asks → IsStretch (asks ++ restarted ∷ [])
-      → RunsAll schema world header told Disk wrote done old mid was before after → Runs schema world header told Disk asks mid lines last says
-      → (is_again : Bool) (new : List (DeskSeat D g h)) → MaybeReopened schema world header told Disk is_again last new
+      → RunsAll schema world header Disk wrote done old mid was before after → Runs schema world header Disk asks mid lines last says
+      → (is_again : Bool) (new : List (DeskSeat D g h)) → MaybeReopened schema world header Disk is_again last new
       → (wrote → (n : ℕ) × (final ≡ after ++ take n (lines ++ restart_bytes is_again)))
-      → RunsSome schema world header told Disk wrote items old new before final
+      → RunsSome schema world header Disk wrote items old new before final
   cut_off wrote items done asks others old mid last was says before after final lines split one whole so_far runs true new again part =
       some_cut wrote items done (asks ++ restarted ∷ []) others old mid new was (says || false) before after final (lines ++ restart_bytes true) split whole
       so_far (restarted_more asks mid last new lines says runs again) part
   cut_off wrote items done asks others old mid last was says before after final lines split one whole so_far runs false new same part =
       some_cut wrote items done asks (restarted ∷ others) old mid new was says before after final (lines ++ restart_bytes false)
       (before_restart items done asks others split) one so_far
-      (subst (λ n. Runs schema world header told Disk asks mid (lines ++ []) n says) (sym same)
-      (subst (λ o. Runs schema world header told Disk asks mid o last says) (sym (append-nil lines)) runs)) part
+      (subst (λ n. Runs schema world header Disk asks mid (lines ++ []) n says) (sym same)
+      (subst (λ o. Runs schema world header Disk asks mid o last says) (sym (append-nil lines)) runs)) part
 
   -- memory was wanting at a restart
   pub to_restart : (wrote : Type 0) (items front rest : List BatchItem) (old new : List (DeskSeat D g h)) (is_broken : Bool) (before after : List ℕ)
-      → items ≡ front ++ restarted ∷ rest → RunsAll schema world header told Disk wrote front old new is_broken before after
-      → RunsTo schema world header told Disk wrote items old new before after
+      → items ≡ front ++ restarted ∷ rest → RunsAll schema world header Disk wrote front old new is_broken before after
+      → RunsTo schema world header Disk wrote items old new before after
   to_restart wrote items front rest old new is_broken before after split so_far =
       record { front = front; rest = rest; split = split; is_broken = is_broken; all = so_far }
 

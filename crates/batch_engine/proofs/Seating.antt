@@ -110,8 +110,8 @@ module _ (schema : DatabaseSchema) (world : FactSet) where
       by (inl whole) = absurd (subst BeginsLife whole.1 begins)
       by (inr part) = of_less part.less part.rest_is part.split
 
-module _ (schema : DatabaseSchema) (world : FactSet) (header directory : List ℕ) {D : Type 0} {g h : _} (T : Type 0) (Disk : DiskGhosts D) (t : T)
-    (read_is_image : (d : D) → T → Disk.image d (Disk.reads d)) (clock : Clock Disk)
+module _ (schema : DatabaseSchema) (world : FactSet) (header directory : List ℕ) {D : Type 0} {g h : _} (Disk : DiskGhosts D) (t : Disk.tells)
+    (read_is_image : (d : D) → Disk.tells → Disk.image d (Disk.reads d)) (clock : Clock Disk)
     (bytes : Text → List ℕ) (before : Text → ℕ) (images : Text → List ℕ → Type 0) where
   -- a user sits at his desk behind these events of his
   pub record IsSeated (user : NamedUser) (events : List Event) (seat : DeskSeat D g h) : Type 0 where
@@ -264,7 +264,7 @@ module _ (schema : DatabaseSchema) (world : FactSet) (header directory : List �
 
   -- a desk was closed, and left this disk
   pub close_at : (user : NamedUser) (events : List Event) (seat : DeskSeat D g h) (disk : D) → IsSeated user events seat
-      → IsClosed T Disk seat.desk disk
+      → IsClosed Disk seat.desk disk
       → IsRunning schema world user.profile header (bytes user.name) (before user.name) (images user.name) user.opened events (seat_standing seat)
       (seat_state seat) (Disk.image disk) (Disk.reads disk) (Disk.faults disk) seat.refusal
   close_at user events seat disk seated closed =
@@ -290,7 +290,7 @@ module _ (schema : DatabaseSchema) (world : FactSet) (header directory : List �
 
   -- what each crash could leave up to a close
   pub along_at : (user : NamedUser) (events : List Event) (seat : DeskSeat D g h) (disk : D) (seated : IsSeated user events seat)
-      → IsClosed T Disk seat.desk disk
+      → IsClosed Disk seat.desk disk
       → IsAlongClosed schema world user.profile header (images user.name) user.opened seated.began seated.opens_at events (Disk.moment disk)
       (Disk.image_since disk)
   along_at user events seat disk seated closed =
@@ -440,7 +440,7 @@ module _ (schema : DatabaseSchema) (world : FactSet) (header directory : List �
 
   module _ (exclusive : (user : UserProfile) → IsExclusive schema world user header) where
     restart_at : (user : NamedUser) (events : List Event) (old new : DeskSeat D g h) → IsSeated user events old
-        → IsReopened schema world header T Disk old new → Choice user events new
+        → IsReopened schema world header Disk old new → Choice user events new
     restart_at user events old new seated again =
         let profile : profile_of (seat_user new) ≡ user.profile = ap profile_of again.user_is ∙ seated.profile_is in
         let opened = again.opened in
@@ -449,8 +449,8 @@ module _ (schema : DatabaseSchema) (world : FactSet) (header directory : List �
         let step : Restarted schema world user.profile header (bytes user.name) (before user.name) (images user.name) user.opened events (seat_standing new)
         (seat_state new) (Disk.image (seat_disk new)) (Disk.reads (seat_disk new)) (Disk.faults (seat_disk new)) (first_refusal old.refusal
         (seat_standing new)) =
-        open_step schema world user.profile header (bytes user.name) (before user.name) (images user.name) (exclusive user.profile) T t user.opened events
-        (Disk.reads (seat_disk new)) (Disk.faults closed) (Disk.faults (seat_disk new)) old.refusal
+        open_step schema world user.profile header (bytes user.name) (before user.name) (images user.name) (exclusive user.profile) Disk.tells t user.opened
+        events (Disk.reads (seat_disk new)) (Disk.faults closed) (Disk.faults (seat_disk new)) old.refusal
         (seat_history new) (flying (pairs_of_sole new.desk)) (seat_standing new) (Disk.image (seat_disk new))
         (course_on schema world user.profile header (bytes user.name) (before user.name) (images user.name) user.opened events (Disk.reads closed)
         (Disk.reads (seat_disk new)) (Disk.faults closed) (Disk.faults closed) old.refusal again.left.reads_same (omega arith) running.course)
@@ -458,9 +458,10 @@ module _ (schema : DatabaseSchema) (world : FactSet) (header directory : List �
         (Disk.image (seat_disk new)) (Disk.reads closed) (Disk.reads (seat_disk new)) again.left.reads_same again.left.images running.stays)
         (record {
           standing_is = subst (λ r.
-              IsStanding schema world user.profile T header r (seat_history new) (Disk.faults closed) (Disk.faults (seat_disk new)) (seat_standing new))
+              IsStanding schema world user.profile Disk.tells header r (seat_history new) (Disk.faults closed) (Disk.faults (seat_disk new))
+              (seat_standing new))
               (sym again.left.reads_same)
-              (subst (λ p. IsStanding schema world p T header (Disk.reads closed) (seat_history new) (Disk.faults closed) (Disk.faults (seat_disk new))
+              (subst (λ p. IsStanding schema world p Disk.tells header (Disk.reads closed) (seat_history new) (Disk.faults closed) (Disk.faults (seat_disk new))
               (seat_standing new))
               profile opened.standing);
           restarted = λ state holds. subst (λ p. Restarts schema world p (IsSeatIn new) state (Disk.faults closed) (Disk.faults (seat_disk new))) profile
@@ -504,7 +505,7 @@ module _ (schema : DatabaseSchema) (world : FactSet) (header directory : List �
 
     -- every desk was closed and opened again
     pub restart_all : (script : List ScriptEvent) (users : List NamedUser) (olds news : List (DeskSeat D g h)) → AreSeated script users olds
-        → AreReopened schema world header T Disk olds news → Choices script users news
+        → AreReopened schema world header Disk olds news → Choices script users news
     restart_all script [] [] [] seated again = tt
     restart_all script [] [] (new ∷ news) seated again = absurd again
     restart_all script [] (old ∷ olds) news seated again = absurd seated
@@ -528,7 +529,7 @@ module _ (schema : DatabaseSchema) (world : FactSet) (header directory : List �
 
       begin_with : (user : User) (seat : DeskSeat D g h) (opened : History)
           → OpensWith schema world (profile_of user) header (bytes (string_bytes user.name)) opened
-          → IsSeatOf S Disk T schema world header directory disk count user seat → Begun user seat
+          → IsSeatOf S Disk schema world header directory disk count user seat → Begun user seat
       begin_with user seat opened opening is =
           let name = string_bytes user.name in
           let profile : profile_of (seat_user seat) ≡ profile_of user = ap profile_of is.user_is in
@@ -543,7 +544,7 @@ module _ (schema : DatabaseSchema) (world : FactSet) (header directory : List �
           (taken_images Disk.reads Disk.image (disk (seat_journal seat)) is.taken c (is.from s) at)) in
           let step : Restarted schema world (profile_of user) header (bytes name) (before name) (images name) opened [] (seat_standing seat) (seat_state seat)
           (Disk.image (seat_disk seat)) (Disk.reads (seat_disk seat)) (Disk.faults (seat_disk seat)) (first_refusal None (seat_standing seat)) =
-          open_step schema world (profile_of user) header (bytes name) (before name) (images name) (exclusive (profile_of user)) T t opened []
+          open_step schema world (profile_of user) header (bytes name) (before name) (images name) (exclusive (profile_of user)) Disk.tells t opened []
           (Disk.reads (seat_disk seat)) (Disk.faults is.taken) (Disk.faults (seat_disk seat)) None
           (seat_history seat) (flying (pairs_of_sole seat.desk)) (seat_standing seat) (Disk.image (seat_disk seat))
           (first_course schema world header bytes before images (profile_of user) name opened (Disk.faults is.taken) (Disk.reads
@@ -555,11 +556,11 @@ module _ (schema : DatabaseSchema) (world : FactSet) (header directory : List �
           })
           (record {
             standing_is = subst (λ r.
-                IsStanding schema world (profile_of user) T header r (seat_history seat) (Disk.faults is.taken) (Disk.faults (seat_disk seat))
+                IsStanding schema world (profile_of user) Disk.tells header r (seat_history seat) (Disk.faults is.taken) (Disk.faults (seat_disk seat))
                 (seat_standing seat))
                 (sym same)
-                (subst (λ p. IsStanding schema world p T header (Disk.reads is.taken) (seat_history seat) (Disk.faults is.taken) (Disk.faults (seat_disk seat))
-                (seat_standing seat)) profile from.standing);
+                (subst (λ p. IsStanding schema world p Disk.tells header (Disk.reads is.taken) (seat_history seat) (Disk.faults is.taken)
+                (Disk.faults (seat_disk seat)) (seat_standing seat)) profile from.standing);
             restarted = λ state holds. subst (λ p. Restarts schema world p (IsSeatIn seat) state (Disk.faults is.taken) (Disk.faults (seat_disk seat))) profile
                 (from.restarted t state
                 (subst (Holds schema world (profile_of (seat_user seat)) header state) same
@@ -612,7 +613,7 @@ module _ (schema : DatabaseSchema) (world : FactSet) (header directory : List �
 
       module _ (decided : (user : UserProfile) (c : List ℕ) → ((entries : History) × Opens schema world user header entries c)
           ⊎ OpensNone schema world user header c) where
-        begin_at : (user : User) (seat : DeskSeat D g h) → IsSeatOf S Disk T schema world header directory disk count user seat → Begun user seat
+        begin_at : (user : User) (seat : DeskSeat D g h) → IsSeatOf S Disk schema world header directory disk count user seat → Begun user seat
         begin_at user seat is = by (decided (profile_of user) (bytes (string_bytes user.name)))
           where
             by : ((entries : History) × Opens schema world (profile_of user) header entries (bytes (string_bytes user.name)))
@@ -628,7 +629,7 @@ module _ (schema : DatabaseSchema) (world : FactSet) (header directory : List �
           pub choices : Choices [] begun seats
 
         pub begin_all : (users : List User) (seats : List (DeskSeat D g h))
-            → AreSeatsOf S Disk T schema world header directory disk count users seats → AreBegun users seats
+            → AreSeatsOf S Disk schema world header directory disk count users seats → AreBegun users seats
         begin_all [] [] are = record { begun = []; of_policy = refl; openings = tt; choices = tt }
         begin_all [] (seat ∷ seats) are = absurd are
         begin_all (user ∷ users) [] are = absurd are

@@ -76,15 +76,15 @@ module _ (schema : DatabaseSchema) (world : FactSet) (users : List NamedUser) wh
       ∙ ap (λ ls. list_any is_broken_line (transcript schema world users events ++ ls)) (sym one)
       ∙ ap (λ ls. list_any is_broken_line ls) (sym (transcript-push events event))
 
-  module _ (header directory : List ℕ) {D : Type 0} {g h : _} (T : Type 0) (Disk : DiskGhosts D) (t : T)
-      (read_is_image : (d : D) → T → Disk.image d (Disk.reads d)) (clock : Clock Disk)
+  module _ (header directory : List ℕ) {D : Type 0} {g h : _} (Disk : DiskGhosts D) (t : Disk.tells)
+      (read_is_image : (d : D) → Disk.tells → Disk.image d (Disk.reads d)) (clock : Clock Disk)
       (bytes : Text → List ℕ) (before : Text → ℕ) (images : Text → List ℕ → Type 0) (found opened : Text → Bool) where
     -- these items were answered with these lines, the users then sit at these desks, and it is known whether some line says that an append failed
     pub record SoFar (items : List BatchItem) (output : List ℕ) (seats : List (DeskSeat D g h)) (is_broken : Bool) : Type 0 where
       pub events : List ScriptEvent
       pub of_items : AreEventsOf items events
       pub lines : output ≡ line_bytes (transcript schema world users (with_opening found opened events))
-      pub seated : AreSeated schema world header directory T Disk t read_is_image clock bytes before images
+      pub seated : AreSeated schema world header directory Disk t read_is_image clock bytes before images
           (with_opening found opened events) users seats
       pub broken : is_broken ≡ list_any is_broken_line (transcript schema world users (with_opening found opened events))
 
@@ -98,7 +98,7 @@ module _ (schema : DatabaseSchema) (world : FactSet) (users : List NamedUser) wh
       pub lines_are : lines ≡ line_bytes said
       pub transcript_is : transcript schema world users (with_opening found opened (earlier ++ added))
           ≡ transcript schema world users (with_opening found opened earlier) ++ said
-      pub seated : AreSeated schema world header directory T Disk t read_is_image clock bytes before images
+      pub seated : AreSeated schema world header directory Disk t read_is_image clock bytes before images
           (with_opening found opened (earlier ++ added)) users seats
       pub broken : is_broken ≡ list_any is_broken_line (transcript schema world users (with_opening found opened (earlier ++ added)))
 
@@ -115,7 +115,7 @@ module _ (schema : DatabaseSchema) (world : FactSet) (users : List NamedUser) wh
           lines_are = refl;
           transcript_is = ap (λ es. transcript schema world users (with_opening found opened es)) same
               ∙ sym (append-nil (transcript schema world users (with_opening found opened so_far.events)));
-          seated = subst (λ es. AreSeated schema world header directory T Disk t read_is_image clock bytes before images (with_opening found opened es) users
+          seated = subst (λ es. AreSeated schema world header directory Disk t read_is_image clock bytes before images (with_opening found opened es) users
               seats) (sym same) so_far.seated;
           broken = so_far.broken ∙ ap (λ es. list_any is_broken_line (transcript schema world users (with_opening found opened es))) (sym same);
         }
@@ -140,7 +140,7 @@ module _ (schema : DatabaseSchema) (world : FactSet) (users : List NamedUser) wh
     }
 
     pub so_far_first : (seats : List (DeskSeat D g h))
-        → AreSeated schema world header directory T Disk t read_is_image clock bytes before images (with_opening found opened []) users seats
+        → AreSeated schema world header directory Disk t read_is_image clock bytes before images (with_opening found opened []) users seats
         → SoFar [] [] seats false
     unfolding transcript
     so_far_first seats seated = record { events = []; of_items = tt; lines = refl; seated = seated; broken = refl }
@@ -153,20 +153,20 @@ module _ (schema : DatabaseSchema) (world : FactSet) (users : List NamedUser) wh
       one : written_after schema world users (with_opening found opened earlier) event ≡ said ∷ []
       line_is : line ≡ line_text said ++ 10 ∷ []
       says_is : says_broken ≡ is_broken_line said
-      seated : AreSeated schema world header directory T Disk t read_is_image clock bytes before images
+      seated : AreSeated schema world header directory Disk t read_is_image clock bytes before images
           (with_opening found opened (earlier ++ event ∷ [])) users seats
 
     module _ (exclusive : (user : UserProfile) → IsExclusive schema world user header) (distinct : has_duplicate (names users) ≡ false) where
       one_more : (events : List ScriptEvent) (old new : List (DeskSeat D g h)) (says_broken : Bool) (item : BatchItem) (line : List ℕ)
-          → AreSeated schema world header directory T Disk t read_is_image clock bytes before images (with_opening found opened events) users old
-          → Carries schema world header T Disk item old new line says_broken
+          → AreSeated schema world header directory Disk t read_is_image clock bytes before images (with_opening found opened events) users old
+          → Carries schema world header Disk item old new line says_broken
           → OneMore events item line new says_broken
       one_more events old new says_broken (asked ask) line seated (told, tells, is, says) =
           let script = with_opening found opened events in
-          let next : Next schema world header directory T Disk t read_is_image clock bytes before images script ask.name ask.session ask.text
+          let next : Next schema world header directory Disk t read_is_image clock bytes before images script ask.name ask.session ask.text
           users new
           told =
-          told_next schema world header directory T Disk t read_is_image clock bytes before images script ask.name ask.session ask.text
+          told_next schema world header directory Disk t read_is_image clock bytes before images script ask.name ask.session ask.text
           users old new
           told distinct seated tells in
           record {
@@ -180,12 +180,12 @@ module _ (schema : DatabaseSchema) (world : FactSet) (users : List NamedUser) wh
           }
       one_more events old new says_broken restarted line seated (again, is, says) =
           let script = with_opening found opened events in
-          let choices : Choices schema world header directory T Disk t read_is_image clock bytes before images script users new =
-          restart_all schema world header directory T Disk t read_is_image clock bytes before images exclusive script users old new seated
+          let choices : Choices schema world header directory Disk t read_is_image clock bytes before images script users new =
+          restart_all schema world header directory Disk t read_is_image clock bytes before images exclusive script users old new seated
           again in
-          let chosen : Chosen schema world header directory T Disk t read_is_image clock bytes before images script_restart
+          let chosen : Chosen schema world header directory Disk t read_is_image clock bytes before images script_restart
           (λ name f o. refl) script users new =
-          choose schema world header directory T Disk t read_is_image clock bytes before images script_restart
+          choose schema world header directory Disk t read_is_image clock bytes before images script_restart
           (λ name f o. refl) script users new distinct choices in
           record {
             event = script_restart chosen.found chosen.opens;
@@ -198,7 +198,7 @@ module _ (schema : DatabaseSchema) (world : FactSet) (users : List NamedUser) wh
           }
 
       module _ (items : List BatchItem) (output : List ℕ) (old new : List (DeskSeat D g h)) (is_broken says_broken : Bool) (item : BatchItem) (line : List ℕ)
-          (so_far : SoFar items output old is_broken) (carried : Carries schema world header T Disk item old new line says_broken) where
+          (so_far : SoFar items output old is_broken) (carried : Carries schema world header Disk item old new line says_broken) where
         step : OneMore so_far.events item line new says_broken
         step = one_more so_far.events old new says_broken item line so_far.seated carried
 
@@ -215,7 +215,7 @@ module _ (schema : DatabaseSchema) (world : FactSet) (users : List NamedUser) wh
       -- one more item behind others
       adds_more : (earlier : List ScriptEvent) (items : List BatchItem) (count : ℕ) (lines line : List ℕ) (old new : List (DeskSeat D g h))
           (is_broken says_broken : Bool) (item : BatchItem)
-          → Adds earlier items count lines old is_broken → Carries schema world header T Disk item old new line says_broken
+          → Adds earlier items count lines old is_broken → Carries schema world header Disk item old new line says_broken
           → Adds earlier (items ++ item ∷ []) (count + 1) (lines ++ line) new (is_broken || says_broken)
       adds_more earlier items count lines line old new is_broken says_broken item adds carried =
           let events = earlier ++ adds.added in
@@ -234,7 +234,7 @@ module _ (schema : DatabaseSchema) (world : FactSet) (users : List NamedUser) wh
                 ∙ transcript-push script next.event ∙ ap (λ l. transcript schema world users script ++ l) next.one
                 ∙ ap (λ l. l ++ next.said ∷ []) adds.transcript_is
                 ∙ append_assoc (transcript schema world users (with_opening found opened earlier)) adds.said (next.said ∷ []);
-            seated = subst (λ es. AreSeated schema world header directory T Disk t read_is_image clock bytes before images
+            seated = subst (λ es. AreSeated schema world header directory Disk t read_is_image clock bytes before images
                 (with_opening found opened es) users new) same next.seated;
             broken = ap (λ b. is_broken || b) next.says_is ∙ broken-push script next.event next.said is_broken next.one adds.broken
                 ∙ ap (λ es. list_any is_broken_line (transcript schema world users (with_opening found opened es))) same;
@@ -242,7 +242,7 @@ module _ (schema : DatabaseSchema) (world : FactSet) (users : List NamedUser) wh
 
       -- all of these
       pub adds_all : (first items : List BatchItem) (output lines : List ℕ) (old new : List (DeskSeat D g h)) (was says_broken : Bool)
-          (so_far : SoFar first output old was) → Runs schema world header T Disk items old lines new says_broken
+          (so_far : SoFar first output old was) → Runs schema world header Disk items old lines new says_broken
           → Adds so_far.events (first ++ items) (length items) lines new (was || says_broken)
       adds_all first items output lines old new was says_broken so_far (nothing seats) =
           subst (λ l. Adds so_far.events l 0 [] old (was || false)) (sym (append-nil first))

@@ -25,7 +25,7 @@ abbrev pub restart_bytes : Bool → List ℕ
 restart_bytes true = line_text restart_line ++ 10 ∷ []
 restart_bytes false = []
 
-module _ (schema : DatabaseSchema) (world : FactSet) (header : List ℕ) {D : Type 0} (told : Type 0)
+module _ (schema : DatabaseSchema) (world : FactSet) (header : List ℕ) {D : Type 0}
     (Disk : DiskGhosts D) where
   -- what an item does: an ask is replied to by the user of its name, and a restart closes and opens
   -- every desk; its line, and whether that says that an append failed
@@ -36,7 +36,7 @@ module _ (schema : DatabaseSchema) (world : FactSet) (header : List ℕ) {D : Ty
       × (line ≡ line_text (reply_line ask.name ask.session reply) ++ 10 ∷ [])
       × (is_broken ≡ is_broken_reply reply)
   Carries restarted old new line is_broken =
-      AreReopened schema world header told Disk old new
+      AreReopened schema world header Disk old new
       × (line ≡ line_text restart_line ++ 10 ∷ []) × (is_broken ≡ false)
 
   -- these items were carried out with these lines, one after the other
@@ -97,7 +97,7 @@ module _ (schema : DatabaseSchema) (world : FactSet) (header : List ℕ) {D : Ty
   -- the desks were opened again, or they weren't
   abbrev pub MaybeReopened : {g h : _} → Bool → List (DeskSeat D g h) → List (DeskSeat D g h)
       → Type 0
-  MaybeReopened true old new = AreReopened schema world header told Disk old new
+  MaybeReopened true old new = AreReopened schema world header Disk old new
   MaybeReopened false old new = new ≡ old
 
   -- How a stretch ended whose lines were still to be written. Once its counters were closed they
@@ -106,7 +106,7 @@ module _ (schema : DatabaseSchema) (world : FactSet) (header : List ℕ) {D : Ty
   abbrev pub IsEnded : {g h : _} → Type 0 → (List (DeskSeat D g h) → Type 0)
       → List (DeskSeat D g h) → List ℕ → List ℕ → List ℕ → DeskEnded D g h → Type 0
   IsEnded wrote are_back old lines before after (Again new) =
-      AreReopened schema world header told Disk old new.items
+      AreReopened schema world header Disk old new.items
       × (wrote → after ≡ before ++ (lines ++ restart_bytes true))
   IsEnded {g} {h} wrote are_back old lines before after CutOff =
       (is_again : Bool) × (new : List (DeskSeat D g h)) × MaybeReopened is_again old new

@@ -137,7 +137,7 @@ fn answer_stretch<R: Wait, G: Gate, D: Disk>(
     requires room { length asks.now < vec_capacity lines.old }
     ensures answered { (schema : DatabaseSchema) (world : FactSet) (header : List ℕ)
         → AllByRecursion (IsSeatServed schema world header) seats.old.items
-        → Runs schema world header D.tells D.Disk (stretch_in asks.now)
+        → Runs schema world header D.Disk (stretch_in asks.now)
         seats.old.items (output_bytes lines.new.items) seats.new.items result }
     ensures spare { vec_len lines.new < vec_capacity lines.new }
     ensures capacity { vec_capacity lines.new ≡ vec_capacity lines.old }
@@ -174,7 +174,7 @@ fn restart<'w, F: Shelf, K: Sink>(
     requires later { AreLater F.D.faults (F.disk_faults shelf.old) seats.items }
     requires spare { vec_len lines.old < vec_capacity lines.old }
     ensures ended { IsEnded registry.now.schema.now registry.now.world.now
-        (header_bytes registry.now.header.now) F.D.tells F.D.Disk K.tells
+        (header_bytes registry.now.header.now) F.D.Disk K.tells
         (λ left. AreBack F.tells F.D.Disk (F.disk shelf.new) (F.disk_faults shelf.new) left)
         seats.entry.items (output_bytes lines.old.items) (K.written sink.old) (K.written sink.new)
         result }
@@ -234,7 +234,7 @@ fn answer_all<'w, R: Wait, G: Gate, F: Shelf, K: Sink>(
     requires ended { All (λ asks. length asks.items < vec_capacity rooms.1) (ended_of batch.now) }
     requires last { length (last_of batch.now) < vec_capacity rooms.1 }
     ensures answered { IsAnswered registry.now.schema.now registry.now.world.now
-        (header_bytes registry.now.header.now) F.D.tells F.D.Disk K.tells
+        (header_bytes registry.now.header.now) F.D.Disk K.tells
         (λ left. AreBack F.tells F.D.Disk (F.disk shelf.new) (F.disk_faults shelf.new) left)
         (items_of batch.now) seats.entry.items (K.written sink.old) (K.written sink.new) result }
     ensures inside { AllIn (journals seats.entry.items) (F.is_out shelf.new) }

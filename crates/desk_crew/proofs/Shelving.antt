@@ -248,7 +248,7 @@ module _ {D : Type 0} {g h : _} where
         -- one more is back
         pub given_more : (counts_now : (d : D) (t : ℕ) (c : List ℕ) → t ≤ Disk.moment d → Disk.image d c → Disk.image_since d t c)
             (only_now : (d : D) (c : List ℕ) → Disk.image_since d (Disk.moment d) c → Disk.image d c)
-            (seats before : List (DeskSeat D g h)) (seat : DeskSeat D g h) (now : D) (closed : IsClosed told Disk seat.desk now)
+            (seats before : List (DeskSeat D g h)) (seat : DeskSeat D g h) (now : D) (closed : IsClosed Disk seat.desk now)
             (disk disk' : Text → Option D) (is_out is_out' : Text → Bool) (count count' : Text → ℕ) (one : Text) → one ≡ seat_journal seat
             → before ≡ seats ++ seat ∷ [] → Given before disk is_out count
             → (told → disk' one ≡ Some now) → SameOthers one disk disk' → is_out' one ≡ false → SameOthers one is_out is_out' → count' one ≡ Disk.faults now

@@ -112,7 +112,7 @@ module _ {D : Type 0} (told : Type 0) (Disk : DiskGhosts D) where
   pub record IsBack {g h : _} (disk : Text → Option D) (count : Text → ℕ) (seat : DeskSeat D g h) :
       Type 0 where
     pub now : D
-    pub left : IsLeftBy told Disk seat.desk now
+    pub left : IsLeftBy Disk seat.desk now
     pub held : told → disk (seat_journal seat) ≡ Some now
     pub counted : count (seat_journal seat) ≡ Disk.faults now
 
@@ -121,8 +121,7 @@ module _ {D : Type 0} (told : Type 0) (Disk : DiskGhosts D) where
   AreBack disk count [] = Unit {0}
   AreBack disk count (seat ∷ seats) = IsBack disk count seat × AreBack disk count seats
 
-  module _ (disk_told : Type 0) (schema : DatabaseSchema) (world : FactSet)
-      (header directory : List ℕ) where
+  module _ (schema : DatabaseSchema) (world : FactSet) (header directory : List ℕ) where
     -- a user's journal was taken from the shelf and opened
     pub record IsSeatOf {g h : _} (disk : Text → Option D) (count : Text → ℕ) (user : User)
         (seat : DeskSeat D g h) : Type 0 where
@@ -131,7 +130,7 @@ module _ {D : Type 0} (told : Type 0) (Disk : DiskGhosts D) where
       pub taken : D
       pub from : told → IsTaken Disk.reads Disk.image (disk (seat_journal seat)) taken
       pub counted : Disk.faults taken ≡ count (seat_journal seat)
-      pub opened : IsOpenedFrom schema world header disk_told Disk taken None seat
+      pub opened : IsOpenedFrom schema world header Disk taken None seat
       pub left : IsLeft Disk taken (seat_disk seat)
 
     -- those of all users were

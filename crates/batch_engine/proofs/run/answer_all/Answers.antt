@@ -26,7 +26,7 @@ loop-asks-init g c =
     record {
       so_far =
           all_first c.args.registry.now.schema.now c.args.registry.now.world.now
-          (header_bytes c.args.registry.now.header.now) g.F.D.Disk.tells g.F.D.Disk g.K.Sink.tells c.args.seats.items
+          (header_bytes c.args.registry.now.header.now) g.F.D.Disk g.K.Sink.tells c.args.seats.items
           (g.K.Sink.written c.args.sink.now);
       same = refl;
       later = omega arith;
@@ -43,7 +43,7 @@ answer_stretch-says_broken-requires-clause-short g c =
 
 pub answer_stretch-says_broken-requires-clause-served : goal.answer_stretch-says_broken-requires-clause-served
 answer_stretch-says_broken-requires-clause-served g c =
-    let stay = stay_run _ _ _ _ _ _ _ _ _ _ c.loop-asks.invariant.so_far.runs in (
+    let stay = stay_run _ _ _ _ _ _ _ _ _ c.loop-asks.invariant.so_far.runs in (
       c.args.registry.now.schema.now,
       c.args.registry.now.world.now,
       header_bytes c.args.registry.now.header.now,
@@ -59,12 +59,12 @@ answer_stretch-says_broken-requires-clause-room g c =
 
 -- what it did to the seats
 runs : (g : Over) (c : goal.After-answer_stretch-says_broken g)
-    → Runs c.args.registry.now.schema.now c.args.registry.now.world.now (header_bytes c.args.registry.now.header.now) g.F.D.Disk.tells g.F.D.Disk
+    → Runs c.args.registry.now.schema.now c.args.registry.now.world.now (header_bytes c.args.registry.now.header.now) g.F.D.Disk
     (stretch_in c.asks-item.result.items) c.loop-asks.seats.items (output_bytes c.answer_stretch-says_broken.new.lines.items)
     c.answer_stretch-says_broken.new.seats.items c.answer_stretch-says_broken.result
 runs g c =
-    let stay = stay_run _ _ _ _ _ _ _ _ _ _ c.loop-asks.invariant.so_far.runs in
-    subst (λ l. Runs c.args.registry.now.schema.now c.args.registry.now.world.now (header_bytes c.args.registry.now.header.now) g.F.D.Disk.tells g.F.D.Disk
+    let stay = stay_run _ _ _ _ _ _ _ _ _ c.loop-asks.invariant.so_far.runs in
+    subst (λ l. Runs c.args.registry.now.schema.now c.args.registry.now.world.now (header_bytes c.args.registry.now.header.now) g.F.D.Disk
     (stretch_in l) c.loop-asks.seats.items (output_bytes c.answer_stretch-says_broken.new.lines.items)
     c.answer_stretch-says_broken.new.seats.items c.answer_stretch-says_broken.result) c.as_slice.ensures.value
     (c.answer_stretch-says_broken.ensures.answered c.args.registry.now.schema.now c.args.registry.now.world.now
@@ -74,11 +74,11 @@ runs g c =
 
 -- what stays of the first seats
 stay : (g : Over) (c : goal.After-answer_stretch-says_broken g)
-    → Stay c.args.registry.now.schema.now c.args.registry.now.world.now (header_bytes c.args.registry.now.header.now) g.F.D.Disk.tells g.F.D.Disk
+    → Stay c.args.registry.now.schema.now c.args.registry.now.world.now (header_bytes c.args.registry.now.header.now) g.F.D.Disk
     c.args.seats.items c.answer_stretch-says_broken.new.seats.items
 stay g c =
-    stay_run _ _ _ _ _ _ _ _ _ _
-    (runs_then _ _ _ g.F.D.Disk.tells g.F.D.Disk _ _ c.args.seats.items c.loop-asks.seats.items c.answer_stretch-says_broken.new.seats.items _ _ _ _
+    stay_run _ _ _ _ _ _ _ _ _
+    (runs_then _ _ _ g.F.D.Disk _ _ c.args.seats.items c.loop-asks.seats.items c.answer_stretch-says_broken.new.seats.items _ _ _ _
     c.loop-asks.invariant.so_far.runs (runs g c))
 
 pub restart-requires-clause-limits : goal.restart-requires-clause-limits
@@ -119,17 +119,17 @@ loop-asks-preserved g c =
     record {
       so_far = subst (λ l.
           RunsAll c.args.registry.now.schema.now c.args.registry.now.world.now
-          (header_bytes c.args.registry.now.header.now) g.F.D.Disk.tells g.F.D.Disk g.K.Sink.tells l
+          (header_bytes c.args.registry.now.header.now) g.F.D.Disk g.K.Sink.tells l
           c.args.seats.items c.in-Again.next.items c.if-is_broken.is_broken (g.K.Sink.written c.args.sink.now) (g.K.Sink.written c.restart.new.sink))
           (sym (stretches_more ended i c.asks-item.result c.loop-asks-test.true c.asks-item.is))
           (all_more c.args.registry.now.schema.now c.args.registry.now.world.now
-          (header_bytes c.args.registry.now.header.now) g.F.D.Disk.tells g.F.D.Disk g.K.Sink.tells
+          (header_bytes c.args.registry.now.header.now) g.F.D.Disk g.K.Sink.tells
           (stretches_in (take i ended)) (stretch_in c.asks-item.result.items ++ restarted ∷ []) c.args.seats.items c.loop-asks.seats.items
           c.in-Again.next.items c.loop-asks.is_broken (c.answer_stretch-says_broken.result || false) c.if-is_broken.is_broken _ _ _
           (output_bytes c.answer_stretch-says_broken.new.lines.items ++ restart_bytes true)
           (joined ∙ ap (λ b. c.loop-asks.is_broken || b) (sym (or-false c.answer_stretch-says_broken.result))) so_far
           (restarted_more c.args.registry.now.schema.now c.args.registry.now.world.now
-          (header_bytes c.args.registry.now.header.now) g.F.D.Disk.tells g.F.D.Disk (stretch_in c.asks-item.result.items) c.loop-asks.seats.items
+          (header_bytes c.args.registry.now.header.now) g.F.D.Disk (stretch_in c.asks-item.result.items) c.loop-asks.seats.items
           c.answer_stretch-says_broken.new.seats.items c.in-Again.next.items (output_bytes c.answer_stretch-says_broken.new.lines.items)
           c.answer_stretch-says_broken.result (runs g c.After-answer_stretch-says_broken) again.0) again.1);
       same = c.in-Again.ensures.untouched tt ∙ c.loop-asks.invariant.same;
@@ -152,7 +152,7 @@ returns-in-CutOff-clause-answered g c =
     let cut = c.in-CutOff.ensures.ended in (
       cut.1,
       cut_off c.args.registry.now.schema.now c.args.registry.now.world.now
-          (header_bytes c.args.registry.now.header.now) g.F.D.Disk.tells g.F.D.Disk g.K.Sink.tells (items_of c.args.batch.now)
+          (header_bytes c.args.registry.now.header.now) g.F.D.Disk g.K.Sink.tells (items_of c.args.batch.now)
           (stretches_in (take c.loop-asks.asks-index c.ended-asks-ended.result.now)) (stretch_in c.asks-item.result.items)
           (items_in (drop (c.loop-asks.asks-index + 1) c.ended-asks-ended.result.now) (last_of c.args.batch.now)) c.args.seats.items c.loop-asks.seats.items
           c.answer_stretch-says_broken.new.seats.items c.loop-asks.is_broken c.answer_stretch-says_broken.result _ _ _
@@ -175,11 +175,11 @@ returns-in-NoMemory-clause-answered g c =
     let others = items_in (drop (c.loop-asks.asks-index + 1) c.ended-asks-ended.result.now) (last_of c.args.batch.now) in (
       c.answer_stretch-says_broken.new.seats.items,
       to_restart c.args.registry.now.schema.now c.args.registry.now.world.now
-          (header_bytes c.args.registry.now.header.now) g.F.D.Disk.tells g.F.D.Disk g.K.Sink.tells (items_of c.args.batch.now) (done ++ asks) others
+          (header_bytes c.args.registry.now.header.now) g.F.D.Disk g.K.Sink.tells (items_of c.args.batch.now) (done ++ asks) others
           c.args.seats.items c.answer_stretch-says_broken.new.seats.items (c.loop-asks.is_broken || c.answer_stretch-says_broken.result) _ _
           (before_restart (items_of c.args.batch.now) done asks others (items_here g c.After-answer_stretch-says_broken))
           (all_more c.args.registry.now.schema.now c.args.registry.now.world.now
-          (header_bytes c.args.registry.now.header.now) g.F.D.Disk.tells g.F.D.Disk g.K.Sink.tells done asks c.args.seats.items c.loop-asks.seats.items
+          (header_bytes c.args.registry.now.header.now) g.F.D.Disk g.K.Sink.tells done asks c.args.seats.items c.loop-asks.seats.items
           c.answer_stretch-says_broken.new.seats.items c.loop-asks.is_broken c.answer_stretch-says_broken.result _ _ _ _
           (output_bytes c.answer_stretch-says_broken.new.lines.items) refl c.loop-asks.invariant.so_far (runs g c.After-answer_stretch-says_broken) ended.1),
       ended.0,
@@ -241,12 +241,12 @@ returns-in-NoMemory-clause-disks g c =
 -- ---- the last stretch
 
 last_runs : (g : Over) (c : goal.After-answer_stretch-says_broken-2 g)
-    → Runs c.args.registry.now.schema.now c.args.registry.now.world.now (header_bytes c.args.registry.now.header.now) g.F.D.Disk.tells g.F.D.Disk
+    → Runs c.args.registry.now.schema.now c.args.registry.now.world.now (header_bytes c.args.registry.now.header.now) g.F.D.Disk
     (stretch_in (last_of c.args.batch.now)) c.loop-asks.seats.items (output_bytes c.answer_stretch-says_broken-2.new.lines.items)
     c.answer_stretch-says_broken-2.new.seats.items c.answer_stretch-says_broken-2.result
 last_runs g c =
-    let stay = stay_run _ _ _ _ _ _ _ _ _ _ c.loop-asks.invariant.so_far.runs in
-    subst (λ l. Runs c.args.registry.now.schema.now c.args.registry.now.world.now (header_bytes c.args.registry.now.header.now) g.F.D.Disk.tells g.F.D.Disk
+    let stay = stay_run _ _ _ _ _ _ _ _ _ c.loop-asks.invariant.so_far.runs in
+    subst (λ l. Runs c.args.registry.now.schema.now c.args.registry.now.world.now (header_bytes c.args.registry.now.header.now) g.F.D.Disk
     (stretch_in l) c.loop-asks.seats.items (output_bytes c.answer_stretch-says_broken-2.new.lines.items)
     c.answer_stretch-says_broken-2.new.seats.items c.answer_stretch-says_broken-2.result) c.last.ensures.stretch
     (c.answer_stretch-says_broken-2.ensures.answered c.args.registry.now.schema.now c.args.registry.now.world.now
@@ -260,16 +260,16 @@ all_ended g c =
     ∙ c.ended-asks-ended.ensures.stretches)
 
 last_stay : (g : Over) (c : goal.After-answer_stretch-says_broken-2 g)
-    → Stay c.args.registry.now.schema.now c.args.registry.now.world.now (header_bytes c.args.registry.now.header.now) g.F.D.Disk.tells g.F.D.Disk
+    → Stay c.args.registry.now.schema.now c.args.registry.now.world.now (header_bytes c.args.registry.now.header.now) g.F.D.Disk
     c.args.seats.items c.answer_stretch-says_broken-2.new.seats.items
 last_stay g c =
-    stay_run _ _ _ _ _ _ _ _ _ _
-    (runs_then _ _ _ g.F.D.Disk.tells g.F.D.Disk _ _ c.args.seats.items c.loop-asks.seats.items c.answer_stretch-says_broken-2.new.seats.items _ _ _ _
+    stay_run _ _ _ _ _ _ _ _ _
+    (runs_then _ _ _ g.F.D.Disk _ _ c.args.seats.items c.loop-asks.seats.items c.answer_stretch-says_broken-2.new.seats.items _ _ _ _
     c.loop-asks.invariant.so_far.runs (last_runs g c))
 
 pub answer_stretch-says_broken-2-requires-clause-served : goal.answer_stretch-says_broken-2-requires-clause-served
 answer_stretch-says_broken-2-requires-clause-served g c =
-    let stay = stay_run _ _ _ _ _ _ _ _ _ _ c.loop-asks.invariant.so_far.runs in (
+    let stay = stay_run _ _ _ _ _ _ _ _ _ c.loop-asks.invariant.so_far.runs in (
       c.args.registry.now.schema.now,
       c.args.registry.now.world.now,
       header_bytes c.args.registry.now.header.now,
@@ -370,11 +370,11 @@ pub returns-in-Ok-clause-answered : goal.returns-in-Ok-clause-answered
 returns-in-Ok-clause-answered g c = (
   c.answer_stretch-says_broken-2.new.seats.items,
   subst (λ l. RunsAll c.args.registry.now.schema.now c.args.registry.now.world.now
-      (header_bytes c.args.registry.now.header.now) g.F.D.Disk.tells g.F.D.Disk g.K.Sink.tells (l ++ stretch_in (last_of c.args.batch.now))
+      (header_bytes c.args.registry.now.header.now) g.F.D.Disk g.K.Sink.tells (l ++ stretch_in (last_of c.args.batch.now))
       c.args.seats.items c.answer_stretch-says_broken-2.new.seats.items _ (g.K.Sink.written c.args.sink.now) (g.K.Sink.written c.write_parts.new.sink))
       (all_ended g c.After-answer_stretch-says_broken-2)
       (all_more c.args.registry.now.schema.now c.args.registry.now.world.now
-      (header_bytes c.args.registry.now.header.now) g.F.D.Disk.tells g.F.D.Disk g.K.Sink.tells
+      (header_bytes c.args.registry.now.header.now) g.F.D.Disk g.K.Sink.tells
       (stretches_in (take c.loop-asks.asks-index c.ended-asks-ended.result.now)) (stretch_in (last_of c.args.batch.now)) c.args.seats.items
       c.loop-asks.seats.items c.answer_stretch-says_broken-2.new.seats.items c.loop-asks.is_broken c.answer_stretch-says_broken-2.result _ _ _ _
       (output_bytes c.answer_stretch-says_broken-2.new.lines.items) refl c.loop-asks.invariant.so_far (last_runs g c.After-answer_stretch-says_broken-2)
@@ -388,7 +388,7 @@ pub returns-clause-answered : goal.returns-clause-answered
 returns-clause-answered g c = (
   c.answer_stretch-says_broken-2.new.seats.items,
   some_cut c.args.registry.now.schema.now c.args.registry.now.world.now
-      (header_bytes c.args.registry.now.header.now) g.F.D.Disk.tells g.F.D.Disk g.K.Sink.tells (items_of c.args.batch.now)
+      (header_bytes c.args.registry.now.header.now) g.F.D.Disk g.K.Sink.tells (items_of c.args.batch.now)
       (stretches_in (take c.loop-asks.asks-index c.ended-asks-ended.result.now)) (stretch_in (last_of c.args.batch.now)) [] c.args.seats.items
       c.loop-asks.seats.items c.answer_stretch-says_broken-2.new.seats.items c.loop-asks.is_broken c.answer_stretch-says_broken-2.result _ _ _
       (output_bytes c.answer_stretch-says_broken-2.new.lines.items)

@@ -18,7 +18,7 @@ loop-ask-init g c =
     let none = c.clear.ensures.len in
     record {
       runs = λ schema world header served.
-          subst (λ o. Runs schema world header g.D.Disk.tells g.D.Disk [] c.args.seats.now.items o c.args.seats.now.items false)
+          subst (λ o. Runs schema world header g.D.Disk [] c.args.seats.now.items o c.args.seats.now.items false)
           (ap output_bytes (sym c.clear.ensures.items)) (nothing c.args.seats.now.items);
       within = omega arith;
       count = omega (arith, none);
@@ -39,7 +39,7 @@ answer-reply-requires-clause-short g c =
 pub answer-reply-requires-clause-users : goal.answer-reply-requires-clause-users
 answer-reply-requires-clause-users g c =
     let some = c.requires.served in
-    let stay = stay_run some.0 some.1 some.2 _ _ _ _ _ _ _ (c.loop-ask.invariant.runs some.0 some.1 some.2 some.3) in
+    let stay = stay_run some.0 some.1 some.2 _ _ _ _ _ _ (c.loop-ask.invariant.runs some.0 some.1 some.2 some.3) in
     served_users some.0 some.1 some.2 c.loop-ask.seats.items (stay.served some.3)
 
 pub push_reserved-requires : goal.push_reserved-requires
@@ -67,7 +67,7 @@ loop-ask-preserved g c =
     record {
       runs = λ schema world header served.
           let runs = so_far.runs schema world header served in
-          let now = (stay_run schema world header _ _ _ _ _ _ _ runs).served served in
+          let now = (stay_run schema world header _ _ _ _ _ _ runs).served served in
           let step = more (stretch_in (take i asks)) c.args.seats.now.items c.loop-ask.seats.items c.answer-reply.new.seats.items
           (output_bytes c.loop-ask.lines.items) c.line_of-text.result c.loop-ask.is_broken c.is_broken_reply-is_failed.result
           (asked (ask_in c.ask-item.result)) runs (
@@ -78,11 +78,11 @@ loop-ask-preserved g c =
             c.line_of-text.ensures,
             c.is_broken_reply-is_failed.ensures,
           ) in
-          subst (λ l. Runs schema world header g.D.Disk.tells g.D.Disk l c.args.seats.now.items (output_bytes c.push_reserved.new.self.items)
+          subst (λ l. Runs schema world header g.D.Disk l c.args.seats.now.items (output_bytes c.push_reserved.new.self.items)
           c.answer-reply.new.seats.items c.if-is_broken.is_broken) (sym next)
-          (subst (λ o. Runs schema world header g.D.Disk.tells g.D.Disk (stretch_in (take i asks) ++ asked (ask_in c.ask-item.result) ∷ [])
+          (subst (λ o. Runs schema world header g.D.Disk (stretch_in (take i asks) ++ asked (ask_in c.ask-item.result) ∷ [])
           c.args.seats.now.items o c.answer-reply.new.seats.items c.if-is_broken.is_broken) (sym output)
-          (subst (λ b. Runs schema world header g.D.Disk.tells g.D.Disk (stretch_in (take i asks) ++ asked (ask_in c.ask-item.result) ∷ [])
+          (subst (λ b. Runs schema world header g.D.Disk (stretch_in (take i asks) ++ asked (ask_in c.ask-item.result) ∷ [])
           c.args.seats.now.items (output_bytes c.loop-ask.lines.items ++ c.line_of-text.result) c.answer-reply.new.seats.items b) (sym joined) step));
       within = omega (arith, c.loop-ask-test.true);
       count = omega (arith, count, grown);
@@ -91,7 +91,7 @@ loop-ask-preserved g c =
 
 pub returns-clause-answered : goal.returns-clause-answered
 returns-clause-answered g c = λ schema world header served.
-    subst (λ l. Runs schema world header g.D.Disk.tells g.D.Disk (stretch_in l) c.args.seats.now.items (output_bytes c.loop-ask.lines.items)
+    subst (λ l. Runs schema world header g.D.Disk (stretch_in l) c.args.seats.now.items (output_bytes c.loop-ask.lines.items)
     c.loop-ask.seats.items c.loop-ask.is_broken) (take_all c.loop-ask.ask-index c.args.asks.now (omega (arith, c.loop-ask-test.false)))
     (c.loop-ask.invariant.runs schema world header served)
 

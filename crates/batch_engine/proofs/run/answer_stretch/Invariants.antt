@@ -13,7 +13,7 @@ use Rattle.batch_engine.proofs.run.answer_stretch.Given as goal
 abbrev pub invariant-loop-ask : goal.invariant-loop-ask
 invariant-loop-ask g l = record {
   runs : (schema : DatabaseSchema) (world : FactSet) (header : List ℕ) → AllByRecursion (IsSeatServed schema world header) l.fn.seats.items
-      → Runs schema world header g.D.Disk.tells g.D.Disk (stretch_in (take l.ask-index l.asks)) l.fn.seats.items (output_bytes l.lines.items) l.seats.items
+      → Runs schema world header g.D.Disk (stretch_in (take l.ask-index l.asks)) l.fn.seats.items (output_bytes l.lines.items) l.seats.items
       l.is_broken;
   within : l.ask-index ≤ length l.asks;
   count : vec_len l.lines ≡ l.ask-index;

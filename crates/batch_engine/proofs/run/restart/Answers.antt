@@ -15,8 +15,8 @@ use Rattle.batch_engine.proofs.run.restart.Goals as goal
 -- the seats that were opened again stand in the place of those before
 names : (g : Over) (c : goal.In-Some g) → journals c.in-Some.seats.items ≡ journals c.args.seats.items
 names g c =
-    same_journals c.args.registry.now.schema.now c.args.registry.now.world.now (header_bytes c.args.registry.now.header.now) g.F.D.Disk.tells
-    g.F.Shelf.tells g.F.D.Disk c.args.seats.items c.in-Some.seats.items c.in-Some.ensures.reopened
+    same_journals c.args.registry.now.schema.now c.args.registry.now.world.now (header_bytes c.args.registry.now.header.now)
+    g.F.D.Disk c.args.seats.items c.in-Some.seats.items c.in-Some.ensures.reopened
 
 -- the bytes that were kept, with the line of the restart
 bytes : (g : Over) (c : goal.After-push_reserved g)
@@ -42,8 +42,8 @@ can g c =
     (record {
       distinct = ap has_duplicate (names g c.In-Some) ∙ c.requires.distinct;
       out = subst (λ ns. AllOut ns (g.F.Shelf.is_out c.args.shelf.now)) (sym (names g c.In-Some)) c.requires.out;
-      later = later_reopened c.args.registry.now.schema.now c.args.registry.now.world.now (header_bytes c.args.registry.now.header.now) g.F.D.Disk.tells
-          g.F.Shelf.tells g.F.D.Disk (g.F.Shelf.disk_faults c.args.shelf.now) c.args.seats.items c.in-Some.seats.items c.in-Some.ensures.reopened
+      later = later_reopened c.args.registry.now.schema.now c.args.registry.now.world.now (header_bytes c.args.registry.now.header.now)
+          g.F.D.Disk (g.F.Shelf.disk_faults c.args.shelf.now) c.args.seats.items c.in-Some.seats.items c.in-Some.ensures.reopened
           c.requires.later;
     })
 

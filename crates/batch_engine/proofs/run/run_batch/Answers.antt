@@ -26,21 +26,21 @@ returns-in-Refused-clause-ends g c =
 
 seated : (g : Over) (c : goal.In-Ok-open_all g)
     → AllSeated c.args.registry.now.directory.now c.args.registry.now.schema.now c.args.registry.now.world.now (header_bytes c.args.registry.now.header.now)
-    g.F.Shelf.tells g.F.D.Disk.tells g.F.D.Disk c.args.registry.now.users.now c.in-Ok-open_all.seats.items (g.F.Shelf.disk c.args.shelf.now)
+    g.F.Shelf.tells g.F.D.Disk c.args.registry.now.users.now c.in-Ok-open_all.seats.items (g.F.Shelf.disk c.args.shelf.now)
     (g.F.Shelf.disk c.open_all.new.shelf) (g.F.Shelf.is_out c.open_all.new.shelf) (g.F.Shelf.disk_faults c.args.shelf.now)
     (g.F.Shelf.disk_faults c.open_all.new.shelf)
 seated g c =
-    all_seated _ _ _ _ _ _ _ _ _ _ _ _ _ _ c.law_journals_differ.ensures c.requires.names c.in-Ok-open_all.ensures.opened c.in-Ok-open_all.ensures.out
+    all_seated _ _ _ _ _ _ _ _ _ _ _ _ _ c.law_journals_differ.ensures c.requires.names c.in-Ok-open_all.ensures.opened c.in-Ok-open_all.ensures.out
     c.open_all.ensures.disks c.in-Ok-open_all.ensures.counts
 
 -- what runs from there make of the journals, where the shelf is this one behind them
 ending : (g : Over) (c : goal.In-Ok-open_all g) (told : g.F.Shelf.tells) (after : _)
-    → Finishes c.args.registry.now.schema.now c.args.registry.now.world.now (header_bytes c.args.registry.now.header.now) g.F.D.Disk.tells g.F.Shelf.tells
+    → Finishes c.args.registry.now.schema.now c.args.registry.now.world.now (header_bytes c.args.registry.now.header.now) g.F.Shelf.tells
     g.F.D.Disk (journals_on g.F.Shelf g.F.D.Disk c.args.registry.now.directory.now c.args.shelf.now after)
     (map named_user c.args.registry.now.users.now) c.in-Ok-open_all.seats.items (g.F.Shelf.disk after) (g.F.Shelf.disk_faults after)
 ending g c told after =
     finishes c.args.registry.now.schema.now c.args.registry.now.world.now (header_bytes c.args.registry.now.header.now) c.args.registry.now.directory.now
-    g.F.D.Disk.tells g.F.Shelf.tells (g.met.F.Shelf.tells_disks told) told g.F.D.Disk g.met.F.D.Disk.read_is_image g.met.F.D.Disk.only_now
+    g.F.Shelf.tells told g.F.D.Disk (g.met.F.Shelf.tells_disks told) g.met.F.D.Disk.read_is_image g.met.F.D.Disk.only_now
     (g.F.Shelf.disk c.args.shelf.now) (g.F.Shelf.disk after) (g.F.Shelf.disk_faults c.args.shelf.now) (g.F.Shelf.disk_faults after)
     (λ (user : UserProfile) entries bytes why. c.law_openings.ensures.unrefused c.args.registry.now.schema.now c.args.registry.now.world.now user
     c.args.registry.now.header.now bytes entries why)
@@ -52,7 +52,7 @@ ending g c told after =
 pub answer_all-requires-clause-limits : goal.answer_all-requires-clause-limits
 answer_all-requires-clause-limits g c =
     seats_limits c.args.registry.now.directory.now c.args.registry.now.schema.now c.args.registry.now.world.now
-    (header_bytes c.args.registry.now.header.now) g.F.Shelf.tells g.F.D.Disk.tells g.F.D.Disk (g.F.Shelf.disk c.args.shelf.now)
+    (header_bytes c.args.registry.now.header.now) g.F.Shelf.tells g.F.D.Disk (g.F.Shelf.disk c.args.shelf.now)
     (g.F.Shelf.disk_faults c.args.shelf.now) c.args.registry.now.users.now c.in-Ok-open_all.seats.items c.in-Ok-open_all.ensures.opened
     (all_of _ c.args.registry.now.users.now c.requires.limits)
 
@@ -74,7 +74,7 @@ answer_all-requires-clause-refusals g c =
 -- ---- all disks are back, at these seats
 
 given : (g : Over) (c : goal.After-answer_all g) (new : _) (stay : Stay c.args.registry.now.schema.now c.args.registry.now.world.now
-    (header_bytes c.args.registry.now.header.now) g.F.D.Disk.tells g.F.D.Disk c.In-Ok-open_all.in-Ok-open_all.seats.items new)
+    (header_bytes c.args.registry.now.header.now) g.F.D.Disk c.In-Ok-open_all.in-Ok-open_all.seats.items new)
     → AreBack g.F.Shelf.tells g.F.D.Disk (g.F.Shelf.disk c.answer_all.new.shelf) (g.F.Shelf.disk_faults c.answer_all.new.shelf) new
     → AllReturned (registered_journals c.args.registry.now.directory.now c.args.registry.now.users.now) (g.F.Shelf.disk c.args.shelf.now)
     (g.F.Shelf.disk c.answer_all.new.shelf) (g.F.Shelf.is_out c.answer_all.new.shelf) (g.F.Shelf.disk_faults c.args.shelf.now)
@@ -101,7 +101,7 @@ all_given : (g : Over) (c : goal.In-All g)
     (g.F.Shelf.disk_faults c.answer_all.new.shelf)
 all_given g c =
     let all = c.in-All.ensures.answered in
-    given g c.After-answer_all all.0 (stay_run _ _ _ _ _ _ _ _ _ _ all.1.runs) all.2
+    given g c.After-answer_all all.0 (stay_run _ _ _ _ _ _ _ _ _ all.1.runs) all.2
 
 pub returns-in-All-clause-inside : goal.returns-in-All-clause-inside
 returns-in-All-clause-inside g c = (all_given g (goal.at.returns-in-All-clause-inside g c).In-All).inside
@@ -138,16 +138,16 @@ returns-in-All-clause-ends g c = λ shelf_told source_told sink_told.
 pub returns-in-All-clause-disk_cause : goal.returns-in-All-clause-disk_cause
 returns-in-All-clause-disk_cause g c = λ broken.
     let all = c.in-All.ensures.answered in
-    let stay = stay_run _ _ _ _ _ _ _ _ _ _ all.1.runs in
+    let stay = stay_run _ _ _ _ _ _ _ _ _ all.1.runs in
     let count = g.F.Shelf.disk_faults c.args.shelf.now in
     let first = (seated g (goal.at.returns-in-All-clause-disk_cause g c).In-Ok-open_all).first in
     some_rose g.F.Shelf.tells g.F.D.Disk count (g.F.Shelf.disk_faults c.answer_all.new.shelf)
     (g.F.Shelf.disk c.answer_all.new.shelf) all.0 (stay.later count first) all.2
     (all_weaker c.args.registry.now.schema.now c.args.registry.now.world.now
-    (header_bytes c.args.registry.now.header.now) g.F.D.Disk.tells g.F.D.Disk count g.F.Shelf.tells
+    (header_bytes c.args.registry.now.header.now) g.F.D.Disk count g.F.Shelf.tells
     (g.F.Shelf.disk_faults c.answer_all.new.shelf) (g.F.Shelf.disk c.answer_all.new.shelf) all.0
     (run_broken c.args.registry.now.schema.now c.args.registry.now.world.now
-    (header_bytes c.args.registry.now.header.now) g.F.D.Disk.tells g.F.D.Disk count
+    (header_bytes c.args.registry.now.header.now) g.F.D.Disk count
     (items_of c.in-Whole.batch) c.in-Ok-open_all.seats.items all.0 all.1.output c.in-All.is_broken all.1.runs first broken))
 
 -- ---- where a write failed
@@ -158,7 +158,7 @@ cut_given : (g : Over) (c : goal.In-Cut g)
     (g.F.Shelf.disk_faults c.answer_all.new.shelf)
 cut_given g c =
     let some = c.in-Cut.ensures.answered in
-    given g c.After-answer_all some.0 (stay_run _ _ _ _ _ _ _ _ _ _ (runs_then _ _ _ _ _ _ _ _ _ _ _ _ _ _ some.1.first some.1.last)) some.2
+    given g c.After-answer_all some.0 (stay_run _ _ _ _ _ _ _ _ _ (runs_then _ _ _ _ _ _ _ _ _ _ _ _ _ some.1.first some.1.last)) some.2
 
 pub returns-in-Cut-clause-inside : goal.returns-in-Cut-clause-inside
 returns-in-Cut-clause-inside g c = (cut_given g (goal.at.returns-in-Cut-clause-inside g c).In-Cut).inside
@@ -177,7 +177,7 @@ returns-in-Cut-clause-journals g c = λ shelf_told.
       (ending g (goal.at.returns-in-Cut-clause-journals g c).In-Ok-open_all shelf_told c.answer_all.new.shelf).some (Unit {0}) tt
           (items_of c.in-Whole.batch) some.0 [] (some.1.output ++ take 0 some.1.lines)
           (some_alone c.args.registry.now.schema.now c.args.registry.now.world.now (header_bytes c.args.registry.now.header.now)
-          g.F.D.Disk.tells g.F.D.Disk g.K.Sink.tells (items_of c.in-Whole.batch) c.in-Ok-open_all.seats.items some.0 _ _ some.1) some.2,
+          g.F.D.Disk g.K.Sink.tells (items_of c.in-Whole.batch) c.in-Ok-open_all.seats.items some.0 _ _ some.1) some.2,
     )
 
 pub returns-in-Cut-clause-ends : goal.returns-in-Cut-clause-ends
@@ -201,7 +201,7 @@ memory_given : (g : Over) (c : goal.In-Memory-answer_all g)
     (g.F.Shelf.disk_faults c.answer_all.new.shelf)
 memory_given g c =
     let left = c.in-Memory-answer_all.ensures.answered in
-    given g c.After-answer_all left.0 (stay_run _ _ _ _ _ _ _ _ _ _ left.1.all.runs) left.2
+    given g c.After-answer_all left.0 (stay_run _ _ _ _ _ _ _ _ _ left.1.all.runs) left.2
 
 pub returns-clause-disks : goal.returns-clause-disks
 returns-clause-disks g c = (memory_given g (goal.at.returns-clause-disks g c).In-Memory-answer_all).disks
@@ -221,7 +221,7 @@ returns-clause-journals g c = λ shelf_told.
       (ending g (goal.at.returns-clause-journals g c).In-Ok-open_all shelf_told c.answer_all.new.shelf).to (Unit {0}) tt (items_of c.in-Whole.batch) left.0
           [] left.1.all.output
           (to_alone c.args.registry.now.schema.now c.args.registry.now.world.now (header_bytes c.args.registry.now.header.now)
-          g.F.D.Disk.tells g.F.D.Disk g.K.Sink.tells (items_of c.in-Whole.batch) c.in-Ok-open_all.seats.items left.0 _ _ left.1) left.2,
+          g.F.D.Disk g.K.Sink.tells (items_of c.in-Whole.batch) c.in-Ok-open_all.seats.items left.0 _ _ left.1) left.2,
     )
 
 pub returns-clause-ends : goal.returns-clause-ends
