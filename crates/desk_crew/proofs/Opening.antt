@@ -326,7 +326,7 @@ module _ {directory : Text} {schema : DatabaseSchema} {world : FactSet} {header 
         distinct = seats_distinct directory schema world header told Disk disk0 count0 differ (take i users) seats so_far.are
             (first_distinct users i distinct);
         out = λ name among. refused.out name ∙ so_far.out name ∙ among;
-        later = later_on told Disk count count' seats
+        later = later_on Disk count count' seats
             (beside_one (journal_name directory (string_bytes user.name)) (journals seats) count count' none refused.counts)
             (seats_later directory schema world header told Disk disk0 count0 count (take i users) seats so_far.counts so_far.are);
       }

@@ -88,7 +88,7 @@ module _ (schema : DatabaseSchema) (world : FactSet) (header : List ℕ) {D : Ty
 
 -- ---- memory was wanting at one seat
 
-module _ {schema : DatabaseSchema} {world : FactSet} {header : List ℕ} {D : Type 0} {g h : _} {told : Type 0} {Disk : DiskGhosts D} where
+module _ {schema : DatabaseSchema} {world : FactSet} {header : List ℕ} {D : Type 0} {g h : _} {Disk : DiskGhosts D} where
   module _ {all seats rest reopened : List (DeskSeat D g h)} {seat : DeskSeat D g h} (is : seats ≡ seat ∷ rest)
       (half : Halfway schema world header Disk all seats reopened)
       {out0 : Text → Bool} {count0 : Text → ℕ} (can : CanGive Disk all out0 count0) where
@@ -120,12 +120,12 @@ module _ {schema : DatabaseSchema} {world : FactSet} {header : List ℕ} {D : Ty
     fail_out = can.out here (among_all here (among_second (journals half.done) (here ∷ journals rest) here among_here))
 
     pub fail_later : count0 here ≤ Disk.faults (seat_disk seat)
-    fail_later = (later-second told Disk count0 half.done (seat ∷ rest) all_later).0
+    fail_later = (later-second Disk count0 half.done (seat ∷ rest) all_later).0
 
     here_apart : is_among (journals rest) here ≡ false
     here_apart = or_first _ _ two.second
 
-    module _ {returned : D} {disk0 disk1 : Text → Option D} {out1 : Text → Bool} {count1 : Text → ℕ} {one : Text} (named : one ≡ here)
+    module _ {told : Type 0} {returned : D} {disk0 disk1 : Text → Option D} {out1 : Text → Bool} {count1 : Text → ℕ} {one : Text} (named : one ≡ here)
         (left : IsLeftBy Disk seat.desk returned) (first : IsGiven told Disk one returned disk0 disk1 out0 out1 count0 count1) where
       one_apart : is_among (journals rest) one ≡ false
       one_apart = ap (is_among (journals rest)) named ∙ here_apart
@@ -137,8 +137,8 @@ module _ {schema : DatabaseSchema} {world : FactSet} {header : List ℕ} {D : Ty
         out = λ name among.
             beside_one one (journals rest) out0 out1 one_apart first.others_out name among
             ∙ can.out name (among_all name (among_second (journals half.done) (here ∷ journals rest) name (among_rest name among)));
-        later = later_on told Disk count0 count1 rest (beside_one one (journals rest) count0 count1 one_apart first.counts)
-            (later-second told Disk count0 half.done (seat ∷ rest) all_later).1;
+        later = later_on Disk count0 count1 rest (beside_one one (journals rest) count0 count1 one_apart first.counts)
+            (later-second Disk count0 half.done (seat ∷ rest) all_later).1;
       }
 
       module _ {disk2 : Text → Option D} {out2 : Text → Bool} {count2 : Text → ℕ}
@@ -164,8 +164,8 @@ module _ {schema : DatabaseSchema} {world : FactSet} {header : List ℕ} {D : Ty
               done_same out0 out1 out2 first.others_out second.others_out name was
               ∙ can.out name (among_all name (among_first (journals half.done) (here ∷ journals rest) name was));
           later = later_reopened schema world header Disk count2 half.done reopened half.are
-              (later_on told Disk count0 count2 half.done (done_same count0 count1 count2 first.counts second.counts)
-              (later-first told Disk count0 half.done (seat ∷ rest) all_later));
+              (later_on Disk count0 count2 half.done (done_same count0 count1 count2 first.counts second.counts)
+              (later-first Disk count0 half.done (seat ∷ rest) all_later));
         }
 
         module _ {disk3 : Text → Option D} {out3 : Text → Bool} {count3 : Text → ℕ}
