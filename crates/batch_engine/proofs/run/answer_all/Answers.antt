@@ -20,6 +20,7 @@ use Rattle.batch_engine.proofs.Running.{asks_one, ended_one, stretch_split, stre
 use Rattle.batch_engine.proofs.run.answer_all.Given.{Over}
 use Rattle.batch_engine.proofs.run.answer_all.Goals.{then-is_broken, else-is_broken}
 use Rattle.batch_engine.proofs.run.answer_all.Goals as goal
+use Rattle.batch_engine.proofs.run.answer_all.Goals.{After-answer_stretch-says_broken, After-answer_stretch-says_broken-2}
 
 pub loop-asks-init : goal.loop-asks-init
 loop-asks-init g c =
@@ -58,7 +59,7 @@ answer_stretch-says_broken-requires-clause-room g c =
     omega (arith, small, room, ap length c.as_slice.ensures.value)
 
 -- what it did to the seats
-runs : (g : Over) (c : goal.After-answer_stretch-says_broken g)
+runs : (g : Over) (c : After-answer_stretch-says_broken g)
     → Runs c.args.registry.now.schema.now c.args.registry.now.world.now (header_bytes c.args.registry.now.header.now) g.F.D.Disk
     (stretch_in c.asks-item.result.items) c.loop-asks.seats.items (output_bytes c.answer_stretch-says_broken.new.lines.items)
     c.answer_stretch-says_broken.new.seats.items c.answer_stretch-says_broken.result
@@ -73,7 +74,7 @@ runs g c =
 -- ---- its restart
 
 -- what stays of the first seats
-stay : (g : Over) (c : goal.After-answer_stretch-says_broken g)
+stay : (g : Over) (c : After-answer_stretch-says_broken g)
     → Stay c.args.registry.now.schema.now c.args.registry.now.world.now (header_bytes c.args.registry.now.header.now) g.F.D.Disk
     c.args.seats.items c.answer_stretch-says_broken.new.seats.items
 stay g c =
@@ -82,22 +83,24 @@ stay g c =
     c.loop-asks.invariant.so_far.runs (runs g c))
 
 pub restart-requires-clause-limits : goal.restart-requires-clause-limits
-restart-requires-clause-limits g c = (stay g c.After-answer_stretch-says_broken).limits c.requires.limits
+restart-requires-clause-limits g c = (stay g (goal.at.restart-requires-clause-limits g c).After-answer_stretch-says_broken).limits c.requires.limits
 
 pub restart-requires-clause-served : goal.restart-requires-clause-served
-restart-requires-clause-served g c = (stay g c.After-answer_stretch-says_broken).served c.requires.served
+restart-requires-clause-served g c = (stay g (goal.at.restart-requires-clause-served g c).After-answer_stretch-says_broken).served c.requires.served
 
 pub restart-requires-clause-distinct : goal.restart-requires-clause-distinct
-restart-requires-clause-distinct g c = ap has_duplicate (stay g c.After-answer_stretch-says_broken).names ∙ c.requires.distinct
+restart-requires-clause-distinct g c =
+    ap has_duplicate (stay g (goal.at.restart-requires-clause-distinct g c).After-answer_stretch-says_broken).names ∙ c.requires.distinct
 
 pub restart-requires-clause-out : goal.restart-requires-clause-out
 restart-requires-clause-out g c =
     subst (λ s. AllOut (journals c.answer_stretch-says_broken.new.seats.items) (g.F.Shelf.is_out s)) (sym c.loop-asks.invariant.same)
-    (subst (λ ns. AllOut ns (g.F.Shelf.is_out c.args.shelf.now)) (sym (stay g c.After-answer_stretch-says_broken).names) c.requires.out)
+    (subst (λ ns. AllOut ns (g.F.Shelf.is_out c.args.shelf.now))
+    (sym (stay g (goal.at.restart-requires-clause-out g c).After-answer_stretch-says_broken).names) c.requires.out)
 
 pub restart-requires-clause-later : goal.restart-requires-clause-later
 restart-requires-clause-later g c =
-    (stay g c.After-answer_stretch-says_broken).later (g.F.Shelf.disk_faults c.loop-asks.shelf)
+    (stay g (goal.at.restart-requires-clause-later g c).After-answer_stretch-says_broken).later (g.F.Shelf.disk_faults c.loop-asks.shelf)
     (subst (λ s. AreLater g.F.D.Disk.faults (g.F.Shelf.disk_faults s) c.args.seats.items) (sym c.loop-asks.invariant.same) c.requires.later)
 
 -- it went on
@@ -131,14 +134,14 @@ loop-asks-preserved g c =
           (restarted_more c.args.registry.now.schema.now c.args.registry.now.world.now
           (header_bytes c.args.registry.now.header.now) g.F.D.Disk (stretch_in c.asks-item.result.items) c.loop-asks.seats.items
           c.answer_stretch-says_broken.new.seats.items c.in-Again.next.items (output_bytes c.answer_stretch-says_broken.new.lines.items)
-          c.answer_stretch-says_broken.result (runs g c.After-answer_stretch-says_broken) again.0) again.1);
+          c.answer_stretch-says_broken.result (runs g (goal.at.loop-asks-preserved g c).After-answer_stretch-says_broken) again.0) again.1);
       same = c.in-Again.ensures.untouched tt ∙ c.loop-asks.invariant.same;
       later = omega (arith, before, on);
       room = c.restart.ensures.capacity ∙ c.answer_stretch-says_broken.ensures.capacity ∙ c.loop-asks.invariant.room;
     }
 
 -- the items of the batch: those of the stretches so far, of this one with its restart, and the others
-items_here : (g : Over) (c : goal.After-answer_stretch-says_broken g)
+items_here : (g : Over) (c : After-answer_stretch-says_broken g)
     → items_of c.args.batch.now
     ≡ (stretches_in (take c.loop-asks.asks-index c.ended-asks-ended.result.now) ++ (stretch_in c.asks-item.result.items ++ restarted ∷ []))
     ++ items_in (drop (c.loop-asks.asks-index + 1) c.ended-asks-ended.result.now) (last_of c.args.batch.now)
@@ -156,8 +159,10 @@ returns-in-CutOff-clause-answered g c =
           (stretches_in (take c.loop-asks.asks-index c.ended-asks-ended.result.now)) (stretch_in c.asks-item.result.items)
           (items_in (drop (c.loop-asks.asks-index + 1) c.ended-asks-ended.result.now) (last_of c.args.batch.now)) c.args.seats.items c.loop-asks.seats.items
           c.answer_stretch-says_broken.new.seats.items c.loop-asks.is_broken c.answer_stretch-says_broken.result _ _ _
-          (output_bytes c.answer_stretch-says_broken.new.lines.items) (items_here g c.After-answer_stretch-says_broken) (asks_one c.asks-item.result.items)
-          (ended_one c.asks-item.result.items) c.loop-asks.invariant.so_far (runs g c.After-answer_stretch-says_broken) cut.0 cut.1 cut.2 cut.4,
+          (output_bytes c.answer_stretch-says_broken.new.lines.items)
+          (items_here g (goal.at.returns-in-CutOff-clause-answered g c).After-answer_stretch-says_broken) (asks_one c.asks-item.result.items)
+          (ended_one c.asks-item.result.items) c.loop-asks.invariant.so_far
+          (runs g (goal.at.returns-in-CutOff-clause-answered g c).After-answer_stretch-says_broken) cut.0 cut.1 cut.2 cut.4,
       cut.3,
     )
 
@@ -177,47 +182,53 @@ returns-in-NoMemory-clause-answered g c =
       to_restart c.args.registry.now.schema.now c.args.registry.now.world.now
           (header_bytes c.args.registry.now.header.now) g.F.D.Disk g.K.Sink.tells (items_of c.args.batch.now) (done ++ asks) others
           c.args.seats.items c.answer_stretch-says_broken.new.seats.items (c.loop-asks.is_broken || c.answer_stretch-says_broken.result) _ _
-          (before_restart (items_of c.args.batch.now) done asks others (items_here g c.After-answer_stretch-says_broken))
+          (before_restart (items_of c.args.batch.now) done asks others
+          (items_here g (goal.at.returns-in-NoMemory-clause-answered g c).After-answer_stretch-says_broken))
           (all_more c.args.registry.now.schema.now c.args.registry.now.world.now
           (header_bytes c.args.registry.now.header.now) g.F.D.Disk g.K.Sink.tells done asks c.args.seats.items c.loop-asks.seats.items
           c.answer_stretch-says_broken.new.seats.items c.loop-asks.is_broken c.answer_stretch-says_broken.result _ _ _ _
-          (output_bytes c.answer_stretch-says_broken.new.lines.items) refl c.loop-asks.invariant.so_far (runs g c.After-answer_stretch-says_broken) ended.1),
+          (output_bytes c.answer_stretch-says_broken.new.lines.items) refl c.loop-asks.invariant.so_far
+          (runs g (goal.at.returns-in-NoMemory-clause-answered g c).After-answer_stretch-says_broken) ended.1),
       ended.0,
     )
 
 -- where it didn't go on, all disks are back
 pub returns-in-CutOff-clause-inside : goal.returns-in-CutOff-clause-inside
 returns-in-CutOff-clause-inside g c =
-    subst (λ ns. AllIn ns (g.F.Shelf.is_out c.restart.new.shelf)) (stay g c.After-answer_stretch-says_broken).names (c.in-CutOff.ensures.inside (λ none. none))
+    subst (λ ns. AllIn ns (g.F.Shelf.is_out c.restart.new.shelf))
+    (stay g (goal.at.returns-in-CutOff-clause-inside g c).After-answer_stretch-says_broken).names (c.in-CutOff.ensures.inside (λ none. none))
 
 pub returns-in-CutOff-clause-others_out : goal.returns-in-CutOff-clause-others_out
 returns-in-CutOff-clause-others_out g c =
-    subst (λ ns. SameBeside ns (g.F.Shelf.is_out c.args.shelf.now) (g.F.Shelf.is_out c.restart.new.shelf)) (stay g c.After-answer_stretch-says_broken).names
+    subst (λ ns. SameBeside ns (g.F.Shelf.is_out c.args.shelf.now) (g.F.Shelf.is_out c.restart.new.shelf))
+    (stay g (goal.at.returns-in-CutOff-clause-others_out g c).After-answer_stretch-says_broken).names
     (subst (λ s. SameBeside (journals c.answer_stretch-says_broken.new.seats.items) (g.F.Shelf.is_out s) (g.F.Shelf.is_out c.restart.new.shelf))
     c.loop-asks.invariant.same c.restart.ensures.others_out)
 
 pub returns-in-CutOff-clause-counts : goal.returns-in-CutOff-clause-counts
 returns-in-CutOff-clause-counts g c =
     subst (λ ns. SameBeside ns (g.F.Shelf.disk_faults c.args.shelf.now) (g.F.Shelf.disk_faults c.restart.new.shelf))
-    (stay g c.After-answer_stretch-says_broken).names
+    (stay g (goal.at.returns-in-CutOff-clause-counts g c).After-answer_stretch-says_broken).names
     (subst (λ s. SameBeside (journals c.answer_stretch-says_broken.new.seats.items) (g.F.Shelf.disk_faults s) (g.F.Shelf.disk_faults c.restart.new.shelf))
     c.loop-asks.invariant.same c.restart.ensures.counts)
 
 pub returns-in-CutOff-clause-disks : goal.returns-in-CutOff-clause-disks
 returns-in-CutOff-clause-disks g c =
-    subst (λ ns. SameBeside ns (g.F.Shelf.disk c.args.shelf.now) (g.F.Shelf.disk c.restart.new.shelf)) (stay g c.After-answer_stretch-says_broken).names
+    subst (λ ns. SameBeside ns (g.F.Shelf.disk c.args.shelf.now) (g.F.Shelf.disk c.restart.new.shelf))
+    (stay g (goal.at.returns-in-CutOff-clause-disks g c).After-answer_stretch-says_broken).names
     (subst (λ s. SameBeside (journals c.answer_stretch-says_broken.new.seats.items) (g.F.Shelf.disk s) (g.F.Shelf.disk c.restart.new.shelf))
     c.loop-asks.invariant.same c.restart.ensures.disks)
 
 pub returns-in-NoMemory-clause-inside : goal.returns-in-NoMemory-clause-inside
 returns-in-NoMemory-clause-inside g c =
-    subst (λ ns. AllIn ns (g.F.Shelf.is_out c.restart.new.shelf)) (stay g c.After-answer_stretch-says_broken).names
+    subst (λ ns. AllIn ns (g.F.Shelf.is_out c.restart.new.shelf))
+    (stay g (goal.at.returns-in-NoMemory-clause-inside g c).After-answer_stretch-says_broken).names
     (c.in-NoMemory.ensures.inside (λ none. none))
 
 pub returns-in-NoMemory-clause-others_out : goal.returns-in-NoMemory-clause-others_out
 returns-in-NoMemory-clause-others_out g c =
     subst (λ ns. SameBeside ns (g.F.Shelf.is_out c.args.shelf.now) (g.F.Shelf.is_out c.restart.new.shelf))
-    (stay g c.After-answer_stretch-says_broken).names
+    (stay g (goal.at.returns-in-NoMemory-clause-others_out g c).After-answer_stretch-says_broken).names
     (subst (λ s. SameBeside (journals c.answer_stretch-says_broken.new.seats.items) (g.F.Shelf.is_out s)
     (g.F.Shelf.is_out c.restart.new.shelf))
     c.loop-asks.invariant.same c.restart.ensures.others_out)
@@ -225,7 +236,7 @@ returns-in-NoMemory-clause-others_out g c =
 pub returns-in-NoMemory-clause-counts : goal.returns-in-NoMemory-clause-counts
 returns-in-NoMemory-clause-counts g c =
     subst (λ ns. SameBeside ns (g.F.Shelf.disk_faults c.args.shelf.now) (g.F.Shelf.disk_faults c.restart.new.shelf))
-    (stay g c.After-answer_stretch-says_broken).names
+    (stay g (goal.at.returns-in-NoMemory-clause-counts g c).After-answer_stretch-says_broken).names
     (subst (λ s. SameBeside (journals c.answer_stretch-says_broken.new.seats.items) (g.F.Shelf.disk_faults s)
     (g.F.Shelf.disk_faults c.restart.new.shelf))
     c.loop-asks.invariant.same c.restart.ensures.counts)
@@ -233,14 +244,14 @@ returns-in-NoMemory-clause-counts g c =
 pub returns-in-NoMemory-clause-disks : goal.returns-in-NoMemory-clause-disks
 returns-in-NoMemory-clause-disks g c =
     subst (λ ns. SameBeside ns (g.F.Shelf.disk c.args.shelf.now) (g.F.Shelf.disk c.restart.new.shelf))
-    (stay g c.After-answer_stretch-says_broken).names
+    (stay g (goal.at.returns-in-NoMemory-clause-disks g c).After-answer_stretch-says_broken).names
     (subst (λ s. SameBeside (journals c.answer_stretch-says_broken.new.seats.items) (g.F.Shelf.disk s)
     (g.F.Shelf.disk c.restart.new.shelf))
     c.loop-asks.invariant.same c.restart.ensures.disks)
 
 -- ---- the last stretch
 
-last_runs : (g : Over) (c : goal.After-answer_stretch-says_broken-2 g)
+last_runs : (g : Over) (c : After-answer_stretch-says_broken-2 g)
     → Runs c.args.registry.now.schema.now c.args.registry.now.world.now (header_bytes c.args.registry.now.header.now) g.F.D.Disk
     (stretch_in (last_of c.args.batch.now)) c.loop-asks.seats.items (output_bytes c.answer_stretch-says_broken-2.new.lines.items)
     c.answer_stretch-says_broken-2.new.seats.items c.answer_stretch-says_broken-2.result
@@ -253,13 +264,13 @@ last_runs g c =
     (header_bytes c.args.registry.now.header.now) (stay.served c.requires.served))
 
 -- the stretches that ended are all of them
-all_ended : (g : Over) (c : goal.After-answer_stretch-says_broken-2 g)
+all_ended : (g : Over) (c : After-answer_stretch-says_broken-2 g)
     → stretches_in (take c.loop-asks.asks-index c.ended-asks-ended.result.now) ≡ stretches_in (ended_of c.args.batch.now)
 all_ended g c =
     ap stretches_in (take_all c.loop-asks.asks-index c.ended-asks-ended.result.now (omega (arith, c.loop-asks-test.false))
     ∙ c.ended-asks-ended.ensures.stretches)
 
-last_stay : (g : Over) (c : goal.After-answer_stretch-says_broken-2 g)
+last_stay : (g : Over) (c : After-answer_stretch-says_broken-2 g)
     → Stay c.args.registry.now.schema.now c.args.registry.now.world.now (header_bytes c.args.registry.now.header.now) g.F.D.Disk
     c.args.seats.items c.answer_stretch-says_broken-2.new.seats.items
 last_stay g c =
@@ -283,13 +294,13 @@ answer_stretch-says_broken-2-requires-clause-room g c =
 
 pub refusals_of-refusals-requires-clause-room : goal.refusals_of-refusals-requires-clause-room
 refusals_of-refusals-requires-clause-room g c =
-    let names = ap length (last_stay g c.After-answer_stretch-says_broken-2).names in
+    let names = ap length (last_stay g (goal.at.refusals_of-refusals-requires-clause-room g c).After-answer_stretch-says_broken-2).names in
     let whole = length-journals c.answer_stretch-says_broken-2.new.seats.items in
     let first = length-journals c.args.seats.items in
     let read = ap length c.as_slice.ensures.value in
     omega (arith, c.requires.refusals, names, whole, first, read)
 
-last_can : (g : Over) (c : goal.After-answer_stretch-says_broken-2 g)
+last_can : (g : Over) (c : After-answer_stretch-says_broken-2 g)
     → CanGive g.F.D.Disk c.answer_stretch-says_broken-2.new.seats.items (g.F.Shelf.is_out c.loop-asks.shelf)
     (g.F.Shelf.disk_faults c.loop-asks.shelf)
 last_can g c =
@@ -312,12 +323,13 @@ give_back-requires-clause-later g c = (last_can g (goal.at.give_back-requires-cl
 
 pub returns-in-Ok-clause-inside : goal.returns-in-Ok-clause-inside
 returns-in-Ok-clause-inside g c =
-    subst (λ ns. AllIn ns (g.F.Shelf.is_out c.give_back.new.shelf)) (last_stay g c.After-answer_stretch-says_broken-2).names c.give_back.ensures.inside
+    subst (λ ns. AllIn ns (g.F.Shelf.is_out c.give_back.new.shelf))
+    (last_stay g (goal.at.returns-in-Ok-clause-inside g c).After-answer_stretch-says_broken-2).names c.give_back.ensures.inside
 
 pub returns-in-Ok-clause-others_out : goal.returns-in-Ok-clause-others_out
 returns-in-Ok-clause-others_out g c =
     subst (λ ns. SameBeside ns (g.F.Shelf.is_out c.args.shelf.now) (g.F.Shelf.is_out c.give_back.new.shelf))
-    (last_stay g c.After-answer_stretch-says_broken-2).names
+    (last_stay g (goal.at.returns-in-Ok-clause-others_out g c).After-answer_stretch-says_broken-2).names
     (subst (λ s. SameBeside (journals c.answer_stretch-says_broken-2.new.seats.items) (g.F.Shelf.is_out s)
     (g.F.Shelf.is_out c.give_back.new.shelf))
     c.loop-asks.invariant.same c.give_back.ensures.others_out)
@@ -325,7 +337,7 @@ returns-in-Ok-clause-others_out g c =
 pub returns-in-Ok-clause-counts : goal.returns-in-Ok-clause-counts
 returns-in-Ok-clause-counts g c =
     subst (λ ns. SameBeside ns (g.F.Shelf.disk_faults c.args.shelf.now) (g.F.Shelf.disk_faults c.give_back.new.shelf))
-    (last_stay g c.After-answer_stretch-says_broken-2).names
+    (last_stay g (goal.at.returns-in-Ok-clause-counts g c).After-answer_stretch-says_broken-2).names
     (subst (λ s. SameBeside (journals c.answer_stretch-says_broken-2.new.seats.items) (g.F.Shelf.disk_faults s)
     (g.F.Shelf.disk_faults c.give_back.new.shelf))
     c.loop-asks.invariant.same c.give_back.ensures.counts)
@@ -333,19 +345,20 @@ returns-in-Ok-clause-counts g c =
 pub returns-in-Ok-clause-disks : goal.returns-in-Ok-clause-disks
 returns-in-Ok-clause-disks g c =
     subst (λ ns. SameBeside ns (g.F.Shelf.disk c.args.shelf.now) (g.F.Shelf.disk c.give_back.new.shelf))
-    (last_stay g c.After-answer_stretch-says_broken-2).names
+    (last_stay g (goal.at.returns-in-Ok-clause-disks g c).After-answer_stretch-says_broken-2).names
     (subst (λ s. SameBeside (journals c.answer_stretch-says_broken-2.new.seats.items) (g.F.Shelf.disk s)
     (g.F.Shelf.disk c.give_back.new.shelf))
     c.loop-asks.invariant.same c.give_back.ensures.disks)
 
 pub returns-clause-inside : goal.returns-clause-inside
 returns-clause-inside g c =
-    subst (λ ns. AllIn ns (g.F.Shelf.is_out c.give_back.new.shelf)) (last_stay g c.After-answer_stretch-says_broken-2).names c.give_back.ensures.inside
+    subst (λ ns. AllIn ns (g.F.Shelf.is_out c.give_back.new.shelf))
+    (last_stay g (goal.at.returns-clause-inside g c).After-answer_stretch-says_broken-2).names c.give_back.ensures.inside
 
 pub returns-clause-others_out : goal.returns-clause-others_out
 returns-clause-others_out g c =
     subst (λ ns. SameBeside ns (g.F.Shelf.is_out c.args.shelf.now) (g.F.Shelf.is_out c.give_back.new.shelf))
-    (last_stay g c.After-answer_stretch-says_broken-2).names
+    (last_stay g (goal.at.returns-clause-others_out g c).After-answer_stretch-says_broken-2).names
     (subst (λ s. SameBeside (journals c.answer_stretch-says_broken-2.new.seats.items) (g.F.Shelf.is_out s)
     (g.F.Shelf.is_out c.give_back.new.shelf))
     c.loop-asks.invariant.same c.give_back.ensures.others_out)
@@ -353,7 +366,7 @@ returns-clause-others_out g c =
 pub returns-clause-counts : goal.returns-clause-counts
 returns-clause-counts g c =
     subst (λ ns. SameBeside ns (g.F.Shelf.disk_faults c.args.shelf.now) (g.F.Shelf.disk_faults c.give_back.new.shelf))
-    (last_stay g c.After-answer_stretch-says_broken-2).names
+    (last_stay g (goal.at.returns-clause-counts g c).After-answer_stretch-says_broken-2).names
     (subst (λ s. SameBeside (journals c.answer_stretch-says_broken-2.new.seats.items) (g.F.Shelf.disk_faults s)
     (g.F.Shelf.disk_faults c.give_back.new.shelf))
     c.loop-asks.invariant.same c.give_back.ensures.counts)
@@ -361,7 +374,7 @@ returns-clause-counts g c =
 pub returns-clause-disks : goal.returns-clause-disks
 returns-clause-disks g c =
     subst (λ ns. SameBeside ns (g.F.Shelf.disk c.args.shelf.now) (g.F.Shelf.disk c.give_back.new.shelf))
-    (last_stay g c.After-answer_stretch-says_broken-2).names
+    (last_stay g (goal.at.returns-clause-disks g c).After-answer_stretch-says_broken-2).names
     (subst (λ s. SameBeside (journals c.answer_stretch-says_broken-2.new.seats.items) (g.F.Shelf.disk s)
     (g.F.Shelf.disk c.give_back.new.shelf))
     c.loop-asks.invariant.same c.give_back.ensures.disks)
@@ -372,12 +385,13 @@ returns-in-Ok-clause-answered g c = (
   subst (λ l. RunsAll c.args.registry.now.schema.now c.args.registry.now.world.now
       (header_bytes c.args.registry.now.header.now) g.F.D.Disk g.K.Sink.tells (l ++ stretch_in (last_of c.args.batch.now))
       c.args.seats.items c.answer_stretch-says_broken-2.new.seats.items _ (g.K.Sink.written c.args.sink.now) (g.K.Sink.written c.write_parts.new.sink))
-      (all_ended g c.After-answer_stretch-says_broken-2)
+      (all_ended g (goal.at.returns-in-Ok-clause-answered g c).After-answer_stretch-says_broken-2)
       (all_more c.args.registry.now.schema.now c.args.registry.now.world.now
       (header_bytes c.args.registry.now.header.now) g.F.D.Disk g.K.Sink.tells
       (stretches_in (take c.loop-asks.asks-index c.ended-asks-ended.result.now)) (stretch_in (last_of c.args.batch.now)) c.args.seats.items
       c.loop-asks.seats.items c.answer_stretch-says_broken-2.new.seats.items c.loop-asks.is_broken c.answer_stretch-says_broken-2.result _ _ _ _
-      (output_bytes c.answer_stretch-says_broken-2.new.lines.items) refl c.loop-asks.invariant.so_far (last_runs g c.After-answer_stretch-says_broken-2)
+      (output_bytes c.answer_stretch-says_broken-2.new.lines.items) refl c.loop-asks.invariant.so_far
+      (last_runs g (goal.at.returns-in-Ok-clause-answered g c).After-answer_stretch-says_broken-2)
       (λ told. c.in-Ok.ensures.all told
       ∙ ap (λ l. g.K.Sink.written c.loop-asks.sink ++ output_bytes l) c.as_slice-2.ensures.value)),
   c.give_back.ensures.back,
@@ -392,8 +406,9 @@ returns-clause-answered g c = (
       (stretches_in (take c.loop-asks.asks-index c.ended-asks-ended.result.now)) (stretch_in (last_of c.args.batch.now)) [] c.args.seats.items
       c.loop-asks.seats.items c.answer_stretch-says_broken-2.new.seats.items c.loop-asks.is_broken c.answer_stretch-says_broken-2.result _ _ _
       (output_bytes c.answer_stretch-says_broken-2.new.lines.items)
-      (ap (λ l. l ++ stretch_in (last_of c.args.batch.now)) (sym (all_ended g c.After-answer_stretch-says_broken-2)) ∙ sym (append-nil _))
-      (asks_one (last_of c.args.batch.now)) c.loop-asks.invariant.so_far (last_runs g c.After-answer_stretch-says_broken-2)
+      (ap (λ l. l ++ stretch_in (last_of c.args.batch.now))
+      (sym (all_ended g (goal.at.returns-clause-answered g c).After-answer_stretch-says_broken-2)) ∙ sym (append-nil _))
+      (asks_one (last_of c.args.batch.now)) c.loop-asks.invariant.so_far (last_runs g (goal.at.returns-clause-answered g c).After-answer_stretch-says_broken-2)
       (λ told.
       let part = subst (λ l. AppendsPart (g.K.Sink.written c.loop-asks.sink) (g.K.Sink.written c.write_parts.new.sink) (output_bytes l))
       c.as_slice-2.ensures.value (c.in-Err.ensures.part told) in

@@ -1,9 +1,9 @@
-use Rattle.std.proofs.Common.{◌≡◌, ◌++◌, ◌∷◌, [], true, false, refl, sym, append-nil, ap, subst, ◌∙◌}
+use Rattle.std.proofs.Common.{◌≡◌, ◌++◌, true, false, refl, sym, append-nil, ap, subst, ◌∙◌}
 use Rattle.cqe_base.specs.Schema.{has_duplicate}
 use Rattle.log_journal.specs.Opening.{header_bytes}
 use Rattle.outside.specs.Shelf.{AllOut, AllIn, SameBeside}
 use Rattle.outside.specs.Streams.{AppendsPart}
-use Rattle.desk_crew.specs.Shelved.{journals, AreLater}
+use Rattle.desk_crew.specs.Shelved.{journals}
 use Rattle.desk_crew.proofs.Giving.{CanGive}
 use Rattle.desk_crew.proofs.Reopening.{same_journals, later_reopened}
 use Rattle.batch_engine.specs.Outputs.{output_bytes}
@@ -11,15 +11,16 @@ use Rattle.batch_engine.specs.Steps.{restart_bytes}
 use Rattle.batch_engine.proofs.Running.{output_more}
 use Rattle.batch_engine.proofs.run.restart.Given.{Over}
 use Rattle.batch_engine.proofs.run.restart.Goals as goal
+use Rattle.batch_engine.proofs.run.restart.Goals.{In-Some, After-push_reserved}
 
 -- the seats that were opened again stand in the place of those before
-names : (g : Over) (c : goal.In-Some g) → journals c.in-Some.seats.items ≡ journals c.args.seats.items
+names : (g : Over) (c : In-Some g) → journals c.in-Some.seats.items ≡ journals c.args.seats.items
 names g c =
     same_journals c.args.registry.now.schema.now c.args.registry.now.world.now (header_bytes c.args.registry.now.header.now)
     g.F.D.Disk c.args.seats.items c.in-Some.seats.items c.in-Some.ensures.reopened
 
 -- the bytes that were kept, with the line of the restart
-bytes : (g : Over) (c : goal.After-push_reserved g)
+bytes : (g : Over) (c : After-push_reserved g)
     → output_bytes c.push_reserved.new.self.items ≡ output_bytes c.args.lines.now.items ++ restart_bytes true
 bytes g c =
     output_more c.args.lines.now.items c.push_reserved.new.self.items (record { text = c.new-text.result }) c.push_reserved.ensures.items
@@ -32,29 +33,28 @@ returns-in-Ok-clause-ended g c = (
   c.in-Some.ensures.reopened,
   λ told. c.in-Ok.ensures.all told
       ∙ ap (λ l. g.K.Sink.written c.args.sink.now ++ output_bytes l) c.as_slice.ensures.value
-      ∙ ap (λ l. g.K.Sink.written c.args.sink.now ++ l) (bytes g c.After-push_reserved),
+      ∙ ap (λ l. g.K.Sink.written c.args.sink.now ++ l) (bytes g (goal.at.returns-in-Ok-clause-ended g c).After-push_reserved),
 )
 
-can : (g : Over) (c : goal.In-Err g) → CanGive g.F.D.Disk c.in-Some.seats.items (g.F.Shelf.is_out c.reopen_all.new.shelf)
+can : (g : Over) (c : In-Some g) → CanGive g.F.D.Disk c.in-Some.seats.items (g.F.Shelf.is_out c.reopen_all.new.shelf)
     (g.F.Shelf.disk_faults c.reopen_all.new.shelf)
 can g c =
     subst (λ s. CanGive g.F.D.Disk c.in-Some.seats.items (g.F.Shelf.is_out s) (g.F.Shelf.disk_faults s)) (sym c.in-Some.ensures.untouched)
     (record {
-      distinct = ap has_duplicate (names g c.In-Some) ∙ c.requires.distinct;
-      out = subst (λ ns. AllOut ns (g.F.Shelf.is_out c.args.shelf.now)) (sym (names g c.In-Some)) c.requires.out;
-      later = later_reopened c.args.registry.now.schema.now c.args.registry.now.world.now (header_bytes c.args.registry.now.header.now)
-          g.F.D.Disk (g.F.Shelf.disk_faults c.args.shelf.now) c.args.seats.items c.in-Some.seats.items c.in-Some.ensures.reopened
+      distinct = ap has_duplicate (names g c) ∙ c.requires.distinct;
+      out = subst (λ ns. AllOut ns (g.F.Shelf.is_out c.args.shelf.now)) (sym (names g c)) c.requires.out;
+      later = later_reopened c.args.registry.now.schema.now c.args.registry.now.world.now (header_bytes c.args.registry.now.header.now) g.F.D.Disk (g.F.Shelf.disk_faults c.args.shelf.now) c.args.seats.items c.in-Some.seats.items c.in-Some.ensures.reopened
           c.requires.later;
     })
 
 pub give_back-requires-clause-distinct : goal.give_back-requires-clause-distinct
-give_back-requires-clause-distinct g c = (can g (goal.at.give_back-requires-clause-distinct g c).In-Err).distinct
+give_back-requires-clause-distinct g c = (can g (goal.at.give_back-requires-clause-distinct g c).In-Some).distinct
 
 pub give_back-requires-clause-out : goal.give_back-requires-clause-out
-give_back-requires-clause-out g c = (can g (goal.at.give_back-requires-clause-out g c).In-Err).out
+give_back-requires-clause-out g c = (can g (goal.at.give_back-requires-clause-out g c).In-Some).out
 
 pub give_back-requires-clause-later : goal.give_back-requires-clause-later
-give_back-requires-clause-later g c = (can g (goal.at.give_back-requires-clause-later g c).In-Err).later
+give_back-requires-clause-later g c = (can g (goal.at.give_back-requires-clause-later g c).In-Some).later
 
 pub returns-clause-ended : goal.returns-clause-ended
 returns-clause-ended g c = (
@@ -64,28 +64,31 @@ returns-clause-ended g c = (
   c.give_back.ensures.back,
   λ told.
       let part = subst (λ l. AppendsPart (g.K.Sink.written c.args.sink.now) (g.K.Sink.written c.write_parts.new.sink) l)
-      (ap output_bytes c.as_slice.ensures.value ∙ bytes g c.After-push_reserved) (c.in-Err.ensures.part told) in
+      (ap output_bytes c.as_slice.ensures.value ∙ bytes g (goal.at.returns-clause-ended g c).After-push_reserved) (c.in-Err.ensures.part told) in
       (part.0, part.2),
 )
 
 pub returns-clause-inside : goal.returns-clause-inside
-returns-clause-inside g c = λ none. subst (λ ns. AllIn ns (g.F.Shelf.is_out c.give_back.new.shelf)) (names g c.In-Some) c.give_back.ensures.inside
+returns-clause-inside g c =
+    λ none. subst (λ ns. AllIn ns (g.F.Shelf.is_out c.give_back.new.shelf)) (names g (goal.at.returns-clause-inside g c).In-Some) c.give_back.ensures.inside
 
 pub returns-clause-others_out : goal.returns-clause-others_out
 returns-clause-others_out g c =
-    subst (λ ns. SameBeside ns (g.F.Shelf.is_out c.args.shelf.now) (g.F.Shelf.is_out c.give_back.new.shelf)) (names g c.In-Some)
+    subst (λ ns. SameBeside ns (g.F.Shelf.is_out c.args.shelf.now) (g.F.Shelf.is_out c.give_back.new.shelf))
+    (names g (goal.at.returns-clause-others_out g c).In-Some)
     (subst (λ s. SameBeside (journals c.in-Some.seats.items) (g.F.Shelf.is_out s) (g.F.Shelf.is_out c.give_back.new.shelf)) c.in-Some.ensures.untouched
     c.give_back.ensures.others_out)
 
 pub returns-clause-counts : goal.returns-clause-counts
 returns-clause-counts g c =
-    subst (λ ns. SameBeside ns (g.F.Shelf.disk_faults c.args.shelf.now) (g.F.Shelf.disk_faults c.give_back.new.shelf)) (names g c.In-Some)
+    subst (λ ns. SameBeside ns (g.F.Shelf.disk_faults c.args.shelf.now) (g.F.Shelf.disk_faults c.give_back.new.shelf))
+    (names g (goal.at.returns-clause-counts g c).In-Some)
     (subst (λ s. SameBeside (journals c.in-Some.seats.items) (g.F.Shelf.disk_faults s) (g.F.Shelf.disk_faults c.give_back.new.shelf))
     c.in-Some.ensures.untouched c.give_back.ensures.counts)
 
 pub returns-clause-disks : goal.returns-clause-disks
 returns-clause-disks g c =
-    subst (λ ns. SameBeside ns (g.F.Shelf.disk c.args.shelf.now) (g.F.Shelf.disk c.give_back.new.shelf)) (names g c.In-Some)
+    subst (λ ns. SameBeside ns (g.F.Shelf.disk c.args.shelf.now) (g.F.Shelf.disk c.give_back.new.shelf)) (names g (goal.at.returns-clause-disks g c).In-Some)
     (subst (λ s. SameBeside (journals c.in-Some.seats.items) (g.F.Shelf.disk s) (g.F.Shelf.disk c.give_back.new.shelf)) c.in-Some.ensures.untouched
     c.give_back.ensures.disks)
 

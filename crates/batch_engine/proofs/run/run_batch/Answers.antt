@@ -1,4 +1,4 @@
-use Rattle.std.proofs.Common.{inr, [], ◌++◌, take, length, map, refl, sym, ap, subst, ◌∙◌, arith}
+use Rattle.std.proofs.Common.{inr, [], ◌++◌, take, map, refl, sym, subst, ◌∙◌, arith}
 use Rattle.cqe_base.specs.History.{UserProfile}
 use Rattle.log_journal.specs.Opening.{header_bytes}
 use Rattle.batch_engine.specs.BatchOf.{items_of}
@@ -15,6 +15,7 @@ use Rattle.desk_crew.proofs.Opening.{seats_limits, AllSeated, all_seated, all_re
 use Rattle.batch_engine.proofs.Ending.{batch_begins, all_of, Finishes, finishes, some_alone, to_alone, told_all}
 use Rattle.batch_engine.proofs.run.run_batch.Given.{Over}
 use Rattle.batch_engine.proofs.run.run_batch.Goals as goal
+use Rattle.batch_engine.proofs.run.run_batch.Goals.{After-answer_all, In-Ok-open_all}
 
 pub returns-in-Refused-clause-ends : goal.returns-in-Refused-clause-ends
 returns-in-Refused-clause-ends g c =
@@ -24,7 +25,7 @@ returns-in-Refused-clause-ends g c =
 
 -- ---- what follows from the opening of all journals
 
-seated : (g : Over) (c : goal.In-Ok-open_all g)
+seated : (g : Over) (c : In-Ok-open_all g)
     → AllSeated c.args.registry.now.directory.now c.args.registry.now.schema.now c.args.registry.now.world.now (header_bytes c.args.registry.now.header.now)
     g.F.Shelf.tells g.F.D.Disk c.args.registry.now.users.now c.in-Ok-open_all.seats.items (g.F.Shelf.disk c.args.shelf.now)
     (g.F.Shelf.disk c.open_all.new.shelf) (g.F.Shelf.is_out c.open_all.new.shelf) (g.F.Shelf.disk_faults c.args.shelf.now)
@@ -34,7 +35,7 @@ seated g c =
     c.open_all.ensures.disks c.in-Ok-open_all.ensures.counts
 
 -- what runs from there make of the journals, where the shelf is this one behind them
-ending : (g : Over) (c : goal.In-Ok-open_all g) (told : g.F.Shelf.tells) (after : _)
+ending : (g : Over) (c : In-Ok-open_all g) (told : g.F.Shelf.tells) (after : _)
     → Finishes c.args.registry.now.schema.now c.args.registry.now.world.now (header_bytes c.args.registry.now.header.now) g.F.Shelf.tells
     g.F.D.Disk (journals_on g.F.Shelf g.F.D.Disk c.args.registry.now.directory.now c.args.shelf.now after)
     (map named_user c.args.registry.now.users.now) c.in-Ok-open_all.seats.items (g.F.Shelf.disk after) (g.F.Shelf.disk_faults after)
@@ -73,14 +74,21 @@ answer_all-requires-clause-refusals g c =
 
 -- ---- all disks are back, at these seats
 
-given : (g : Over) (c : goal.After-answer_all g) (new : _) (stay : Stay c.args.registry.now.schema.now c.args.registry.now.world.now
-    (header_bytes c.args.registry.now.header.now) g.F.D.Disk c.In-Ok-open_all.in-Ok-open_all.seats.items new)
+-- what the opening of all journals gave, at a place behind the answers
+abbrev Begun : (g : Over) → After-answer_all g → Type 0
+Begun g c =
+    AllSeated c.args.registry.now.directory.now c.args.registry.now.schema.now c.args.registry.now.world.now (header_bytes c.args.registry.now.header.now)
+    g.F.Shelf.tells g.F.D.Disk c.args.registry.now.users.now c.in-Ok-open_all.seats.items (g.F.Shelf.disk c.args.shelf.now)
+    (g.F.Shelf.disk c.open_all.new.shelf) (g.F.Shelf.is_out c.open_all.new.shelf) (g.F.Shelf.disk_faults c.args.shelf.now)
+    (g.F.Shelf.disk_faults c.open_all.new.shelf)
+
+given : (g : Over) (c : After-answer_all g) → Begun g c → (new : _) (stay : Stay c.args.registry.now.schema.now c.args.registry.now.world.now
+    (header_bytes c.args.registry.now.header.now) g.F.D.Disk c.in-Ok-open_all.seats.items new)
     → AreBack g.F.Shelf.tells g.F.D.Disk (g.F.Shelf.disk c.answer_all.new.shelf) (g.F.Shelf.disk_faults c.answer_all.new.shelf) new
     → AllReturned (registered_journals c.args.registry.now.directory.now c.args.registry.now.users.now) (g.F.Shelf.disk c.args.shelf.now)
     (g.F.Shelf.disk c.answer_all.new.shelf) (g.F.Shelf.is_out c.answer_all.new.shelf) (g.F.Shelf.disk_faults c.args.shelf.now)
     (g.F.Shelf.disk_faults c.answer_all.new.shelf)
-given g c new stay back =
-    let at = seated g c.In-Ok-open_all in
+given g c at new stay back =
     all_returned at new stay.names (stay.later (g.F.Shelf.disk_faults c.open_all.new.shelf) at.later)
     (record {
       back = back;
@@ -95,22 +103,23 @@ given g c new stay back =
 
 -- ---- where all items were answered
 
-all_given : (g : Over) (c : goal.In-All g)
-    → AllReturned (registered_journals c.args.registry.now.directory.now c.args.registry.now.users.now) (g.F.Shelf.disk c.args.shelf.now)
-    (g.F.Shelf.disk c.answer_all.new.shelf) (g.F.Shelf.is_out c.answer_all.new.shelf) (g.F.Shelf.disk_faults c.args.shelf.now)
-    (g.F.Shelf.disk_faults c.answer_all.new.shelf)
-all_given g c =
-    let all = c.in-All.ensures.answered in
-    given g c.After-answer_all all.0 (stay_run _ _ _ _ _ _ _ _ _ all.1.runs) all.2
-
 pub returns-in-All-clause-inside : goal.returns-in-All-clause-inside
-returns-in-All-clause-inside g c = (all_given g (goal.at.returns-in-All-clause-inside g c).In-All).inside
+returns-in-All-clause-inside g c =
+    let at = goal.at.returns-in-All-clause-inside g c in
+    let all = c.in-All.ensures.answered in
+    (given g at.After-answer_all (seated g at.In-Ok-open_all) all.0 (stay_run _ _ _ _ _ _ _ _ _ all.1.runs) all.2).inside
 
 pub returns-in-All-clause-counts : goal.returns-in-All-clause-counts
-returns-in-All-clause-counts g c = (all_given g (goal.at.returns-in-All-clause-counts g c).In-All).counts
+returns-in-All-clause-counts g c =
+    let at = goal.at.returns-in-All-clause-counts g c in
+    let all = c.in-All.ensures.answered in
+    (given g at.After-answer_all (seated g at.In-Ok-open_all) all.0 (stay_run _ _ _ _ _ _ _ _ _ all.1.runs) all.2).counts
 
 pub returns-in-All-clause-disks : goal.returns-in-All-clause-disks
-returns-in-All-clause-disks g c = (all_given g (goal.at.returns-in-All-clause-disks g c).In-All).disks
+returns-in-All-clause-disks g c =
+    let at = goal.at.returns-in-All-clause-disks g c in
+    let all = c.in-All.ensures.answered in
+    (given g at.After-answer_all (seated g at.In-Ok-open_all) all.0 (stay_run _ _ _ _ _ _ _ _ _ all.1.runs) all.2).disks
 
 pub returns-in-All-clause-journals : goal.returns-in-All-clause-journals
 returns-in-All-clause-journals g c = λ shelf_told.
@@ -152,22 +161,26 @@ returns-in-All-clause-disk_cause g c = λ broken.
 
 -- ---- where a write failed
 
-cut_given : (g : Over) (c : goal.In-Cut g)
-    → AllReturned (registered_journals c.args.registry.now.directory.now c.args.registry.now.users.now) (g.F.Shelf.disk c.args.shelf.now)
-    (g.F.Shelf.disk c.answer_all.new.shelf) (g.F.Shelf.is_out c.answer_all.new.shelf) (g.F.Shelf.disk_faults c.args.shelf.now)
-    (g.F.Shelf.disk_faults c.answer_all.new.shelf)
-cut_given g c =
-    let some = c.in-Cut.ensures.answered in
-    given g c.After-answer_all some.0 (stay_run _ _ _ _ _ _ _ _ _ (runs_then _ _ _ _ _ _ _ _ _ _ _ _ _ some.1.first some.1.last)) some.2
-
 pub returns-in-Cut-clause-inside : goal.returns-in-Cut-clause-inside
-returns-in-Cut-clause-inside g c = (cut_given g (goal.at.returns-in-Cut-clause-inside g c).In-Cut).inside
+returns-in-Cut-clause-inside g c =
+    let at = goal.at.returns-in-Cut-clause-inside g c in
+    let some = c.in-Cut.ensures.answered in
+    (given g at.After-answer_all (seated g at.In-Ok-open_all) some.0
+    (stay_run _ _ _ _ _ _ _ _ _ (runs_then _ _ _ _ _ _ _ _ _ _ _ _ _ some.1.first some.1.last)) some.2).inside
 
 pub returns-in-Cut-clause-counts : goal.returns-in-Cut-clause-counts
-returns-in-Cut-clause-counts g c = (cut_given g (goal.at.returns-in-Cut-clause-counts g c).In-Cut).counts
+returns-in-Cut-clause-counts g c =
+    let at = goal.at.returns-in-Cut-clause-counts g c in
+    let some = c.in-Cut.ensures.answered in
+    (given g at.After-answer_all (seated g at.In-Ok-open_all) some.0
+    (stay_run _ _ _ _ _ _ _ _ _ (runs_then _ _ _ _ _ _ _ _ _ _ _ _ _ some.1.first some.1.last)) some.2).counts
 
 pub returns-in-Cut-clause-disks : goal.returns-in-Cut-clause-disks
-returns-in-Cut-clause-disks g c = (cut_given g (goal.at.returns-in-Cut-clause-disks g c).In-Cut).disks
+returns-in-Cut-clause-disks g c =
+    let at = goal.at.returns-in-Cut-clause-disks g c in
+    let some = c.in-Cut.ensures.answered in
+    (given g at.After-answer_all (seated g at.In-Ok-open_all) some.0
+    (stay_run _ _ _ _ _ _ _ _ _ (runs_then _ _ _ _ _ _ _ _ _ _ _ _ _ some.1.first some.1.last)) some.2).disks
 
 pub returns-in-Cut-clause-journals : goal.returns-in-Cut-clause-journals
 returns-in-Cut-clause-journals g c = λ shelf_told.
@@ -195,22 +208,23 @@ returns-in-Cut-clause-ends g c = λ shelf_told source_told sink_told.
 
 -- ---- where memory was wanting at a restart
 
-memory_given : (g : Over) (c : goal.In-Memory-answer_all g)
-    → AllReturned (registered_journals c.args.registry.now.directory.now c.args.registry.now.users.now) (g.F.Shelf.disk c.args.shelf.now)
-    (g.F.Shelf.disk c.answer_all.new.shelf) (g.F.Shelf.is_out c.answer_all.new.shelf) (g.F.Shelf.disk_faults c.args.shelf.now)
-    (g.F.Shelf.disk_faults c.answer_all.new.shelf)
-memory_given g c =
-    let left = c.in-Memory-answer_all.ensures.answered in
-    given g c.After-answer_all left.0 (stay_run _ _ _ _ _ _ _ _ _ left.1.all.runs) left.2
-
 pub returns-clause-disks : goal.returns-clause-disks
-returns-clause-disks g c = (memory_given g (goal.at.returns-clause-disks g c).In-Memory-answer_all).disks
+returns-clause-disks g c =
+    let at = goal.at.returns-clause-disks g c in
+    let left = c.in-Memory-answer_all.ensures.answered in
+    (given g at.After-answer_all (seated g at.In-Ok-open_all) left.0 (stay_run _ _ _ _ _ _ _ _ _ left.1.all.runs) left.2).disks
 
 pub returns-clause-inside : goal.returns-clause-inside
-returns-clause-inside g c = (memory_given g (goal.at.returns-clause-inside g c).In-Memory-answer_all).inside
+returns-clause-inside g c =
+    let at = goal.at.returns-clause-inside g c in
+    let left = c.in-Memory-answer_all.ensures.answered in
+    (given g at.After-answer_all (seated g at.In-Ok-open_all) left.0 (stay_run _ _ _ _ _ _ _ _ _ left.1.all.runs) left.2).inside
 
 pub returns-clause-counts : goal.returns-clause-counts
-returns-clause-counts g c = (memory_given g (goal.at.returns-clause-counts g c).In-Memory-answer_all).counts
+returns-clause-counts g c =
+    let at = goal.at.returns-clause-counts g c in
+    let left = c.in-Memory-answer_all.ensures.answered in
+    (given g at.After-answer_all (seated g at.In-Ok-open_all) left.0 (stay_run _ _ _ _ _ _ _ _ _ left.1.all.runs) left.2).counts
 
 pub returns-clause-journals : goal.returns-clause-journals
 returns-clause-journals g c = λ shelf_told.
