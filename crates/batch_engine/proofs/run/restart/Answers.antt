@@ -43,7 +43,8 @@ can g c =
     (record {
       distinct = ap has_duplicate (names g c) ∙ c.requires.distinct;
       out = subst (λ ns. AllOut ns (g.F.Shelf.is_out c.args.shelf.now)) (sym (names g c)) c.requires.out;
-      later = later_reopened c.args.registry.now.schema.now c.args.registry.now.world.now (header_bytes c.args.registry.now.header.now) g.F.D.Disk (g.F.Shelf.disk_faults c.args.shelf.now) c.args.seats.items c.in-Some.seats.items c.in-Some.ensures.reopened
+      later = later_reopened c.args.registry.now.schema.now c.args.registry.now.world.now (header_bytes c.args.registry.now.header.now)
+          g.F.D.Disk (g.F.Shelf.disk_faults c.args.shelf.now) c.args.seats.items c.in-Some.seats.items c.in-Some.ensures.reopened
           c.requires.later;
     })
 
