@@ -243,8 +243,8 @@ impl<V: Recorded> Turnstile<V> {
 
     /// Looks some times whether the ticket is served, and then sleeps until it is. No ring is
     /// missed: a pass is counted as a sleeper and has heard the bell before the look that sends it
-    /// to sleep, and the bell is rung after the ticket is served. Until then it rings for tickets of
-    /// the other 64 passes alone, so that the 32 bits that it compares don't come round.
+    /// to sleep, and the bell is rung after the ticket is served. Until then it rings for tickets
+    /// of the other 64 passes alone, so the 32 bits that a sleep compares don't come round.
     fn await_turn<R: Wait>(&self, rt: &R, ticket: u64) {
         for _ in 0..LOOKS {
             thread::yield_now();
