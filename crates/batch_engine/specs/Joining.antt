@@ -154,6 +154,27 @@ module _ (schema : DatabaseSchema) (world : FactSet) (header : List ℕ)
       pub run : AreOneRun schema world user.profile header (journals.bytes name) user.opened
           (cut_call_of schema world user front left ∷ next ∷ [])
 
+    -- A stretch of his events ended behind those in front, where an opening of his journal had
+    -- held. A crash at a moment since it was closed there could leave him these bytes.
+    pub record IsLateFor (name : Text) (left : List ℕ) (user : NamedUser)
+        (front rest : List Event) : Type 0 where
+      pub named : IsNamed name answers.users user
+      pub serves : ServesUser schema world header journals answers.users script_of user
+      pub split : own_events user.name script_of ≡ front ++ rest
+      pub ends : IsStretchEnd rest
+      pub held : list_any is_opened front ≡ true
+      pub leaves : journals.since name (serves.closings front rest split ends held).closing left
+
+    -- the batch, cut behind all events in front and some first of the rest, and one more call are
+    -- one run
+    pub record IsLateRun (name : Text) (left : List ℕ) (user : NamedUser)
+        (front rest : List Event) (next : Call) : Type 0 where
+      pub more : List Event
+      pub further : List Event
+      pub split : rest ≡ more ++ further
+      pub run : AreOneRun schema world user.profile header (journals.bytes name) user.opened
+          (cut_call_of schema world user (front ++ more) left ∷ next ∷ [])
+
   -- Two batches of one policy were answered, whole or in part, the second over what a crash left as
   -- the first ended. To a user they are one run.
   abbrev pub BatchesJoin : Journals → Journals → Type 0
@@ -179,3 +200,16 @@ module _ (schema : DatabaseSchema) (world : FactSet) (header : List ℕ)
       → IsAnsweredTo journals' two name left second call'
       → journals.image_before name (journals'.bytes name)
       ⊎ IsCutRun journals one name (journals'.bytes name) first call'
+
+  -- Where a stretch of his events in the first had ended by that moment, all events up to there and
+  -- some first of those behind them, and then the second, are one run.
+  abbrev pub LateBatchesJoin : Journals → Journals → Type 0
+  LateBatchesJoin journals journals' =
+      (items items' : List BatchItem) (written written' : List ℕ)
+      (one : AnswersBatch schema world header journals policy items written)
+      (two : AnswersBatch schema world header journals' policy items' written')
+      (name : Text) (left : List ℕ) (first second : NamedUser) (front rest : List Event)
+      (call' : Call)
+      → IsLateFor journals one name (journals'.bytes name) first front rest
+      → IsAnsweredTo journals' two name left second call'
+      → IsLateRun journals one name (journals'.bytes name) first front rest call'

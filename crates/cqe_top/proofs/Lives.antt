@@ -21,7 +21,7 @@ use Rattle.batch_engine.specs.Joining as batch
 use Rattle.batch_engine.specs.Lives.{is_ask, is_opened}
 use Rattle.batch_engine.specs.declared.run.BatchEnd.{BatchEnd}
 use Rattle.batch_engine.specs.declared.run.BatchEnd.TheVariants as batch_end
-use Rattle.batch_engine.proofs.Joining.{batches_are_spans, cut_batches_are_calls, batches_join, cut_batches_join}
+use Rattle.batch_engine.proofs.Joining.{batches_are_spans, cut_batches_are_calls, batches_join, cut_batches_join, late_batches_join}
 use Rattle.command_words.specs.Readings.{Reading, FileNames, reading_of, runs_case, runs_init, runs_batch, runs_audit, runs_selfrun, runs_serve}
 use Rattle.log_journal.specs.Names.{journal_name}
 use Rattle.policy_files.specs.Memory.{policy_user_of}
@@ -78,6 +78,7 @@ calls_join s complaints s' complaints' words words' status status' files users u
             (sym at'.3 ∙ same ∙ at.3) at'.4;
         joined = batches_join at.0.schema at.1 at.2 (new_users at.0) (journals_of s.shelf files) (journals_of s'.shelf files);
         cut = cut_batches_join at.0.schema at.1 at.2 (new_users at.0) (journals_of s.shelf files) (journals_of s'.shelf files);
+        late = late_batches_join at.0.schema at.1 at.2 (new_users at.0) (journals_of s.shelf files) (journals_of s'.shelf files);
       },
     )
 
