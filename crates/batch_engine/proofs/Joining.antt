@@ -253,12 +253,12 @@ cut_batches_join schema world header policy journals journals' items items' writ
 pub late_batches_join : (schema : DatabaseSchema) (world : FactSet) (header : List ℕ) (policy : List NamedUser) (journals journals' : Journals)
     → LateBatchesJoin schema world header policy journals journals'
 late_batches_join schema world header policy journals journals' items items' written written' one two name left first second front rest call' late is' =
-    let script = script_of schema world header policy journals one in
+    let its = script_of schema world header policy journals one in
     let is : IsOpenedTo schema world header policy journals one name first =
-    record { named = late.named; held = held_in (own_events first.name script) front rest late.split late.held } in
+    record { named = late.named; held = held_in (own_events first.name its) front rest late.split late.held } in
     let same : first.name ≡ name = named_so schema world header policy journals items written one name first is in
-    let closing : ℕ = (late.serves.closings front rest late.split late.ends late.held).closing in
-    let cut = later_cuts_are_calls journals schema world header one.users script first late.serves front rest late.split late.ends late.held
+    let closing = (late.serves.closings front rest late.split late.ends late.held).closing in
+    let cut = later_cuts_are_calls journals schema world header one.users its first late.serves front rest late.split late.ends late.held
     (journals'.bytes name) (subst (λ n. journals.since n closing (journals'.bytes name)) (sym same) late.leaves) in
     record {
       more = cut.more;
