@@ -241,7 +241,7 @@ output_more lines new line is =
 pub stretch_split : (ended : List (Vec BatchAsk Global)) (last : List BatchAsk) (i : ℕ) (asks : Vec BatchAsk Global) → i < length ended
     → asks ≡ get_or ended i asks
     → items_in ended last
-    ≡ (stretches_in (take i ended) ++ (stretch_in asks.items ++ restarted ∷ [])) ++ items_in (drop (i + 1) ended) last
+    ≡ (stretches_in (take i ended) ++ (stretch_in asks.items ++ restarted ∷ [])) ++ items_in (drop (suc i) ended) last
 stretch_split [] last i asks low is = absurd (omega (arith, low))
 stretch_split (first ∷ ended) last zero asks low is =
     ap (λ (v : Vec BatchAsk Global). (stretch_in v.items ++ restarted ∷ stretches_in ended) ++ stretch_in last) (sym is)
@@ -252,8 +252,8 @@ stretch_split (first ∷ ended) last (suc i) asks low is =
     append_assoc (stretch_in first.items) (restarted ∷ stretches_in ended) (stretch_in last)
     ∙ ap (λ l. stretch_in first.items ++ restarted ∷ l) rest
     ∙ sym (append_assoc (stretch_in first.items)
-    (restarted ∷ (stretches_in (take i ended) ++ (stretch_in asks.items ++ restarted ∷ []))) (items_in (drop (i + 1) ended) last))
-    ∙ ap (λ l. l ++ items_in (drop (i + 1) ended) last)
+    (restarted ∷ (stretches_in (take i ended) ++ (stretch_in asks.items ++ restarted ∷ []))) (items_in (drop (suc i) ended) last))
+    ∙ ap (λ l. l ++ items_in (drop (suc i) ended) last)
     (sym (append_assoc (stretch_in first.items) (restarted ∷ stretches_in (take i ended)) (stretch_in asks.items ++ restarted ∷ [])))
 
 -- one more stretch that ended

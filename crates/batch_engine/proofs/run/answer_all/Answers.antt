@@ -1,4 +1,4 @@
-use Rattle.std.proofs.Common.{◌≡◌, ◌++◌, ◌∷◌, ◌+◌, ◌||◌, [], take, drop, true, false, refl, sym, ap, subst, ◌∙◌, ◌<◌, append-nil, length, map, arith}
+use Rattle.std.proofs.Common.{◌≡◌, ◌++◌, ◌∷◌, suc, ◌||◌, [], take, drop, true, false, refl, sym, ap, subst, ◌∙◌, ◌<◌, append-nil, length, map, arith}
 use Rattle.std.specs.Prelude.{vec_capacity}
 use Rattle.std.proofs.lemmas.List.{take_all}
 use Rattle.std.proofs.Math.Bool.{or-false}
@@ -144,7 +144,7 @@ loop-asks-preserved g c =
 items_here : (g : Over) (c : After-answer_stretch-says_broken g)
     → items_of c.args.batch.now
     ≡ (stretches_in (take c.loop-asks.asks-index c.ended-asks-ended.result.now) ++ (stretch_in c.asks-item.result.items ++ restarted ∷ []))
-    ++ items_in (drop (c.loop-asks.asks-index + 1) c.ended-asks-ended.result.now) (last_of c.args.batch.now)
+    ++ items_in (drop (suc c.loop-asks.asks-index) c.ended-asks-ended.result.now) (last_of c.args.batch.now)
 items_here g c =
     ap (λ e. items_in e (last_of c.args.batch.now)) (sym c.ended-asks-ended.ensures.stretches)
     ∙ stretch_split c.ended-asks-ended.result.now (last_of c.args.batch.now) c.loop-asks.asks-index c.asks-item.result c.loop-asks-test.true c.asks-item.is
@@ -157,7 +157,7 @@ returns-in-CutOff-clause-answered g c =
       cut_off c.args.registry.now.schema.now c.args.registry.now.world.now
           (header_bytes c.args.registry.now.header.now) g.F.D.Disk g.K.Sink.tells (items_of c.args.batch.now)
           (stretches_in (take c.loop-asks.asks-index c.ended-asks-ended.result.now)) (stretch_in c.asks-item.result.items)
-          (items_in (drop (c.loop-asks.asks-index + 1) c.ended-asks-ended.result.now) (last_of c.args.batch.now)) c.args.seats.items c.loop-asks.seats.items
+          (items_in (drop (suc c.loop-asks.asks-index) c.ended-asks-ended.result.now) (last_of c.args.batch.now)) c.args.seats.items c.loop-asks.seats.items
           c.answer_stretch-says_broken.new.seats.items c.loop-asks.is_broken c.answer_stretch-says_broken.result _ _ _
           (output_bytes c.answer_stretch-says_broken.new.lines.items)
           (items_here g (goal.at.returns-in-CutOff-clause-answered g c).After-answer_stretch-says_broken) (asks_one c.asks-item.result.items)
@@ -177,7 +177,7 @@ returns-in-NoMemory-clause-answered g c =
     let ended = c.in-NoMemory.ensures.ended in
     let asks = stretch_in c.asks-item.result.items in
     let done = stretches_in (take c.loop-asks.asks-index c.ended-asks-ended.result.now) in
-    let others = items_in (drop (c.loop-asks.asks-index + 1) c.ended-asks-ended.result.now) (last_of c.args.batch.now) in (
+    let others = items_in (drop (suc c.loop-asks.asks-index) c.ended-asks-ended.result.now) (last_of c.args.batch.now) in (
       c.answer_stretch-says_broken.new.seats.items,
       to_restart c.args.registry.now.schema.now c.args.registry.now.world.now
           (header_bytes c.args.registry.now.header.now) g.F.D.Disk g.K.Sink.tells (items_of c.args.batch.now) (done ++ asks) others

@@ -4,5 +4,5 @@ use Rattle.batch_engine.proofs.Batches.{short_last}
 use Rattle.batch_engine.proofs.batch.Batch.last.Goals as goal
 
 pub returns-clause-short : goal.returns-clause-short
-returns-clause-short g c =
-    subst AreShort (sym c.as_slice.ensures.value) (short_last c.args.self.now.ended.items c.args.self.now.last.items c.self.short)
+returns-clause-short c =
+    subst AreShort (sym c.as_slice.ensures.value) (short_last c.args.self.now.ended.items c.args.self.now.last.items c.args.self.now.short)
