@@ -1,4 +1,4 @@
-use Rattle.std.proofs.Common.{◌≡◌, ◌++◌, ◌∷◌, suc, ◌||◌, [], take, drop, true, false, refl, sym, ap, subst, ◌∙◌, ◌<◌, append-nil, length, map, arith}
+use Rattle.std.proofs.Common.{◌≡◌, ◌++◌, ◌∷◌, suc, ◌||◌, [], take, drop, true, false, refl, sym, ap, subst, ◌∙◌, ◌<◌, append-nil, length, map, All, arith}
 use Rattle.std.specs.Prelude.{vec_capacity}
 use Rattle.std.proofs.lemmas.List.{take_all}
 use Rattle.std.proofs.Math.Bool.{or-false}
@@ -18,7 +18,7 @@ use Rattle.batch_engine.specs.Steps.{Runs, RunsAll, restart_bytes}
 use Rattle.batch_engine.proofs.Running.{Stay, stay_run, runs_then, all_first, all_more, some_cut, cut_off, before_restart, to_restart, restarted_more}
 use Rattle.batch_engine.proofs.Running.{asks_one, ended_one, stretch_split, stretches_more, asks_at}
 use Rattle.batch_engine.proofs.run.answer_all.Given.{Over}
-use Rattle.batch_engine.proofs.run.answer_all.Goals.{then-is_broken, else-is_broken}
+use Rattle.batch_engine.proofs.run.answer_all.Goals.{then-is_broken, else-is_broken, then-is_broken-2, else-is_broken-2}
 use Rattle.batch_engine.proofs.run.answer_all.Goals as goal
 use Rattle.batch_engine.proofs.run.answer_all.Goals.{After-answer_stretch-says_broken, After-answer_stretch-says_broken-2}
 
@@ -39,8 +39,8 @@ loop-asks-init g c =
 pub answer_stretch-says_broken-requires-clause-short : goal.answer_stretch-says_broken-requires-clause-short
 answer_stretch-says_broken-requires-clause-short g c =
     subst AreShort (sym c.as_slice.ensures.value)
-    (asks_at AreShort c.ended-asks-ended.result.now c.loop-asks.asks-index c.asks-item.result c.loop-asks-test.true c.asks-item.is
-    c.ended-asks-ended.ensures.short)
+    (asks_at AreShort c.ended-asks-items.result.now c.loop-asks.asks-index c.asks-item.result c.loop-asks-test.true c.asks-item.is
+    c.ended-asks-items.ensures.short)
 
 pub answer_stretch-says_broken-requires-clause-served : goal.answer_stretch-says_broken-requires-clause-served
 answer_stretch-says_broken-requires-clause-served g c =
@@ -53,8 +53,9 @@ answer_stretch-says_broken-requires-clause-served g c =
 
 pub answer_stretch-says_broken-requires-clause-room : goal.answer_stretch-says_broken-requires-clause-room
 answer_stretch-says_broken-requires-clause-room g c =
-    let small = asks_at (λ asks. length asks < vec_capacity c.args.rooms.1) (ended_of c.args.batch.now) c.loop-asks.asks-index c.asks-item.result
-    c.loop-asks-test.true c.asks-item.is c.requires.ended in
+    let small = asks_at (λ asks. length asks < vec_capacity c.args.rooms.1) c.ended-asks-items.result.now c.loop-asks.asks-index c.asks-item.result
+    c.loop-asks-test.true c.asks-item.is
+    (subst (All (λ asks. length asks.items < vec_capacity c.args.rooms.1)) (sym c.ended-asks-items.ensures.stretches) c.requires.ended) in
     let room = c.loop-asks.invariant.room in
     omega (arith, small, room, ap length c.as_slice.ensures.value)
 
@@ -107,7 +108,7 @@ restart-requires-clause-later g c =
 pub loop-asks-preserved : goal.loop-asks-preserved
 loop-asks-preserved g c =
     let so_far = c.loop-asks.invariant.so_far in
-    let ended = c.ended-asks-ended.result.now in
+    let ended = c.ended-asks-items.result.now in
     let i = c.loop-asks.asks-index in
     let joined : c.if-is_broken.is_broken ≡ (c.loop-asks.is_broken || c.answer_stretch-says_broken.result) =
     elim c.if-is_broken.branch [
@@ -143,11 +144,11 @@ loop-asks-preserved g c =
 -- the items of the batch: those of the stretches so far, of this one with its restart, and the others
 items_here : (g : Over) (c : After-answer_stretch-says_broken g)
     → items_of c.args.batch.now
-    ≡ (stretches_in (take c.loop-asks.asks-index c.ended-asks-ended.result.now) ++ (stretch_in c.asks-item.result.items ++ restarted ∷ []))
-    ++ items_in (drop (suc c.loop-asks.asks-index) c.ended-asks-ended.result.now) (last_of c.args.batch.now)
+    ≡ (stretches_in (take c.loop-asks.asks-index c.ended-asks-items.result.now) ++ (stretch_in c.asks-item.result.items ++ restarted ∷ []))
+    ++ items_in (drop (suc c.loop-asks.asks-index) c.ended-asks-items.result.now) (last_of c.args.batch.now)
 items_here g c =
-    ap (λ e. items_in e (last_of c.args.batch.now)) (sym c.ended-asks-ended.ensures.stretches)
-    ∙ stretch_split c.ended-asks-ended.result.now (last_of c.args.batch.now) c.loop-asks.asks-index c.asks-item.result c.loop-asks-test.true c.asks-item.is
+    ap (λ e. items_in e (last_of c.args.batch.now)) (sym c.ended-asks-items.ensures.stretches)
+    ∙ stretch_split c.ended-asks-items.result.now (last_of c.args.batch.now) c.loop-asks.asks-index c.asks-item.result c.loop-asks-test.true c.asks-item.is
 
 -- a write failed, behind the restart or without it
 pub returns-in-CutOff-clause-answered : goal.returns-in-CutOff-clause-answered
@@ -156,8 +157,8 @@ returns-in-CutOff-clause-answered g c =
       cut.1,
       cut_off c.args.registry.now.schema.now c.args.registry.now.world.now
           (header_bytes c.args.registry.now.header.now) g.F.D.Disk g.K.Sink.tells (items_of c.args.batch.now)
-          (stretches_in (take c.loop-asks.asks-index c.ended-asks-ended.result.now)) (stretch_in c.asks-item.result.items)
-          (items_in (drop (suc c.loop-asks.asks-index) c.ended-asks-ended.result.now) (last_of c.args.batch.now)) c.args.seats.items c.loop-asks.seats.items
+          (stretches_in (take c.loop-asks.asks-index c.ended-asks-items.result.now)) (stretch_in c.asks-item.result.items)
+          (items_in (drop (suc c.loop-asks.asks-index) c.ended-asks-items.result.now) (last_of c.args.batch.now)) c.args.seats.items c.loop-asks.seats.items
           c.answer_stretch-says_broken.new.seats.items c.loop-asks.is_broken c.answer_stretch-says_broken.result _ _ _
           (output_bytes c.answer_stretch-says_broken.new.lines.items)
           (items_here g (goal.at.returns-in-CutOff-clause-answered g c).After-answer_stretch-says_broken) (asks_one c.asks-item.result.items)
@@ -176,8 +177,8 @@ pub returns-in-NoMemory-clause-answered : goal.returns-in-NoMemory-clause-answer
 returns-in-NoMemory-clause-answered g c =
     let ended = c.in-NoMemory.ensures.ended in
     let asks = stretch_in c.asks-item.result.items in
-    let done = stretches_in (take c.loop-asks.asks-index c.ended-asks-ended.result.now) in
-    let others = items_in (drop (suc c.loop-asks.asks-index) c.ended-asks-ended.result.now) (last_of c.args.batch.now) in (
+    let done = stretches_in (take c.loop-asks.asks-index c.ended-asks-items.result.now) in
+    let others = items_in (drop (suc c.loop-asks.asks-index) c.ended-asks-items.result.now) (last_of c.args.batch.now) in (
       c.answer_stretch-says_broken.new.seats.items,
       to_restart c.args.registry.now.schema.now c.args.registry.now.world.now
           (header_bytes c.args.registry.now.header.now) g.F.D.Disk g.K.Sink.tells (items_of c.args.batch.now) (done ++ asks) others
@@ -265,10 +266,10 @@ last_runs g c =
 
 -- the stretches that ended are all of them
 all_ended : (g : Over) (c : After-answer_stretch-says_broken-2 g)
-    → stretches_in (take c.loop-asks.asks-index c.ended-asks-ended.result.now) ≡ stretches_in (ended_of c.args.batch.now)
+    → stretches_in (take c.loop-asks.asks-index c.ended-asks-items.result.now) ≡ stretches_in (ended_of c.args.batch.now)
 all_ended g c =
-    ap stretches_in (take_all c.loop-asks.asks-index c.ended-asks-ended.result.now (omega (arith, c.loop-asks-test.false))
-    ∙ c.ended-asks-ended.ensures.stretches)
+    ap stretches_in (take_all c.loop-asks.asks-index c.ended-asks-items.result.now (omega (arith, c.loop-asks-test.false))
+    ∙ c.ended-asks-items.ensures.stretches)
 
 last_stay : (g : Over) (c : After-answer_stretch-says_broken-2 g)
     → Stay c.args.registry.now.schema.now c.args.registry.now.world.now (header_bytes c.args.registry.now.header.now) g.F.D.Disk
@@ -278,8 +279,8 @@ last_stay g c =
     (runs_then _ _ _ g.F.D.Disk _ _ c.args.seats.items c.loop-asks.seats.items c.answer_stretch-says_broken-2.new.seats.items _ _ _ _
     c.loop-asks.invariant.so_far.runs (last_runs g c))
 
-pub answer_stretch-says_broken-2-requires-clause-served : goal.answer_stretch-says_broken-2-requires-clause-served
-answer_stretch-says_broken-2-requires-clause-served g c =
+pub answer_stretch-says_broken-requires-2-clause-served : goal.answer_stretch-says_broken-requires-2-clause-served
+answer_stretch-says_broken-requires-2-clause-served g c =
     let stay = stay_run _ _ _ _ _ _ _ _ _ c.loop-asks.invariant.so_far.runs in (
       c.args.registry.now.schema.now,
       c.args.registry.now.world.now,
@@ -287,8 +288,8 @@ answer_stretch-says_broken-2-requires-clause-served g c =
       stay.served c.requires.served,
     )
 
-pub answer_stretch-says_broken-2-requires-clause-room : goal.answer_stretch-says_broken-2-requires-clause-room
-answer_stretch-says_broken-2-requires-clause-room g c =
+pub answer_stretch-says_broken-requires-2-clause-room : goal.answer_stretch-says_broken-requires-2-clause-room
+answer_stretch-says_broken-requires-2-clause-room g c =
     let room = c.loop-asks.invariant.room in
     omega (arith, room, c.requires.last, ap length c.last.ensures.stretch)
 
@@ -297,7 +298,7 @@ refusals_of-refusals-requires-clause-room g c =
     let names = ap length (last_stay g (goal.at.refusals_of-refusals-requires-clause-room g c).After-answer_stretch-says_broken-2).names in
     let whole = length-journals c.answer_stretch-says_broken-2.new.seats.items in
     let first = length-journals c.args.seats.items in
-    let read = ap length c.as_slice.ensures.value in
+    let read = ap length c.as_slice-2.ensures.value in
     omega (arith, c.requires.refusals, names, whole, first, read)
 
 last_can : (g : Over) (c : After-answer_stretch-says_broken-2 g)
@@ -380,7 +381,14 @@ returns-clause-disks g c =
     c.loop-asks.invariant.same c.give_back.ensures.disks)
 
 pub returns-in-Ok-clause-answered : goal.returns-in-Ok-clause-answered
-returns-in-Ok-clause-answered g c = (
+returns-in-Ok-clause-answered g c =
+    let joined : c.if-is_broken-2.is_broken ≡ (c.loop-asks.is_broken || c.answer_stretch-says_broken-2.result) =
+    elim c.if-is_broken-2.branch [
+      | then-is_broken-2 w ↦ w.is_broken-is ∙ w.if-is_broken-2.true
+          ∙ sym (ap (λ b. b || c.answer_stretch-says_broken-2.result) w.if-is_broken-2.true)
+      | else-is_broken-2 w ↦ w.is_broken-is
+          ∙ sym (ap (λ b. b || c.answer_stretch-says_broken-2.result) w.if-is_broken-2.false)
+    ] in (
   c.answer_stretch-says_broken-2.new.seats.items,
   subst (λ l. RunsAll c.args.registry.now.schema.now c.args.registry.now.world.now
       (header_bytes c.args.registry.now.header.now) g.F.D.Disk g.K.Sink.tells (l ++ stretch_in (last_of c.args.batch.now))
@@ -388,14 +396,14 @@ returns-in-Ok-clause-answered g c = (
       (all_ended g (goal.at.returns-in-Ok-clause-answered g c).After-answer_stretch-says_broken-2)
       (all_more c.args.registry.now.schema.now c.args.registry.now.world.now
       (header_bytes c.args.registry.now.header.now) g.F.D.Disk g.K.Sink.tells
-      (stretches_in (take c.loop-asks.asks-index c.ended-asks-ended.result.now)) (stretch_in (last_of c.args.batch.now)) c.args.seats.items
+      (stretches_in (take c.loop-asks.asks-index c.ended-asks-items.result.now)) (stretch_in (last_of c.args.batch.now)) c.args.seats.items
       c.loop-asks.seats.items c.answer_stretch-says_broken-2.new.seats.items c.loop-asks.is_broken c.answer_stretch-says_broken-2.result _ _ _ _
-      (output_bytes c.answer_stretch-says_broken-2.new.lines.items) refl c.loop-asks.invariant.so_far
+      (output_bytes c.answer_stretch-says_broken-2.new.lines.items) joined c.loop-asks.invariant.so_far
       (last_runs g (goal.at.returns-in-Ok-clause-answered g c).After-answer_stretch-says_broken-2)
       (λ told. c.in-Ok.ensures.all told
-      ∙ ap (λ l. g.K.Sink.written c.loop-asks.sink ++ output_bytes l) c.as_slice-2.ensures.value)),
+      ∙ ap (λ l. g.K.Sink.written c.loop-asks.sink ++ output_bytes l) c.as_slice-3.ensures.value)),
   c.give_back.ensures.back,
-  c.refusals_of-refusals.ensures ∙ ap (map (λ s. s.refusal)) c.as_slice.ensures.value,
+  c.refusals_of-refusals.ensures ∙ ap (map (λ s. s.refusal)) c.as_slice-2.ensures.value,
 )
 
 pub returns-clause-answered : goal.returns-clause-answered
@@ -403,7 +411,7 @@ returns-clause-answered g c = (
   c.answer_stretch-says_broken-2.new.seats.items,
   some_cut c.args.registry.now.schema.now c.args.registry.now.world.now
       (header_bytes c.args.registry.now.header.now) g.F.D.Disk g.K.Sink.tells (items_of c.args.batch.now)
-      (stretches_in (take c.loop-asks.asks-index c.ended-asks-ended.result.now)) (stretch_in (last_of c.args.batch.now)) [] c.args.seats.items
+      (stretches_in (take c.loop-asks.asks-index c.ended-asks-items.result.now)) (stretch_in (last_of c.args.batch.now)) [] c.args.seats.items
       c.loop-asks.seats.items c.answer_stretch-says_broken-2.new.seats.items c.loop-asks.is_broken c.answer_stretch-says_broken-2.result _ _ _
       (output_bytes c.answer_stretch-says_broken-2.new.lines.items)
       (ap (λ l. l ++ stretch_in (last_of c.args.batch.now))
@@ -411,7 +419,7 @@ returns-clause-answered g c = (
       (asks_one (last_of c.args.batch.now)) c.loop-asks.invariant.so_far (last_runs g (goal.at.returns-clause-answered g c).After-answer_stretch-says_broken-2)
       (λ told.
       let part = subst (λ l. AppendsPart (g.K.Sink.written c.loop-asks.sink) (g.K.Sink.written c.write_parts.new.sink) (output_bytes l))
-      c.as_slice-2.ensures.value (c.in-Err.ensures.part told) in
+      c.as_slice-3.ensures.value (c.in-Err.ensures.part told) in
       (part.0, part.2)),
   c.give_back.ensures.back,
 )

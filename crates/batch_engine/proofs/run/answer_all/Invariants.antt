@@ -10,7 +10,7 @@ abbrev pub invariant-loop-asks : goal.invariant-loop-asks
 invariant-loop-asks g l = record {
   so_far : RunsAll l.registry.schema.now l.registry.world.now
       (header_bytes l.registry.header.now) g.F.D.Disk
-      g.K.Sink.tells (stretches_in (take l.asks-index l.asks-ended)) l.fn.seats.items l.seats.items l.is_broken (g.K.Sink.written l.fn.sink)
+      g.K.Sink.tells (stretches_in (take l.asks-index l.asks-items)) l.fn.seats.items l.seats.items l.is_broken (g.K.Sink.written l.fn.sink)
       (g.K.Sink.written l.sink);
   same : l.shelf ≡ l.fn.shelf;
   later : g.K.Sink.faults l.fn.sink ≤ g.K.Sink.faults l.sink;

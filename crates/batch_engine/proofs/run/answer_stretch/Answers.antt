@@ -26,8 +26,8 @@ loop-ask-init g c =
     }
 
 -- the next ask is short
-pub line_of-text-requires : goal.line_of-text-requires
-line_of-text-requires g c =
+pub line_of-requires : goal.line_of-requires
+line_of-requires g c =
     ap (λ a. is_short_ask (ask_in a)) c.ask-item.is ∙ short_at c.args.asks.now c.loop-ask.ask-index c.ask-item.result c.loop-ask-test.true c.requires.short
 
 pub answer-reply-requires-clause-short : goal.answer-reply-requires-clause-short
@@ -54,7 +54,7 @@ loop-ask-preserved g c =
     let asks = c.args.asks.now in
     let i = c.loop-ask.ask-index in
     let next = stretch_more asks i c.ask-item.result c.loop-ask-test.true c.ask-item.is in
-    let output = output_more c.loop-ask.lines.items c.push_reserved.new.self.items (record { text = c.line_of-text.result }) c.push_reserved.ensures.items in
+    let output = output_more c.loop-ask.lines.items c.push_reserved.new.self.items (record { text = c.line_of.result }) c.push_reserved.ensures.items in
     let joined : c.if-is_broken.is_broken ≡ (c.loop-ask.is_broken || c.is_broken_reply-is_failed.result) =
     elim c.if-is_broken.branch [
       | then-is_broken w ↦ w.is_broken-is ∙ w.if-is_broken.true
@@ -69,13 +69,13 @@ loop-ask-preserved g c =
           let runs = so_far.runs schema world header served in
           let now = (stay_run schema world header _ _ _ _ _ _ runs).served served in
           let step = more (stretch_in (take i asks)) c.args.seats.now.items c.loop-ask.seats.items c.answer-reply.new.seats.items
-          (output_bytes c.loop-ask.lines.items) c.line_of-text.result c.loop-ask.is_broken c.is_broken_reply-is_failed.result
+          (output_bytes c.loop-ask.lines.items) c.line_of.result c.loop-ask.is_broken c.is_broken_reply-is_failed.result
           (asked (ask_in c.ask-item.result)) runs (
             option_map reply_of c.answer-reply.result,
             told_here schema world c.as_str-name.result.now c.as_str-text.result.now c.loop-ask.seats.items c.answer-reply.new.seats.items
                 (option_map reply_of c.answer-reply.result) c.as_str-name.ensures.value c.as_str-text.ensures.value
                 (c.answer-reply.ensures.replied schema world header now),
-            c.line_of-text.ensures,
+            c.line_of.ensures,
             c.is_broken_reply-is_failed.ensures,
           ) in
           subst (λ l. Runs schema world header g.D.Disk l c.args.seats.now.items (output_bytes c.push_reserved.new.self.items)
@@ -83,7 +83,7 @@ loop-ask-preserved g c =
           (subst (λ o. Runs schema world header g.D.Disk (stretch_in (take i asks) ++ asked (ask_in c.ask-item.result) ∷ [])
           c.args.seats.now.items o c.answer-reply.new.seats.items c.if-is_broken.is_broken) (sym output)
           (subst (λ b. Runs schema world header g.D.Disk (stretch_in (take i asks) ++ asked (ask_in c.ask-item.result) ∷ [])
-          c.args.seats.now.items (output_bytes c.loop-ask.lines.items ++ c.line_of-text.result) c.answer-reply.new.seats.items b) (sym joined) step));
+          c.args.seats.now.items (output_bytes c.loop-ask.lines.items ++ c.line_of.result) c.answer-reply.new.seats.items b) (sym joined) step));
       within = omega (arith, c.loop-ask-test.true);
       count = omega (arith, count, grown);
       room = c.push_reserved.ensures.capacity ∙ so_far.room;

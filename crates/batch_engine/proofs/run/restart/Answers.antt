@@ -23,17 +23,17 @@ names g c =
 bytes : (g : Over) (c : After-push_reserved g)
     → output_bytes c.push_reserved.new.self.items ≡ output_bytes c.args.lines.now.items ++ restart_bytes true
 bytes g c =
-    output_more c.args.lines.now.items c.push_reserved.new.self.items (record { text = c.new-text.result }) c.push_reserved.ensures.items
-    ∙ ap (λ l. output_bytes c.args.lines.now.items ++ l) c.new-text.ensures
+    output_more c.args.lines.now.items c.push_reserved.new.self.items (record { text = c.new.result }) c.push_reserved.ensures.items
+    ∙ ap (λ l. output_bytes c.args.lines.now.items ++ l) c.new.ensures
 
 -- ---- the desks are open again
 
-pub returns-in-Ok-clause-ended : goal.returns-in-Ok-clause-ended
-returns-in-Ok-clause-ended g c = (
+pub returns-in-Ok-write_parts-clause-ended : goal.returns-in-Ok-write_parts-clause-ended
+returns-in-Ok-write_parts-clause-ended g c = (
   c.in-Some.ensures.reopened,
-  λ told. c.in-Ok.ensures.all told
-      ∙ ap (λ l. g.K.Sink.written c.args.sink.now ++ output_bytes l) c.as_slice.ensures.value
-      ∙ ap (λ l. g.K.Sink.written c.args.sink.now ++ l) (bytes g (goal.at.returns-in-Ok-clause-ended g c).After-push_reserved),
+  λ told. c.in-Ok-write_parts.ensures.all told
+      ∙ ap (λ l. g.K.Sink.written c.args.sink.now ++ output_bytes l) c.as_slice-2.ensures.value
+      ∙ ap (λ l. g.K.Sink.written c.args.sink.now ++ l) (bytes g (goal.at.returns-in-Ok-write_parts-clause-ended g c).After-push_reserved),
 )
 
 can : (g : Over) (c : In-Some g) → CanGive g.F.D.Disk c.in-Some.seats.items (g.F.Shelf.is_out c.reopen_all.new.shelf)
@@ -57,52 +57,52 @@ give_back-requires-clause-out g c = (can g (goal.at.give_back-requires-clause-ou
 pub give_back-requires-clause-later : goal.give_back-requires-clause-later
 give_back-requires-clause-later g c = (can g (goal.at.give_back-requires-clause-later g c).In-Some).later
 
-pub returns-clause-ended : goal.returns-clause-ended
-returns-clause-ended g c = (
+pub returns-in-Err-write_parts-clause-ended : goal.returns-in-Err-write_parts-clause-ended
+returns-in-Err-write_parts-clause-ended g c = (
   true,
   c.in-Some.seats.items,
   c.in-Some.ensures.reopened,
   c.give_back.ensures.back,
   λ told.
-      let part = subst (λ l. AppendsPart (g.K.Sink.written c.args.sink.now) (g.K.Sink.written c.write_parts.new.sink) l)
-      (ap output_bytes c.as_slice.ensures.value ∙ bytes g (goal.at.returns-clause-ended g c).After-push_reserved) (c.in-Err.ensures.part told) in
+      let part = subst (λ l. AppendsPart (g.K.Sink.written c.args.sink.now) (g.K.Sink.written c.write_parts-2.new.sink) l)
+      (ap output_bytes c.as_slice-2.ensures.value ∙ bytes g (goal.at.returns-in-Err-write_parts-clause-ended g c).After-push_reserved) (c.in-Err-write_parts.ensures.part told) in
       (part.0, part.2),
 )
 
-pub returns-clause-inside : goal.returns-clause-inside
-returns-clause-inside g c =
-    λ none. subst (λ ns. AllIn ns (g.F.Shelf.is_out c.give_back.new.shelf)) (names g (goal.at.returns-clause-inside g c).In-Some) c.give_back.ensures.inside
+pub returns-in-Err-write_parts-clause-inside : goal.returns-in-Err-write_parts-clause-inside
+returns-in-Err-write_parts-clause-inside g c =
+    λ none. subst (λ ns. AllIn ns (g.F.Shelf.is_out c.give_back.new.shelf)) (names g (goal.at.returns-in-Err-write_parts-clause-inside g c).In-Some) c.give_back.ensures.inside
 
-pub returns-clause-others_out : goal.returns-clause-others_out
-returns-clause-others_out g c =
+pub returns-in-Err-write_parts-clause-others_out : goal.returns-in-Err-write_parts-clause-others_out
+returns-in-Err-write_parts-clause-others_out g c =
     subst (λ ns. SameBeside ns (g.F.Shelf.is_out c.args.shelf.now) (g.F.Shelf.is_out c.give_back.new.shelf))
-    (names g (goal.at.returns-clause-others_out g c).In-Some)
+    (names g (goal.at.returns-in-Err-write_parts-clause-others_out g c).In-Some)
     (subst (λ s. SameBeside (journals c.in-Some.seats.items) (g.F.Shelf.is_out s) (g.F.Shelf.is_out c.give_back.new.shelf)) c.in-Some.ensures.untouched
     c.give_back.ensures.others_out)
 
-pub returns-clause-counts : goal.returns-clause-counts
-returns-clause-counts g c =
+pub returns-in-Err-write_parts-clause-counts : goal.returns-in-Err-write_parts-clause-counts
+returns-in-Err-write_parts-clause-counts g c =
     subst (λ ns. SameBeside ns (g.F.Shelf.disk_faults c.args.shelf.now) (g.F.Shelf.disk_faults c.give_back.new.shelf))
-    (names g (goal.at.returns-clause-counts g c).In-Some)
+    (names g (goal.at.returns-in-Err-write_parts-clause-counts g c).In-Some)
     (subst (λ s. SameBeside (journals c.in-Some.seats.items) (g.F.Shelf.disk_faults s) (g.F.Shelf.disk_faults c.give_back.new.shelf))
     c.in-Some.ensures.untouched c.give_back.ensures.counts)
 
-pub returns-clause-disks : goal.returns-clause-disks
-returns-clause-disks g c =
-    subst (λ ns. SameBeside ns (g.F.Shelf.disk c.args.shelf.now) (g.F.Shelf.disk c.give_back.new.shelf)) (names g (goal.at.returns-clause-disks g c).In-Some)
+pub returns-in-Err-write_parts-clause-disks : goal.returns-in-Err-write_parts-clause-disks
+returns-in-Err-write_parts-clause-disks g c =
+    subst (λ ns. SameBeside ns (g.F.Shelf.disk c.args.shelf.now) (g.F.Shelf.disk c.give_back.new.shelf)) (names g (goal.at.returns-in-Err-write_parts-clause-disks g c).In-Some)
     (subst (λ s. SameBeside (journals c.in-Some.seats.items) (g.F.Shelf.disk s) (g.F.Shelf.disk c.give_back.new.shelf)) c.in-Some.ensures.untouched
     c.give_back.ensures.disks)
 
 -- ---- memory was wanting, and all disks are back
 
-pub returns-in_default-in-Ok-clause-ended : goal.returns-in_default-in-Ok-clause-ended
-returns-in_default-in-Ok-clause-ended g c = (
+pub returns-in-Ok-clause-ended : goal.returns-in-Ok-clause-ended
+returns-in-Ok-clause-ended g c = (
   c.in_default.ensures.back,
   λ told. c.in-Ok.ensures.all told ∙ ap (λ l. g.K.Sink.written c.args.sink.now ++ output_bytes l) c.as_slice.ensures.value,
 )
 
-pub returns-in_default-clause-ended : goal.returns-in_default-clause-ended
-returns-in_default-clause-ended g c = (
+pub returns-in-Err-clause-ended : goal.returns-in-Err-clause-ended
+returns-in-Err-clause-ended g c = (
   false,
   c.args.seats.items,
   refl,
