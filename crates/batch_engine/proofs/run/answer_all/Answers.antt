@@ -382,22 +382,22 @@ returns-clause-disks g c =
 
 pub returns-in-Ok-clause-answered : goal.returns-in-Ok-clause-answered
 returns-in-Ok-clause-answered g c =
-    let joined : c.if-is_broken-2.is_broken ≡ (c.loop-asks.is_broken || c.answer_stretch-says_broken-2.result) =
+    let joined : c.if-is_broken-2.result ≡ (c.loop-asks.is_broken || c.answer_stretch-says_broken-2.result) =
     elim c.if-is_broken-2.branch [
-      | then-is_broken-2 w ↦ w.is_broken-is ∙ w.if-is_broken-2.true
+      | then-is_broken-2 w ↦ w.result-is ∙ w.if-is_broken-2.true
           ∙ sym (ap (λ b. b || c.answer_stretch-says_broken-2.result) w.if-is_broken-2.true)
-      | else-is_broken-2 w ↦ w.is_broken-is
+      | else-is_broken-2 w ↦ w.result-is
           ∙ sym (ap (λ b. b || c.answer_stretch-says_broken-2.result) w.if-is_broken-2.false)
     ] in (
   c.answer_stretch-says_broken-2.new.seats.items,
   subst (λ l. RunsAll c.args.registry.now.schema.now c.args.registry.now.world.now
       (header_bytes c.args.registry.now.header.now) g.F.D.Disk g.K.Sink.tells (l ++ stretch_in (last_of c.args.batch.now))
-      c.args.seats.items c.answer_stretch-says_broken-2.new.seats.items _ (g.K.Sink.written c.args.sink.now) (g.K.Sink.written c.write_parts.new.sink))
+      c.args.seats.items c.answer_stretch-says_broken-2.new.seats.items c.if-is_broken-2.result (g.K.Sink.written c.args.sink.now) (g.K.Sink.written c.write_parts.new.sink))
       (all_ended g (goal.at.returns-in-Ok-clause-answered g c).After-answer_stretch-says_broken-2)
       (all_more c.args.registry.now.schema.now c.args.registry.now.world.now
       (header_bytes c.args.registry.now.header.now) g.F.D.Disk g.K.Sink.tells
       (stretches_in (take c.loop-asks.asks-index c.ended-asks-items.result.now)) (stretch_in (last_of c.args.batch.now)) c.args.seats.items
-      c.loop-asks.seats.items c.answer_stretch-says_broken-2.new.seats.items c.loop-asks.is_broken c.answer_stretch-says_broken-2.result _ _ _ _
+      c.loop-asks.seats.items c.answer_stretch-says_broken-2.new.seats.items c.loop-asks.is_broken c.answer_stretch-says_broken-2.result c.if-is_broken-2.result _ _ _
       (output_bytes c.answer_stretch-says_broken-2.new.lines.items) joined c.loop-asks.invariant.so_far
       (last_runs g (goal.at.returns-in-Ok-clause-answered g c).After-answer_stretch-says_broken-2)
       (λ told. c.in-Ok.ensures.all told
