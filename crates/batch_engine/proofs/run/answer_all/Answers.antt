@@ -389,22 +389,22 @@ returns-in-Ok-clause-answered g c =
       | else-is_broken-2 w ↦ w.result-is
           ∙ sym (ap (λ b. b || c.answer_stretch-says_broken-2.result) w.if-is_broken-2.false)
     ] in (
-  c.answer_stretch-says_broken-2.new.seats.items,
-  subst (λ l. RunsAll c.args.registry.now.schema.now c.args.registry.now.world.now
-      (header_bytes c.args.registry.now.header.now) g.F.D.Disk g.K.Sink.tells (l ++ stretch_in (last_of c.args.batch.now))
-      c.args.seats.items c.answer_stretch-says_broken-2.new.seats.items c.if-is_broken-2.result (g.K.Sink.written c.args.sink.now) (g.K.Sink.written c.write_parts.new.sink))
-      (all_ended g (goal.at.returns-in-Ok-clause-answered g c).After-answer_stretch-says_broken-2)
-      (all_more c.args.registry.now.schema.now c.args.registry.now.world.now
-      (header_bytes c.args.registry.now.header.now) g.F.D.Disk g.K.Sink.tells
-      (stretches_in (take c.loop-asks.asks-index c.ended-asks-items.result.now)) (stretch_in (last_of c.args.batch.now)) c.args.seats.items
-      c.loop-asks.seats.items c.answer_stretch-says_broken-2.new.seats.items c.loop-asks.is_broken c.answer_stretch-says_broken-2.result c.if-is_broken-2.result _ _ _
-      (output_bytes c.answer_stretch-says_broken-2.new.lines.items) joined c.loop-asks.invariant.so_far
-      (last_runs g (goal.at.returns-in-Ok-clause-answered g c).After-answer_stretch-says_broken-2)
-      (λ told. c.in-Ok.ensures.all told
-      ∙ ap (λ l. g.K.Sink.written c.loop-asks.sink ++ output_bytes l) c.as_slice-3.ensures.value)),
-  c.give_back.ensures.back,
-  c.refusals_of-refusals.ensures ∙ ap (map (λ s. s.refusal)) c.as_slice-2.ensures.value,
-)
+      c.answer_stretch-says_broken-2.new.seats.items,
+      subst (λ l. RunsAll c.args.registry.now.schema.now c.args.registry.now.world.now
+          (header_bytes c.args.registry.now.header.now) g.F.D.Disk g.K.Sink.tells (l ++ stretch_in (last_of c.args.batch.now))
+          c.args.seats.items c.answer_stretch-says_broken-2.new.seats.items c.if-is_broken-2.result (g.K.Sink.written c.args.sink.now) (g.K.Sink.written c.write_parts.new.sink))
+          (all_ended g (goal.at.returns-in-Ok-clause-answered g c).After-answer_stretch-says_broken-2)
+          (all_more c.args.registry.now.schema.now c.args.registry.now.world.now
+          (header_bytes c.args.registry.now.header.now) g.F.D.Disk g.K.Sink.tells
+          (stretches_in (take c.loop-asks.asks-index c.ended-asks-items.result.now)) (stretch_in (last_of c.args.batch.now)) c.args.seats.items
+          c.loop-asks.seats.items c.answer_stretch-says_broken-2.new.seats.items c.loop-asks.is_broken c.answer_stretch-says_broken-2.result c.if-is_broken-2.result _ _ _
+          (output_bytes c.answer_stretch-says_broken-2.new.lines.items) joined c.loop-asks.invariant.so_far
+          (last_runs g (goal.at.returns-in-Ok-clause-answered g c).After-answer_stretch-says_broken-2)
+          (λ told. c.in-Ok.ensures.all told
+          ∙ ap (λ l. g.K.Sink.written c.loop-asks.sink ++ output_bytes l) c.as_slice-3.ensures.value)),
+      c.give_back.ensures.back,
+      c.refusals_of-refusals.ensures ∙ ap (map (λ s. s.refusal)) c.as_slice-2.ensures.value,
+    )
 
 pub returns-clause-answered : goal.returns-clause-answered
 returns-clause-answered g c = (

@@ -9,10 +9,10 @@ use Rattle.batch_engine.proofs.batch.Batch.push_ask.Goals as goal
 pub invariant_of-self : goal.invariant_of-self
 invariant_of-self c = record {
   short = short_pushed c.args.self.now.ended.items c.args.self.now.last.items c.push.new.self.items _ (is_ok c.push.result) c.push.ensures.items
-    c.args.self.now.short
-    (ap is_short_ask
-    (λ i. record { name = c.in_ok-name.ensures.ok i; session = c.args.ask.session; text = c.in_ok-text.ensures.ok i })
-    ∙ c.requires);
+      c.args.self.now.short
+      (ap is_short_ask
+      (λ i. record { name = c.in_ok-name.ensures.ok i; session = c.args.ask.session; text = c.in_ok-text.ensures.ok i })
+      ∙ c.requires);
 }
 
 -- the last stretch has one ask more, which is the one that was said

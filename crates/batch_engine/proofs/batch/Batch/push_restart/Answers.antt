@@ -20,7 +20,7 @@ grown c =
 pub invariant_of-self-2 : goal.invariant_of-self-2
 invariant_of-self-2 c = record {
   short = short_more (items_in c.args.self.now.ended.items c.args.self.now.last.items) _ restarted
-    (grown (goal.at.invariant_of-self-2 c).After-push_reserved) c.args.self.now.short refl;
+      (grown (goal.at.invariant_of-self-2 c).After-push_reserved) c.args.self.now.short refl;
 }
 
 pub returns : goal.returns
