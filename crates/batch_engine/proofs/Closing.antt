@@ -1,7 +1,7 @@
 -- What the lines of a batch mean for its users, once their disks are back.
 use Rattle.std.proofs.Common.{◌≡◌, inl, inr, ℕ, ◌≤◌, Bool, true, false, List, [], ◌∷◌, ◌++◌, take, map, refl, sym, ap, subst, ◌∙◌, append_assoc}
 use Rattle.std.proofs.Common.{append-nil}
-use Rattle.std.specs.Prelude.{length, Option, Some, None, find, bytes_eq, All, if◌then◌else◌, option_map, IfSome, ◌⊎◌, ◌&&◌}
+use Rattle.std.specs.Prelude.{length, Option, Some, find, bytes_eq, All, if◌then◌else◌, option_map, IfSome, ◌⊎◌, ◌&&◌}
 use Rattle.std.specs.List.{list_any, AllByRecursion}
 use Rattle.std.proofs.lemmas.List.Elements.{All-head, All-tail}
 use Rattle.outside.specs.Shelf.{bytes_on, image_on}

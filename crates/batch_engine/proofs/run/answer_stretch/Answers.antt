@@ -1,10 +1,11 @@
-use Rattle.std.proofs.Common.{◌≡◌, ◌∷◌, ◌++◌, ◌||◌, take, length, [], false, sym, ap, subst, ◌∙◌, arith}
+use Rattle.std.proofs.Common.{◌≡◌, List, ◌∷◌, ◌++◌, ◌||◌, take, length, [], false, sym, ap, subst, ◌∙◌, arith}
 use Rattle.std.specs.Prelude.{option_map}
 use Rattle.std.proofs.lemmas.List.{take_all}
 use Rattle.user_log.specs.Replies.{reply_of}
 use Rattle.desk_crew.proofs.Asking.{told_here, served_users}
 use Rattle.batch_engine.specs.BatchLines.{asked}
 use Rattle.batch_engine.specs.Batches.{ask_in, stretch_in}
+use Rattle.batch_engine.specs.declared.output.OutputLine.{OutputLine}
 use Rattle.batch_engine.specs.Outputs.{output_bytes}
 use Rattle.batch_engine.specs.Said.{is_short_ask}
 use Rattle.batch_engine.specs.Steps.{Runs, nothing, more}
@@ -19,7 +20,7 @@ loop-ask-init g c =
     record {
       runs = λ schema world header served.
           subst (λ o. Runs schema world header g.D.Disk [] c.args.seats.now.items o c.args.seats.now.items false)
-          (ap output_bytes (sym c.clear.ensures.items)) (nothing c.args.seats.now.items);
+          (ap output_bytes (sym {A = List OutputLine} c.clear.ensures.items)) (nothing c.args.seats.now.items);
       within = omega arith;
       count = omega (arith, none);
       room = c.clear.ensures.capacity;

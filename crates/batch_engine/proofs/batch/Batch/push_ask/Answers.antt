@@ -1,4 +1,4 @@
-use Rattle.std.proofs.Common.{◌≡◌, ◌∷◌, ◌++◌, [], ap, ◌∙◌, is_ok}
+use Rattle.std.proofs.Common.{◌∷◌, ◌++◌, [], ap, ◌∙◌, is_ok}
 use Rattle.batch_engine.specs.BatchLines.{NamedAsk, asked}
 use Rattle.batch_engine.specs.Said.{is_short_ask}
 use Rattle.batch_engine.specs.Batches.{items_in}
