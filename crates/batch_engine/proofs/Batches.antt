@@ -68,7 +68,8 @@ short_more items new item is all one =
 pub short_pushed : (ended : List (Vec BatchAsk Global)) (last new : List BatchAsk) (ask : BatchAsk) (b : Bool)
     → new ≡ (if b then last ++ ask ∷ [] else last) → list_all is_short_item (items_in ended last) ≡ true → is_short_ask (ask_in ask) ≡ true
     → list_all is_short_item (items_in ended new) ≡ true
-short_pushed ended last new ask true is all one = short_more (items_in ended last) (items_in ended new) (asked (ask_in ask)) (ask_more ended last new ask is) all one
+short_pushed ended last new ask true is all one =
+    short_more (items_in ended last) (items_in ended new) (asked (ask_in ask)) (ask_more ended last new ask is) all one
 short_pushed ended last new ask false is all one = ap (λ l. list_all is_short_item (items_in ended l)) is ∙ all
 
 short_items : (asks : List BatchAsk) → list_all is_short_item (stretch_in asks) ≡ list_all is_short_ask (asks_in asks)

@@ -27,7 +27,7 @@ use Rattle.batch_engine.specs.declared.output.OutputLine.{OutputLine}
 use Rattle.batch_engine.proofs.Batches.{stretches-append}
 use Rattle.batch_engine.proofs.Seating.{flat_map-append}
 use Rattle.desk_counter.specs.declared.item.Fixed.{Fixed}
-use Rattle.desk_crew.specs.Crew.{seat_user, seat_journal, seat_disk, IsSeatServed, AreReopened, Tells, nobody, here, further}
+use Rattle.desk_crew.specs.Crew.{seat_user, seat_journal, seat_disk, IsSeatAsOpened, IsSeatServed, AreReopened, Tells, nobody, here, further}
 use Rattle.desk_crew.specs.Shelved.{journals, AreLater}
 use Rattle.batch_engine.specs.Steps.{restart_bytes, MaybeReopened, Carries, Runs, nothing, more, RunsAll, RunsSome, RunsTo}
 use Rattle.desk_crew.proofs.Asking.{still_served}
@@ -231,6 +231,14 @@ pub asks_at : (P : List BatchAsk → Type 0) (ended : List (Vec BatchAsk Global)
 asks_at P ended i asks low is all =
     subst (λ (a : Vec BatchAsk Global). P a.items) (sym is)
     (all_at (λ (a : Vec BatchAsk Global). P a.items) ended i asks low (recursion_from_All (λ (a : Vec BatchAsk Global). P a.items) ended all))
+
+-- nothing was appended at the seats since they were opened again
+pub all_as_opened : (schema : DatabaseSchema) (world : FactSet) (header : List ℕ) {D : Type 0} {g h : _} (Disk : DiskGhosts D)
+    (olds news : List (DeskSeat D g h)) → AreReopened schema world header Disk olds news → AllByRecursion IsSeatAsOpened news
+all_as_opened schema world header Disk [] [] are = tt
+all_as_opened schema world header Disk [] (n ∷ news) are = absurd are
+all_as_opened schema world header Disk (o ∷ olds) [] are = absurd are
+all_as_opened schema world header Disk (o ∷ olds) (n ∷ news) are = (are.0.opened.fresh, all_as_opened schema world header Disk olds news are.1)
 
 -- one more line of the output
 pub output_more : (lines new : List OutputLine) (line : OutputLine) → new ≡ lines ++ line ∷ [] → output_bytes new ≡ output_bytes lines ++ line.text

@@ -11,11 +11,12 @@
 //! written, and since then a crash leaves each mark of it in the journal. No user's reply depends
 //! on another user, and all disks are given back.
 //!
-//! Read `line`, `batch`, then `run`; proofs begin with `proofs/Courses.antt`, one user over his
-//! lives.
+//! Read `line`, `batch`, `closed`, then `run`; proofs begin with `proofs/Courses.antt`, one user
+//! over his lives.
 #![tactic(auto)]
 
 mod batch;
+mod closed;
 pub mod laws;
 mod line;
 mod output;

@@ -28,6 +28,7 @@ ghost use Rattle.batch_engine.specs.declared.run.Answered.{Answered};
 ghost use Rattle.batch_engine.specs.declared.run.BatchEnd.{BatchEnd};
 
 use crate::batch::{Batch, BatchAsk};
+use crate::closed::{write_again, write_behind};
 use crate::output::OutputLine;
 use cqe_base::laws::{law_legal_grows, law_private, law_runs_legal, law_scripts_hide};
 use cqe_base::text::ScriptError;
@@ -38,7 +39,7 @@ use desk_crew::{
 };
 use line_protocol::{LineText, text_of};
 use log_journal::law_journals_differ;
-use outside::{Disk, Failed, Gate, Shelf, Sink, Source, write_parts};
+use outside::{Disk, Failed, Gate, Shelf, Sink, Source};
 use script_lines::{Reading, read_script};
 use std::alloc::{AllocError, Global};
 use std::sync::Wait;
@@ -169,6 +170,8 @@ fn restart<'w, F: Shelf, K: Sink>(
     requires limits { SeatsKeepLimits registry.now.schema.now seats.items }
     requires served { AllByRecursion (IsSeatServed registry.now.schema.now registry.now.world.now
         (header_bytes registry.now.header.now)) seats.items }
+    requires registered { journals seats.items
+        ≡ registered_journals registry.now.directory.now registry.now.users.now }
     requires distinct { has_duplicate (journals seats.items) ≡ false }
     requires out { AllOut (journals seats.items) (F.is_out shelf.old) }
     requires later { AreLater F.D.faults (F.disk_faults shelf.old) seats.items }
@@ -193,7 +196,7 @@ fn restart<'w, F: Shelf, K: Sink>(
     ensures cause { IsCutOff result → Rose (K.faults sink.old) (K.faults sink.new) }
 {
     let Some(seats) = reopen_all(alloc, registry, shelf, seats) else {
-        return match write_parts(sink, lines.as_slice()) {
+        return match write_behind(sink, lines.as_slice(), registry, shelf) {
             Ok(()) => Ended::NoMemory,
             Err(Failed) => Ended::CutOff,
         };
@@ -201,7 +204,7 @@ fn restart<'w, F: Shelf, K: Sink>(
     lines.push_reserved(OutputLine {
         text: LineText::new("* restarted\n"),
     });
-    match write_parts(sink, lines.as_slice()) {
+    match write_again(sink, lines.as_slice(), seats.as_slice()) {
         Ok(()) => Ended::Again(seats),
         Err(Failed) => {
             give_back(shelf, seats);
@@ -226,6 +229,8 @@ fn answer_all<'w, R: Wait, G: Gate, F: Shelf, K: Sink>(
     requires limits { SeatsKeepLimits registry.now.schema.now seats.items }
     requires served { AllByRecursion (IsSeatServed registry.now.schema.now registry.now.world.now
         (header_bytes registry.now.header.now)) seats.items }
+    requires registered { journals seats.items
+        ≡ registered_journals registry.now.directory.now registry.now.users.now }
     requires distinct { has_duplicate (journals seats.items) ≡ false }
     requires out { AllOut (journals seats.items) (F.is_out shelf.old) }
     requires later { AreLater F.D.faults (F.disk_faults shelf.old) seats.items }
@@ -264,7 +269,7 @@ fn answer_all<'w, R: Wait, G: Gate, F: Shelf, K: Sink>(
     let says_broken = answer_stretch(rt, alloc, &mut seats, batch.last(), &mut lines, gate);
     let refusals = refusals_of(room, seats.as_slice());
     give_back(shelf, seats);
-    match write_parts(sink, lines.as_slice()) {
+    match write_behind(sink, lines.as_slice(), registry, shelf) {
         Ok(()) => Answered::All(refusals, is_broken || says_broken),
         Err(Failed) => Answered::Cut,
     }

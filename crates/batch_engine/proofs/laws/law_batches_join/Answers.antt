@@ -1,5 +1,6 @@
 use Rattle.desk_crew.specs.Shelved.{journals_on}
-use Rattle.batch_engine.proofs.Joining.{batches_are_calls, batches_are_spans, cut_batches_are_calls, later_cuts_are_calls, batches_join, cut_batches_join, late_batches_join}
+use Rattle.batch_engine.proofs.Joining.{batches_are_calls, batches_are_spans, cut_batches_are_calls, later_cuts_are_calls}
+use Rattle.batch_engine.proofs.Joining.{batches_join, cut_batches_join, late_batches_join}
 use Rattle.batch_engine.proofs.laws.law_batches_join.Goals as goal
 
 pub returns-clause-calls : goal.returns-clause-calls

@@ -89,6 +89,10 @@ restart-requires-clause-limits g c = (stay g (goal.at.restart-requires-clause-li
 pub restart-requires-clause-served : goal.restart-requires-clause-served
 restart-requires-clause-served g c = (stay g (goal.at.restart-requires-clause-served g c).After-answer_stretch-says_broken).served c.requires.served
 
+pub restart-requires-clause-registered : goal.restart-requires-clause-registered
+restart-requires-clause-registered g c =
+    (stay g (goal.at.restart-requires-clause-registered g c).After-answer_stretch-says_broken).names ∙ c.requires.registered
+
 pub restart-requires-clause-distinct : goal.restart-requires-clause-distinct
 restart-requires-clause-distinct g c =
     ap has_duplicate (stay g (goal.at.restart-requires-clause-distinct g c).After-answer_stretch-says_broken).names ∙ c.requires.distinct
@@ -322,6 +326,13 @@ give_back-requires-clause-out g c = (last_can g (goal.at.give_back-requires-clau
 pub give_back-requires-clause-later : goal.give_back-requires-clause-later
 give_back-requires-clause-later g c = (last_can g (goal.at.give_back-requires-clause-later g c).After-answer_stretch-says_broken-2).later
 
+pub write_behind-requires : goal.write_behind-requires
+write_behind-requires g c =
+    record {
+      closed = subst (λ ns. AllIn ns (g.F.Shelf.is_out c.give_back.new.shelf))
+          ((last_stay g (goal.at.write_behind-requires g c).After-answer_stretch-says_broken-2).names ∙ c.requires.registered) c.give_back.ensures.inside;
+    }
+
 pub returns-in-Ok-clause-inside : goal.returns-in-Ok-clause-inside
 returns-in-Ok-clause-inside g c =
     subst (λ ns. AllIn ns (g.F.Shelf.is_out c.give_back.new.shelf))
@@ -392,12 +403,14 @@ returns-in-Ok-clause-answered g c =
       c.answer_stretch-says_broken-2.new.seats.items,
       subst (λ l. RunsAll c.args.registry.now.schema.now c.args.registry.now.world.now
           (header_bytes c.args.registry.now.header.now) g.F.D.Disk g.K.Sink.tells (l ++ stretch_in (last_of c.args.batch.now))
-          c.args.seats.items c.answer_stretch-says_broken-2.new.seats.items c.if-is_broken-2.result (g.K.Sink.written c.args.sink.now) (g.K.Sink.written c.write_parts.new.sink))
+          c.args.seats.items c.answer_stretch-says_broken-2.new.seats.items c.if-is_broken-2.result (g.K.Sink.written c.args.sink.now)
+          (g.K.Sink.written c.write_behind.new.sink))
           (all_ended g (goal.at.returns-in-Ok-clause-answered g c).After-answer_stretch-says_broken-2)
           (all_more c.args.registry.now.schema.now c.args.registry.now.world.now
           (header_bytes c.args.registry.now.header.now) g.F.D.Disk g.K.Sink.tells
           (stretches_in (take c.loop-asks.asks-index c.ended-asks-items.result.now)) (stretch_in (last_of c.args.batch.now)) c.args.seats.items
-          c.loop-asks.seats.items c.answer_stretch-says_broken-2.new.seats.items c.loop-asks.is_broken c.answer_stretch-says_broken-2.result c.if-is_broken-2.result _ _ _
+          c.loop-asks.seats.items c.answer_stretch-says_broken-2.new.seats.items c.loop-asks.is_broken c.answer_stretch-says_broken-2.result
+          c.if-is_broken-2.result _ _ _
           (output_bytes c.answer_stretch-says_broken-2.new.lines.items) joined c.loop-asks.invariant.so_far
           (last_runs g (goal.at.returns-in-Ok-clause-answered g c).After-answer_stretch-says_broken-2)
           (λ told. c.in-Ok.ensures.all told
@@ -418,7 +431,7 @@ returns-clause-answered g c = (
       (sym (all_ended g (goal.at.returns-clause-answered g c).After-answer_stretch-says_broken-2)) ∙ sym (append-nil _))
       (asks_one (last_of c.args.batch.now)) c.loop-asks.invariant.so_far (last_runs g (goal.at.returns-clause-answered g c).After-answer_stretch-says_broken-2)
       (λ told.
-      let part = subst (λ l. AppendsPart (g.K.Sink.written c.loop-asks.sink) (g.K.Sink.written c.write_parts.new.sink) (output_bytes l))
+      let part = subst (λ l. AppendsPart (g.K.Sink.written c.loop-asks.sink) (g.K.Sink.written c.write_behind.new.sink) (output_bytes l))
       c.as_slice-3.ensures.value (c.in-Err.ensures.part told) in
       (part.0, part.2)),
   c.give_back.ensures.back,
@@ -426,5 +439,5 @@ returns-clause-answered g c = (
 
 pub returns-clause-cause : goal.returns-clause-cause
 returns-clause-cause g c =
-    λ u. rose_wide (g.K.Sink.faults c.args.sink.now) (g.K.Sink.faults c.loop-asks.sink) (g.K.Sink.faults c.write_parts.new.sink)
-    (g.K.Sink.faults c.write_parts.new.sink) c.loop-asks.invariant.later (omega arith) (c.in-Err.ensures.cause.failed refl)
+    λ u. rose_wide (g.K.Sink.faults c.args.sink.now) (g.K.Sink.faults c.loop-asks.sink) (g.K.Sink.faults c.write_behind.new.sink)
+    (g.K.Sink.faults c.write_behind.new.sink) c.loop-asks.invariant.later (omega arith) (c.in-Err.ensures.cause.failed refl)

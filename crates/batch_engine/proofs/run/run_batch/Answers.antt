@@ -60,6 +60,9 @@ answer_all-requires-clause-limits g c =
 pub answer_all-requires-clause-served : goal.answer_all-requires-clause-served
 answer_all-requires-clause-served g c = (seated g (goal.at.answer_all-requires-clause-served g c).In-Ok-open_all).served
 
+pub answer_all-requires-clause-registered : goal.answer_all-requires-clause-registered
+answer_all-requires-clause-registered g c = (seated g (goal.at.answer_all-requires-clause-registered g c).In-Ok-open_all).journals_are
+
 pub answer_all-requires-clause-distinct : goal.answer_all-requires-clause-distinct
 answer_all-requires-clause-distinct g c = (seated g (goal.at.answer_all-requires-clause-distinct g c).In-Ok-open_all).distinct
 
