@@ -1,5 +1,5 @@
 -- Calls over the same journals are one run, and parts of one history, for each user.
-use Rattle.std.proofs.Common.{◌≡◌, ◌⊎◌, inl, inr, ℕ, ◌≤◌, Bool, true, false, not, ◌&&◌, List, [], ◌∷◌, map, refl, sym, ap, subst, ◌∙◌}
+use Rattle.std.proofs.Common.{◌≡◌, ◌⊎◌, inl, inr, ℕ, ◌≤◌, Bool, true, false, not, ◌&&◌, List, [], ◌∷◌, ◌++◌, map, refl, sym, ap, subst, ◌∙◌}
 use Rattle.std.specs.Prelude.{Option, Some, None, IfSome, Vec, string_bytes}
 use Rattle.std.specs.List.{list_any, AllByRecursion}
 use Rattle.std.specs.declared.alloc.Global.{Global}
@@ -153,7 +153,7 @@ module _ (journals : Journals) (policy : PolicyValue) (world : FactSet) (header 
   batch_leaves (batch_end.Done refusals is_broken) (items, written, all) = batch_parts items all.written all.answers
   batch_leaves (batch_end.Script refusal) kept = inl kept
   batch_leaves batch_end.ReadFault kept = inl kept
-  batch_leaves batch_end.WriteFault (items, written, some) = batch_parts some.front _ some.answers
+  batch_leaves batch_end.WriteFault (items, written, some) = batch_parts (some.earlier ++ some.stretch) _ some.answers
   batch_leaves batch_end.ShelfFault kept = inl kept
   batch_leaves batch_end.Memory (inl kept) = inl kept
   batch_leaves batch_end.Memory (inr (items, written, to)) = batch_parts to.front _ to.answers
