@@ -192,8 +192,8 @@ def read_fault(said, context):
 
 
 def write_fault(said, context):
-    return Finding(said, "Standard output couldn't be written; a beginning of the replies was, and of one ask more the "
-                   "answer may be in its journal.", None, UNWRITTEN)
+    return Finding(said, "Standard output couldn't be written; a beginning of the replies was. Of a batch the asks up to "
+                   "the next restart may be in their journals; nothing behind that was asked.", None, UNWRITTEN)
 
 
 def not_handed_on(why):

@@ -1,6 +1,7 @@
 -- What the lines of a batch mean for its users, once their disks are back.
 use Rattle.std.proofs.Common.{◌≡◌, inl, inr, ℕ, ◌≤◌, Bool, true, false, List, [], ◌∷◌, ◌++◌, take, map, refl, sym, ap, subst, ◌∙◌, append_assoc}
-use Rattle.std.specs.Prelude.{Option, Some, find, bytes_eq, All, if◌then◌else◌, option_map, IfSome, ◌⊎◌, ◌&&◌}
+use Rattle.std.proofs.Common.{append-nil}
+use Rattle.std.specs.Prelude.{length, Option, Some, find, bytes_eq, All, if◌then◌else◌, option_map, IfSome, ◌⊎◌, ◌&&◌}
 use Rattle.std.specs.List.{list_any, AllByRecursion}
 use Rattle.std.proofs.lemmas.List.Elements.{All-head, All-tail}
 use Rattle.outside.specs.Shelf.{bytes_on, image_on}
@@ -11,7 +12,7 @@ use Rattle.cqe_base.specs.History.{profile_of}
 use Rattle.cqe_base.specs.Limits.{KeepsLimits}
 use Rattle.cqe_base.specs.Censor.{EmptyHistoryIsLegal, IsLegal}
 use Rattle.cqe_base.specs.Headline.{RunsStayLegal, ScriptsHide}
-use Rattle.cqe_base.specs.Transcript.{NamedUser, ScriptEvent, own_events, state_after, TranscriptIsPrivate}
+use Rattle.cqe_base.specs.Transcript.{NamedUser, ScriptEvent, own_events, state_after, transcript, TranscriptIsPrivate}
 use Rattle.cqe_base.specs.declared.user.User.{User}
 use Rattle.cqe_base.proofs.Lists.{text_is}
 use Rattle.cqe_base.proofs.Truths.{or_first, or_second}
@@ -20,18 +21,18 @@ use Rattle.user_desk.specs.Entries.{IsNoLonger}
 use Rattle.log_journal.specs.Names.{journal_name}
 use Rattle.batch_engine.specs.BatchLines.{BatchItem}
 use Rattle.desk_crew.specs.Openings.{OpensNone, OpensWith}
-use Rattle.batch_engine.specs.Lives.{RoseBy, is_opened, is_ask, failures}
-use Rattle.batch_engine.specs.Batch.{ServesUser, AnswersBatch, AreRefusals, AppendsAll, AppendsSome, line_bytes, unopened, with_opening}
-use Rattle.desk_crew.specs.Crew.{named_user, seat_standing, seat_state, IsLeft, IsClosed}
-use Rattle.cqe_base.specs.Run.{opening}
-use Rattle.user_desk.specs.Lives.{HoldsAmid}
-use Rattle.desk_crew.specs.Shelved.{since_on, journals_by, StandsAllAlong, IsBack, AreBack}
-use Rattle.batch_engine.proofs.Along.{Clock, IsAlong, along_on, amid_all}
+use Rattle.batch_engine.specs.Lives.{RoseBy, is_opened, is_ask, failures, IsStretchEnd}
+use Rattle.batch_engine.specs.Batch.{StandsAmid, StandsBehind, ServesUser, AnswersBatch, AreRefusals, AppendsAll, AppendsSome, IsStretch}
+use Rattle.batch_engine.specs.Batch.{line_bytes, unopened, with_opening}
+use Rattle.desk_crew.specs.Crew.{named_user, seat_standing, seat_state, IsLeft}
+use Rattle.cqe_base.specs.Run.{Event}
+use Rattle.desk_crew.specs.Shelved.{Journals, since_on, journals_by, StandsAllAlong, ClosedBehind, IsBack, AreBack}
+use Rattle.batch_engine.proofs.Along.{Clock, IsAlongClosed, IsClosedBehind, BeginsLife, at_end, along_still}
 use Rattle.desk_crew.proofs.Lasting.{if_some_on}
 use Rattle.desk_crew.specs.Seats.{DeskSeat}
 use Rattle.batch_engine.proofs.Courses.{Course, course_on, Fits, Stays, stays_on, IsRunning}
 use Rattle.batch_engine.proofs.Seating.{names, IsSeated, AreSeated, close_at, along_at}
-use Rattle.batch_engine.proofs.Telling.{SoFar, LastLine}
+use Rattle.batch_engine.proofs.Telling.{SoFar, Adds, joined}
 
 -- ---- users by their names
 
@@ -95,19 +96,26 @@ legal_opening : (schema : DatabaseSchema) (world : FactSet) (header c : List ℕ
 legal_opening schema world header c user empty (inl opens) = opens.legal
 legal_opening schema world header c user empty (inr (none, is)) = subst (IsLegal schema world user.profile) (sym is) (empty schema world user.profile)
 
-module _ (schema : DatabaseSchema) (world : FactSet) (users : List NamedUser) (header directory : List ℕ) {D : Type 0} {g h : _} (T S : Type 0) (s : S)
-    (Disk : DiskGhosts D) (t : T)
-    (read_is_image : (d : D) → T → Disk.image d (Disk.reads d)) (only_now : (d : D) (c : List ℕ) → Disk.image_since d (Disk.moment d) c → Disk.image d c)
+-- what each crash could leave of a user's journal at each moment, and since the end of each stretch
+record Moments (schema : DatabaseSchema) (world : FactSet) (header : List ℕ) (journals : Journals) (user : NamedUser) (events : List Event) : Type 0 where
+  moments : StandsAllAlong journals user.name (list_any is_opened events) (StandsAmid schema world header user events)
+  closings : (front rest : List Event) → events ≡ front ++ rest → IsStretchEnd rest → list_any is_opened front ≡ true
+      → ClosedBehind journals user.name moments.opening (StandsAmid schema world header user front) (StandsBehind schema world header user front rest)
+
+module _ (schema : DatabaseSchema) (world : FactSet) (users : List NamedUser) (header directory : List ℕ) {D : Type 0} {g h : _} (S : Type 0) (s : S)
+    (Disk : DiskGhosts D) (t : Disk.tells)
+    (read_is_image : (d : D) → Disk.tells → Disk.image d (Disk.reads d))
+    (only_now : (d : D) (c : List ℕ) → Disk.image_since d (Disk.moment d) c → Disk.image d c)
     (disk disk' : Text → Option D) (count count' : Text → ℕ) where
   abbrev Seated : NamedUser → List ScriptEvent → DeskSeat D g h → Type 0
   Seated user script seat =
-      IsSeated schema world header directory T Disk t read_is_image
+      IsSeated schema world header directory Disk t read_is_image
       (clock_of Disk only_now directory disk) (bytes_of Disk.reads directory disk) (count_of directory count)
       (images_of Disk.image directory disk) user (own_events user.name script) seat
 
   abbrev AllSeated : List ScriptEvent → List NamedUser → List (DeskSeat D g h) → Type 0
   AllSeated script us seats =
-      AreSeated schema world header directory T Disk t read_is_image
+      AreSeated schema world header directory Disk t read_is_image
       (clock_of Disk only_now directory disk) (bytes_of Disk.reads directory disk) (count_of directory count)
       (images_of Disk.image directory disk) script us seats
 
@@ -127,33 +135,18 @@ module _ (schema : DatabaseSchema) (world : FactSet) (users : List NamedUser) (h
         (count' (journal_name directory user.name)) seat.refusal
     began : ℕ
     began_is : IfSome (option_map Disk.moment (disk (journal_name directory user.name))) (λ begun. begun ≡ began)
-    along : IsAlong schema world user.profile header (images_of Disk.image directory disk user.name) user.opened began (own_events user.name script)
-        (Disk.moment now) (Disk.image_since now)
+    opens_at : ℕ
+    all_along : IsAlongClosed schema world user.profile header (images_of Disk.image directory disk user.name) user.opened began opens_at
+        (own_events user.name script) (Disk.moment now) (Disk.image_since now)
 
   back : (user : NamedUser) (script : List ScriptEvent) (seat : DeskSeat D g h) → Seated user script seat → IsBack S Disk disk' count' seat
       → Back user script seat
   back user script seat seated is =
       let counted : count' (journal_name directory user.name) ≡ Disk.faults is.now = ap count' (sym seated.journal_is) ∙ is.counted in
       let left = is.left in
-      let closed : IsClosed T Disk seat.desk left.closed =
-      record {
-        holds = λ told. left.is_closed.holds s;
-        legal = left.is_closed.legal;
-        added = left.is_closed.added;
-        items = left.is_closed.items;
-        idle = left.is_closed.idle;
-        later =
-            left.is_closed.later;
-        cause = left.is_closed.cause;
-        size = λ told. left.is_closed.size s;
-        shut = left.is_closed.shut;
-        still = left.is_closed.still;
-        since = λ told. left.is_closed.since s;
-        time = left.is_closed.time;
-      } in
-      let running = close_at schema world header directory T Disk t read_is_image
+      let running = close_at schema world header directory Disk t read_is_image
       (clock_of Disk only_now directory disk) (bytes_of Disk.reads directory disk) (count_of directory count)
-      (images_of Disk.image directory disk) user (own_events user.name script) seat left.closed seated closed in
+      (images_of Disk.image directory disk) user (own_events user.name script) seat left.closed seated left.is_closed in
       record {
         now = is.now;
         held = ap disk' (sym seated.journal_is) ∙ is.held s;
@@ -172,38 +165,74 @@ module _ (schema : DatabaseSchema) (world : FactSet) (users : List NamedUser) (h
             (subst (λ n. Disk.faults left.closed ≤ n) (sym counted) left.left.later) running.course;
         began = seated.began;
         began_is = seated.began_is;
-        along = along_on schema world user.profile header (images_of Disk.image directory disk user.name) user.opened seated.began (own_events user.name script)
+        opens_at = seated.opens_at;
+        all_along = along_still schema world user.profile header (images_of Disk.image directory disk user.name) user.opened seated.began seated.opens_at
+            (own_events user.name script)
             (Disk.moment left.closed) (Disk.moment is.now) (Disk.image_since left.closed) (Disk.image_since is.now) left.left.time
-            (λ some c at. amid_all schema world user.profile header (opening schema world user.profile user.opened) (own_events user.name script) c
-            (running.stays.stands some c (left.left.rests c at)))
+            (λ some c at. running.stays.stands some c (left.left.rests c at))
             (λ none c at. (running.stays.kept (ap (λ b. b && list_any is_ask (own_events user.name script)) none)).1 c (left.left.rests c at))
-            (along_at schema world header directory T Disk t read_is_image
+            (along_at schema world header directory Disk t read_is_image
             (clock_of Disk only_now directory disk) (bytes_of Disk.reads directory disk) (count_of directory count)
-            (images_of Disk.image directory disk) user (own_events user.name script) seat left.closed seated closed);
+            (images_of Disk.image directory disk) user (own_events user.name script) seat left.closed seated left.is_closed);
       }
 
-  -- what each crash could leave at each moment
-  all_along : (user : NamedUser) (script : List ScriptEvent) (seat : DeskSeat D g h) → Back user script seat
-      → StandsAllAlong (journals_by Disk.reads Disk.image Disk.moment Disk.image_since directory disk disk' count count') user.name
-      (list_any is_opened (own_events user.name script))
-      (HoldsAmid schema world user.profile header (opening schema world user.profile user.opened) (own_events user.name script))
-  all_along user script seat at =
-      let along = at.along in
+  -- a stretch that ended, by the disk that is back
+  closed_at : (user : NamedUser) (script : List ScriptEvent) (seat : DeskSeat D g h) (at : Back user script seat) (front rest : List Event)
+      → IsClosedBehind schema world user.profile header (images_of Disk.image directory disk user.name) user.opened at.began at.opens_at front rest
+      (Disk.moment at.now) (Disk.image_since at.now)
+      → ClosedBehind (journals_by Disk.reads Disk.image Disk.moment Disk.image_since directory disk disk' count count') user.name at.opens_at
+      (StandsAmid schema world header user front) (StandsBehind schema world header user front rest)
+  closed_at user script seat at front rest closed = record {
+    closing = closed.closed_at;
+    later = closed.opened_first;
+    within = subst (λ o. IfSome (option_map Disk.moment o) (λ ended. closed.closed_at ≤ ended)) (sym at.held) closed.passed;
+    before = λ c here.
+        subst (λ o. StandsAmid schema world header user front c ⊎ since_on Disk.image_since o closed.closed_at c) (sym at.held)
+        (closed.up_to c (subst (λ o. since_on Disk.image_since o at.opens_at c) at.held here));
+    behind = λ c here. closed.behind c (subst (λ o. since_on Disk.image_since o closed.closed_at c) at.held here);
+  }
+
+  -- it ended with the events, or before an opening
+  closed_by : (user : NamedUser) (script : List ScriptEvent) (seat : DeskSeat D g h) (at : Back user script seat) (front rest : List Event)
+      → own_events user.name script ≡ front ++ rest → IsStretchEnd rest → list_any is_opened front ≡ true
+      → IsClosedBehind schema world user.profile header (images_of Disk.image directory disk user.name) user.opened at.began at.opens_at front rest
+      (Disk.moment at.now) (Disk.image_since at.now)
+  closed_by user script seat at front rest split ends some = by (at_end rest ends)
+    where
+      by : (rest ≡ []) ⊎ BeginsLife rest
+          → IsClosedBehind schema world user.profile header (images_of Disk.image directory disk user.name) user.opened at.began at.opens_at front rest
+          (Disk.moment at.now) (Disk.image_since at.now)
+      by (inr begins) = at.all_along.along.closed front rest split begins some
+      by (inl none) =
+          let same : own_events user.name script ≡ front = split ∙ ap (λ r. front ++ r) none ∙ append-nil front in
+          subst (λ r. IsClosedBehind schema world user.profile header (images_of Disk.image directory disk user.name) user.opened at.began at.opens_at front r
+          (Disk.moment at.now) (Disk.image_since at.now)) (sym none)
+          (subst (λ f. IsClosedBehind schema world user.profile header (images_of Disk.image directory disk user.name) user.opened at.began at.opens_at f []
+          (Disk.moment at.now) (Disk.image_since at.now)) same (at.all_along.last (ap (list_any is_opened) same ∙ some)))
+
+  all_moments : (user : NamedUser) (script : List ScriptEvent) (seat : DeskSeat D g h) → Back user script seat
+      → Moments schema world header (journals_by Disk.reads Disk.image Disk.moment Disk.image_since directory disk disk' count count') user
+      (own_events user.name script)
+  all_moments user script seat at =
+      let along = at.all_along.along in
       record {
-        opening = along.opens_at;
-        before = if_some_on (option_map Disk.moment (disk (journal_name directory user.name))) (λ begun. begun ≡ at.began)
-            (λ begun. (begun ≤ along.opens_at) × ((c : List ℕ) → since_on Disk.image_since (disk' (journal_name directory user.name)) begun c
-            → image_on Disk.image (disk (journal_name directory user.name)) c
-            ⊎ since_on Disk.image_since (disk' (journal_name directory user.name)) along.opens_at c))
-            (λ begun same. subst (λ b. (b ≤ along.opens_at) × ((c : List ℕ) → since_on Disk.image_since (disk' (journal_name directory user.name)) b c
-            → image_on Disk.image (disk (journal_name directory user.name)) c
-            ⊎ since_on Disk.image_since (disk' (journal_name directory user.name)) along.opens_at c)) (sym same) (
-              along.begun,
-              subst (λ o. (c : List ℕ) → since_on Disk.image_since o at.began c → image_on Disk.image (disk (journal_name directory user.name)) c
-                  ⊎ since_on Disk.image_since o along.opens_at c) (sym at.held) along.before,
-            )) at.began_is;
-        behind = λ some c here. along.behind some c (subst (λ o. since_on Disk.image_since o along.opens_at c) at.held here);
-        never = λ none c here. along.never none c (subst (λ o. since_on Disk.image_since o along.opens_at c) at.held here);
+        moments = record {
+          opening = at.opens_at;
+          before = if_some_on (option_map Disk.moment (disk (journal_name directory user.name))) (λ begun. begun ≡ at.began)
+              (λ begun. (begun ≤ at.opens_at) × ((c : List ℕ) → since_on Disk.image_since (disk' (journal_name directory user.name)) begun c
+              → image_on Disk.image (disk (journal_name directory user.name)) c
+              ⊎ since_on Disk.image_since (disk' (journal_name directory user.name)) at.opens_at c))
+              (λ begun same. subst (λ b. (b ≤ at.opens_at) × ((c : List ℕ) → since_on Disk.image_since (disk' (journal_name directory user.name)) b c
+              → image_on Disk.image (disk (journal_name directory user.name)) c
+              ⊎ since_on Disk.image_since (disk' (journal_name directory user.name)) at.opens_at c)) (sym same) (
+                along.begun,
+                subst (λ o. (c : List ℕ) → since_on Disk.image_since o at.began c → image_on Disk.image (disk (journal_name directory user.name)) c
+                    ⊎ since_on Disk.image_since o at.opens_at c) (sym at.held) along.before,
+              )) at.began_is;
+          behind = λ some c here. along.behind some c (subst (λ o. since_on Disk.image_since o at.opens_at c) at.held here);
+          never = λ none c here. along.never none c (subst (λ o. since_on Disk.image_since o at.opens_at c) at.held here);
+        };
+        closings = λ front rest split ends some. closed_at user script seat at front rest (closed_by user script seat at front rest split ends some);
       }
 
   module _ (empty : EmptyHistoryIsLegal) (runs : RunsStayLegal) (hide : ScriptsHide) (alone : TranscriptIsPrivate) (valid : is_valid_schema schema ≡ true) where
@@ -213,6 +242,7 @@ module _ (schema : DatabaseSchema) (world : FactSet) (users : List NamedUser) (h
         → ServesUser schema world header (journals_by Disk.reads Disk.image Disk.moment Disk.image_since directory disk disk' count count') users script user
     serves user script seat found limits opening_is seated is =
         let at : Back user script seat = back user script seat seated is in
+        let all = all_moments user script seat at in
         let legal = legal_opening schema world header (bytes_of Disk.reads directory disk user.name) user empty opening_is in
         record {
           opening_is = opening_is;
@@ -233,7 +263,8 @@ module _ (schema : DatabaseSchema) (world : FactSet) (users : List NamedUser) (h
                 λ c here. (at.stays.kept idle).1 c (subst
                     (λ o. image_on Disk.image o c) at.held here),
               );
-          moments = all_along user script seat at;
+          moments = all.moments;
+          closings = all.closings;
         }
       where
         refused_at : (at : Back user script seat) → OpensNone schema world user.profile header (bytes_of Disk.reads directory disk user.name)
@@ -280,12 +311,12 @@ module _ (schema : DatabaseSchema) (world : FactSet) (users : List NamedUser) (h
         (found opened : Text → Bool) where
       abbrev pub Told : List BatchItem → List ℕ → List ℕ → List (DeskSeat D g h) → Bool → Type 0
       Told items old new seats is_broken = (output : List ℕ) × (new ≡ old ++ output)
-          × SoFar schema world users header directory T Disk t read_is_image
+          × SoFar schema world users header directory Disk t read_is_image
           (clock_of Disk only_now directory disk) (bytes_of Disk.reads directory disk) (count_of directory count)
           (images_of Disk.image directory disk) found opened items output seats is_broken
 
       abbrev answers : (items : List BatchItem) (output : List ℕ) (seats : List (DeskSeat D g h)) (is_broken : Bool)
-          → SoFar schema world users header directory T Disk t read_is_image
+          → SoFar schema world users header directory Disk t read_is_image
           (clock_of Disk only_now directory disk) (bytes_of Disk.reads directory disk) (count_of directory count)
           (images_of Disk.image directory disk) found opened items output seats is_broken
           → AreBack S Disk disk' count' seats
@@ -316,24 +347,35 @@ module _ (schema : DatabaseSchema) (world : FactSet) (users : List NamedUser) (h
         broken = so_far.broken;
       }
 
-      -- the first items were answered, and of the last line a part was written
-      pub answered_some : (front back all : List BatchItem) (n : ℕ) (old output line new : List ℕ) (seats : List (DeskSeat D g h))
-          → LastLine schema world users header directory T Disk t read_is_image
+      -- some first stretches were answered, and of the lines of the last a part was written
+      pub answered_some : (earlier stretch back all : List BatchItem) (n : ℕ) (old output lines new : List ℕ) (mid seats : List (DeskSeat D g h))
+          (was is_broken : Bool)
+          (so_far : SoFar schema world users header directory Disk t read_is_image
           (clock_of Disk only_now directory disk) (bytes_of Disk.reads directory disk) (count_of directory count)
-          (images_of Disk.image directory disk) found opened front output line seats
-          → AreBack S Disk disk' count' seats → new ≡ (old ++ output) ++ take n line → all ≡ front ++ back
+          (images_of Disk.image directory disk) found opened earlier output mid was)
+          → Adds schema world users header directory Disk t read_is_image
+          (clock_of Disk only_now directory disk) (bytes_of Disk.reads directory disk) (count_of directory count)
+          (images_of Disk.image directory disk) found opened so_far.events (earlier ++ stretch) (length stretch) lines seats is_broken
+          → AreBack S Disk disk' count' seats → new ≡ (old ++ output) ++ take n lines → all ≡ (earlier ++ stretch) ++ back → IsStretch stretch
           → AppendsSome schema world header (journals_by Disk.reads Disk.image Disk.moment Disk.image_since directory disk disk' count count')
           policy all old new
-      answered_some front back all n old output line new seats told is appended split = record {
-        front = front;
-        back = back;
-        split = split;
-        whole = told.whole;
-        last = told.last;
-        one = told.one;
-        part = n;
-        appended = appended ∙ append_assoc old output (take n line) ∙ ap (λ o. old ++ (o ++ take n line)) told.output_is
-            ∙ ap (λ l. old ++ (line_bytes told.whole ++ take n l)) told.line_is;
-        answers = answers front (line_bytes (told.whole ++ told.last)) seats told.is_broken told.so_far is;
-        lines = told.lines;
-      }
+      answered_some earlier stretch back all n old output lines new mid seats was is_broken so_far adds is appended split one =
+          let whole = transcript schema world users (with_opening found opened so_far.events) in
+          let both = joined schema world users header directory Disk t read_is_image
+          (clock_of Disk only_now directory disk) (bytes_of Disk.reads directory disk) (count_of directory count)
+          (images_of Disk.image directory disk) found opened earlier (earlier ++ stretch) output lines mid seats was is_broken (length stretch) so_far adds in
+          record {
+            earlier = earlier;
+            stretch = stretch;
+            back = back;
+            split = split;
+            one = one;
+            whole = whole;
+            last = adds.said;
+            each = adds.each;
+            part = n;
+            appended = appended ∙ append_assoc old output (take n lines) ∙ ap (λ o. old ++ (o ++ take n lines)) so_far.lines
+                ∙ ap (λ l. old ++ (line_bytes whole ++ take n l)) adds.lines_are;
+            answers = answers (earlier ++ stretch) (line_bytes (whole ++ adds.said)) seats is_broken both.so_far is;
+            lines = both.lines;
+          }

@@ -1,6 +1,6 @@
 -- A batch from its opening to the disks that are back.
-use Rattle.std.proofs.Common.{◌≡◌, ◌⊎◌, inl, inr, ℕ, Bool, false, true, List, [], ◌∷◌, ◌++◌, map, take, refl, sym, ap, subst, ◌∙◌}
-use Rattle.std.specs.Prelude.{Option, All}
+use Rattle.std.proofs.Common.{◌≡◌, ◌⊎◌, ℕ, Bool, false, true, List, [], ◌∷◌, ◌++◌, map, take, refl, sym, ap, subst, ◌∙◌}
+use Rattle.std.specs.Prelude.{Option, All, ◌||◌}
 use Rattle.std.specs.List.{AllByRecursion}
 use Rattle.std.proofs.lemmas.List.Elements.{All-head, All-tail}
 use Rattle.script_lines.specs.Scripts.{script_from}
@@ -20,11 +20,11 @@ use Rattle.desk_crew.specs.Openings.{OpensNone, OpensWith}
 use Rattle.batch_engine.specs.Batch.{AppendsAll, AppendsSome, AppendsTo, unopened}
 use Rattle.desk_crew.specs.Crew.{named_user}
 use Rattle.desk_crew.specs.Shelved.{Journals, journals_by, AreBack, AreSeatsOf}
-use Rattle.batch_engine.specs.Steps.{Runs, nothing, more, RunsAll, RunsSome, RunsTo, IsLastLine}
+use Rattle.batch_engine.specs.Steps.{Runs, nothing, more, RunsAll, RunsSome, RunsTo}
 use Rattle.desk_crew.specs.Seats.{DeskSeat}
 use Rattle.batch_engine.proofs.Courses.{IsExclusive}
 use Rattle.batch_engine.proofs.Seating.{names, AreSeated, AreBegun, begin_all, Chosen, choose}
-use Rattle.batch_engine.proofs.Telling.{SoFar, so_far_first, so_far_more, LastLine, no_last, last_carried}
+use Rattle.batch_engine.proofs.Telling.{SoFar, so_far_first, so_far_more, adds_all}
 use Rattle.batch_engine.proofs.Closing.{clock_of, bytes_of, count_of, images_of, names_unopened, limits_named, answered_all, answered_some}
 
 -- what is read from a batch without items is the batch of the bytes
@@ -33,38 +33,42 @@ unfolding batch_of
 batch_begins start bytes is = ap (λ s. script_from with_line s bytes) is
 
 -- The same runs where no output is told: over an output of its own.
-module _ (schema : DatabaseSchema) (world : FactSet) (header : List ℕ) {D : Type 0} {g h : _} (T : Type 0) (Disk : DiskGhosts D)
+module _ (schema : DatabaseSchema) (world : FactSet) (header : List ℕ) {D : Type 0} {g h : _} (Disk : DiskGhosts D)
     (wrote : Type 0) (items : List BatchItem) (old new : List (DeskSeat D g h)) (before after : List ℕ) where
-  all_alone : (is_broken : Bool) (all : RunsAll schema world header T Disk wrote items old new is_broken before after)
-      → RunsAll schema world header T Disk (Unit {0}) items old new is_broken [] all.output
+  all_alone : (is_broken : Bool) (all : RunsAll schema world header Disk wrote items old new is_broken before after)
+      → RunsAll schema world header Disk (Unit {0}) items old new is_broken [] all.output
   all_alone is_broken all = record { output = all.output; appended = λ w. refl; runs = all.runs }
 
-  pub some_alone : (some : RunsSome schema world header T Disk wrote items old new before after)
-      → RunsSome schema world header T Disk (Unit {0}) items old new [] (some.output ++ take 0 some.line)
+  pub some_alone : (some : RunsSome schema world header Disk wrote items old new before after)
+      → RunsSome schema world header Disk (Unit {0}) items old new [] (some.output ++ take 0 some.lines)
   some_alone some =
       record {
-        front = some.front;
+        earlier = some.earlier;
+        stretch = some.stretch;
         back = some.back;
         split = some.split;
+        one = some.one;
+        mid = some.mid;
         output = some.output;
-        line = some.line;
-        is_broken = some.is_broken;
-        runs = some.runs;
+        lines = some.lines;
+        was_broken = some.was_broken;
+        says_broken = some.says_broken;
+        first = some.first;
         last = some.last;
         appended = λ w. (0, refl);
       }
 
-pub to_alone : (schema : DatabaseSchema) (world : FactSet) (header : List ℕ) {D : Type 0} {g h : _} (T : Type 0) (Disk : DiskGhosts D)
+pub to_alone : (schema : DatabaseSchema) (world : FactSet) (header : List ℕ) {D : Type 0} {g h : _} (Disk : DiskGhosts D)
     (wrote : Type 0) (items : List BatchItem) (old new : List (DeskSeat D g h)) (before after : List ℕ)
-    (to : RunsTo schema world header T Disk wrote items old new before after)
-    → RunsTo schema world header T Disk (Unit {0}) items old new [] to.all.output
-to_alone schema world header T Disk wrote items old new before after to =
+    (to : RunsTo schema world header Disk wrote items old new before after)
+    → RunsTo schema world header Disk (Unit {0}) items old new [] to.all.output
+to_alone schema world header Disk wrote items old new before after to =
     record {
       front = to.front;
       rest = to.rest;
       split = to.split;
       is_broken = to.is_broken;
-      all = all_alone schema world header T Disk wrote to.front old new before after to.is_broken to.all;
+      all = all_alone schema world header Disk wrote to.front old new before after to.is_broken to.all;
     }
 
 -- what answers items over an output of its own answers them where this was appended
@@ -83,29 +87,30 @@ all_of P (x ∷ xs) all = (All-head P x xs all, all_of P xs (All-tail P x xs all
 
 -- What the runs of items from these seats make of the journals once the disks are back: for an output of their own, where all were carried out, and else
 -- for the output that they tell of.
-pub record Finishes (schema : DatabaseSchema) (world : FactSet) (header : List ℕ) {D : Type 0} {g h : _} (T S : Type 0) (Disk : DiskGhosts D)
+pub record Finishes (schema : DatabaseSchema) (world : FactSet) (header : List ℕ) {D : Type 0} {g h : _} (S : Type 0) (Disk : DiskGhosts D)
     (journals : Journals) (policy : List NamedUser) (seats : List (DeskSeat D g h)) (disk' : Text → Option D) (count' : Text → ℕ) : Type 1 where
   pub all : (wrote : Type 0) (items : List BatchItem) (new : List (DeskSeat D g h)) (is_broken : Bool) (before after : List ℕ)
       (refusals : List (Option DeskError))
-      (ran : RunsAll schema world header T Disk wrote items seats new is_broken before after) → AreBack S Disk disk' count' new
+      (ran : RunsAll schema world header Disk wrote items seats new is_broken before after) → AreBack S Disk disk' count' new
       → refusals ≡ map (λ (x : DeskSeat D g h). x.refusal) new
       → AppendsAll schema world header journals policy items [] ran.output refusals is_broken
   pub some : (wrote : Type 0) → wrote → (items : List BatchItem) (new : List (DeskSeat D g h)) (before after : List ℕ)
-      → RunsSome schema world header T Disk wrote items seats new before after → AreBack S Disk disk' count' new
+      → RunsSome schema world header Disk wrote items seats new before after → AreBack S Disk disk' count' new
       → AppendsSome schema world header journals policy items before after
   pub to : (wrote : Type 0) → wrote → (items : List BatchItem) (new : List (DeskSeat D g h)) (before after : List ℕ)
-      → RunsTo schema world header T Disk wrote items seats new before after → AreBack S Disk disk' count' new
+      → RunsTo schema world header Disk wrote items seats new before after → AreBack S Disk disk' count' new
       → AppendsTo schema world header journals policy items before after
 
-module _ (schema : DatabaseSchema) (world : FactSet) (header directory : List ℕ) {D : Type 0} {g h : _} (T S : Type 0) (t : T) (s : S) (Disk : DiskGhosts D)
-    (read_is_image : (d : D) → T → Disk.image d (Disk.reads d)) (only_now : (d : D) (c : List ℕ) → Disk.image_since d (Disk.moment d) c → Disk.image d c)
+module _ (schema : DatabaseSchema) (world : FactSet) (header directory : List ℕ) {D : Type 0} {g h : _} (S : Type 0) (s : S) (Disk : DiskGhosts D)
+    (t : Disk.tells) (read_is_image : (d : D) → Disk.tells → Disk.image d (Disk.reads d))
+    (only_now : (d : D) (c : List ℕ) → Disk.image_since d (Disk.moment d) c → Disk.image d c)
     (disk disk' : Text → Option D) (count count' : Text → ℕ)
     (exclusive : (user : UserProfile) → IsExclusive schema world user header)
     (decided : (user : UserProfile) (c : List ℕ) → ((entries : History) × Opens schema world user header entries c) ⊎ OpensNone schema world user header c)
     (empty : EmptyHistoryIsLegal) (runs_legal : RunsStayLegal) (hide : ScriptsHide) (alone : TranscriptIsPrivate) (valid : is_valid_schema schema ≡ true)
     (users : List User) (limits : All (λ u. KeepsLimits schema (profile_of u)) users) (distinct : has_duplicate (map (λ user. user.name) (map named_user users))
     ≡ false)
-    (seats : List (DeskSeat D g h)) (seats_are : AreSeatsOf S Disk T schema world header directory disk count users seats) where
+    (seats : List (DeskSeat D g h)) (seats_are : AreSeatsOf S Disk schema world header directory disk count users seats) where
   -- the users with their opening histories, at their desks behind the opening of all journals
   record Start : Type 0 where
     named : List NamedUser
@@ -114,23 +119,23 @@ module _ (schema : DatabaseSchema) (world : FactSet) (header directory : List �
     differ : has_duplicate (names named) ≡ false
     found : Text → Bool
     opened : Text → Bool
-    seated : AreSeated schema world header directory T Disk t read_is_image
+    seated : AreSeated schema world header directory Disk t read_is_image
         (clock_of Disk only_now directory disk) (bytes_of Disk.reads directory disk) (count_of directory count)
         (images_of Disk.image directory disk) (script_opening found opened ∷ []) named seats
 
   start : Start
   start =
-      let begun : AreBegun schema world header directory T Disk t read_is_image
+      let begun : AreBegun schema world header directory Disk t read_is_image
       (clock_of Disk only_now directory disk) (bytes_of Disk.reads directory disk) (count_of directory count)
       (images_of Disk.image directory disk) exclusive S s disk count (λ n. refl) (λ n. refl) (λ n c at. at) (λ n. refl) decided users seats =
-      begin_all schema world header directory T Disk t read_is_image
+      begin_all schema world header directory Disk t read_is_image
       (clock_of Disk only_now directory disk) (bytes_of Disk.reads directory disk) (count_of directory count)
       (images_of Disk.image directory disk) exclusive S s disk count (λ n. refl) (λ n. refl) (λ n c at. at) (λ n. refl) decided users seats seats_are in
       let differ : has_duplicate (names begun.begun) ≡ false = ap has_duplicate (sym (names_unopened begun.begun) ∙ ap names begun.of_policy) ∙ distinct in
-      let chosen : Chosen schema world header directory T Disk t read_is_image
+      let chosen : Chosen schema world header directory Disk t read_is_image
       (clock_of Disk only_now directory disk) (bytes_of Disk.reads directory disk) (count_of directory count)
       (images_of Disk.image directory disk) script_opening (λ name f o. refl) [] begun.begun seats =
-      choose schema world header directory T Disk t read_is_image
+      choose schema world header directory Disk t read_is_image
       (clock_of Disk only_now directory disk) (bytes_of Disk.reads directory disk) (count_of directory count)
       (images_of Disk.image directory disk) script_opening (λ name f o. refl) [] begun.begun seats differ begun.choices in
       record {
@@ -144,30 +149,30 @@ module _ (schema : DatabaseSchema) (world : FactSet) (header directory : List �
       }
 
   so_far_run : (st : Start) (items : List BatchItem) (new : List (DeskSeat D g h)) (output : List ℕ) (is_broken : Bool)
-      → Runs schema world header T Disk items seats output new is_broken
-      → SoFar schema world st.named header directory T Disk t read_is_image
+      → Runs schema world header Disk items seats output new is_broken
+      → SoFar schema world st.named header directory Disk t read_is_image
       (clock_of Disk only_now directory disk) (bytes_of Disk.reads directory disk) (count_of directory count)
       (images_of Disk.image directory disk) st.found st.opened items output new is_broken
   so_far_run st items new output is_broken (nothing same) =
-      so_far_first schema world st.named header directory T Disk t read_is_image
+      so_far_first schema world st.named header directory Disk t read_is_image
       (clock_of Disk only_now directory disk) (bytes_of Disk.reads directory disk) (count_of directory count)
       (images_of Disk.image directory disk) st.found st.opened seats st.seated
   so_far_run st items new output is_broken (more first old mid last before line was says item runs carried) =
-      so_far_more schema world st.named header directory T Disk t read_is_image
+      so_far_more schema world st.named header directory Disk t read_is_image
       (clock_of Disk only_now directory disk) (bytes_of Disk.reads directory disk) (count_of directory count)
       (images_of Disk.image directory disk) st.found st.opened exclusive st.differ first before mid last was says item line
       (so_far_run st first mid before was runs) carried
 
   -- all items were answered
   finish_all : (wrote : Type 0) → wrote → (items : List BatchItem) (new : List (DeskSeat D g h)) (is_broken : Bool) (before after : List ℕ)
-      → RunsAll schema world header T Disk wrote items seats new is_broken before after
+      → RunsAll schema world header Disk wrote items seats new is_broken before after
       → AreBack S Disk disk' count' new
       → AppendsAll schema world header (journals_by Disk.reads Disk.image Disk.moment Disk.image_since directory disk disk' count count') (map named_user users)
       items before after
       (map (λ (x : DeskSeat D g h). x.refusal) new) is_broken
   finish_all wrote w items new is_broken before after all back =
       let st = start in
-      answered_all schema world st.named header directory T S s Disk t read_is_image only_now disk disk' count count' empty runs_legal
+      answered_all schema world st.named header directory S s Disk t read_is_image only_now disk disk' count count' empty runs_legal
       hide alone valid
       (map named_user users) st.of_policy st.differ
       (limits_named schema users st.named st.of_policy limits) st.openings st.found st.opened items before after new is_broken (
@@ -178,7 +183,7 @@ module _ (schema : DatabaseSchema) (world : FactSet) (header directory : List �
 
   -- the items before a restart were
   finish_to : (wrote : Type 0) → wrote → (items : List BatchItem) (new : List (DeskSeat D g h)) (before after : List ℕ)
-      → RunsTo schema world header T Disk wrote items seats new before after
+      → RunsTo schema world header Disk wrote items seats new before after
       → AreBack S Disk disk' count' new
       → AppendsTo schema world header (journals_by Disk.reads Disk.image Disk.moment Disk.image_since directory disk disk' count count') (map named_user users)
       items before after
@@ -186,44 +191,27 @@ module _ (schema : DatabaseSchema) (world : FactSet) (header directory : List �
       let all = finish_all wrote w to.front new to.is_broken before after to.all back in
       record { front = to.front; rest = to.rest; split = to.split; written = all.written; appended = all.appended; answers = all.answers }
 
-  last_run : (st : Start) (front : List BatchItem) (new : List (DeskSeat D g h)) (output line : List ℕ) (is_broken : Bool)
-      → Runs schema world header T Disk front seats (output ++ line) new is_broken
-      → (line ≡ []) ⊎ IsLastLine schema world header T Disk front seats new output line
-      → LastLine schema world st.named header directory T Disk t read_is_image
-      (clock_of Disk only_now directory disk) (bytes_of Disk.reads directory disk) (count_of directory count)
-      (images_of Disk.image directory disk) st.found st.opened front output line new
-  last_run st front new output line is_broken runs (inl none) =
-      no_last schema world st.named header directory T Disk t read_is_image
-      (clock_of Disk only_now directory disk) (bytes_of Disk.reads directory disk) (count_of directory count)
-      (images_of Disk.image directory disk) st.found st.opened front output line new is_broken none
-      (so_far_run st front new (output ++ line) is_broken runs)
-  last_run st front new output line is_broken runs (inr last) =
-      subst (λ items. LastLine schema world st.named header directory T Disk t read_is_image
-      (clock_of Disk only_now directory disk) (bytes_of Disk.reads directory disk)
-      (count_of directory count) (images_of Disk.image directory disk) st.found st.opened items output line new) (sym last.split)
-      (last_carried schema world st.named header directory T Disk t read_is_image
-      (clock_of Disk only_now directory disk) (bytes_of Disk.reads directory disk) (count_of directory count)
-      (images_of Disk.image directory disk) st.found st.opened exclusive st.differ last.first output last.mid new last.was_broken last.says_broken last.item
-      line
-      (so_far_run st last.first last.mid output last.was_broken last.runs) last.carried)
-
-  -- the first items were
+  -- some first stretches were
   finish_some : (wrote : Type 0) → wrote → (items : List BatchItem) (new : List (DeskSeat D g h)) (before after : List ℕ)
-      → RunsSome schema world header T Disk wrote items seats new before after
+      → RunsSome schema world header Disk wrote items seats new before after
       → AreBack S Disk disk' count' new
       → AppendsSome schema world header (journals_by Disk.reads Disk.image Disk.moment Disk.image_since directory disk disk' count count')
       (map named_user users) items before after
   finish_some wrote w items new before after some back =
       let st = start in
       let part = some.appended w in
-      answered_some schema world st.named header directory T S s Disk t read_is_image only_now disk disk' count count' empty runs_legal
+      let so_far = so_far_run st some.earlier some.mid some.output some.was_broken some.first in
+      answered_some schema world st.named header directory S s Disk t read_is_image only_now disk disk' count count' empty runs_legal
       hide alone valid
       (map named_user users) st.of_policy st.differ
-      (limits_named schema users st.named st.of_policy limits) st.openings st.found st.opened some.front some.back items part.0 before some.output some.line
-      after new
-      (last_run st some.front new some.output some.line some.is_broken some.runs some.last) back part.1 some.split
+      (limits_named schema users st.named st.of_policy limits) st.openings st.found st.opened some.earlier some.stretch some.back items part.0 before
+      some.output some.lines after some.mid new some.was_broken (some.was_broken || some.says_broken) so_far
+      (adds_all schema world st.named header directory Disk t read_is_image
+      (clock_of Disk only_now directory disk) (bytes_of Disk.reads directory disk) (count_of directory count)
+      (images_of Disk.image directory disk) st.found st.opened exclusive st.differ some.earlier some.stretch some.output some.lines some.mid new
+      some.was_broken some.says_broken so_far some.last) back part.1 some.split some.one
 
-  pub finishes : Finishes schema world header T S Disk
+  pub finishes : Finishes schema world header S Disk
       (journals_by Disk.reads Disk.image Disk.moment Disk.image_since directory disk disk' count count') (map named_user users) seats disk' count'
   finishes = record {
     all = λ wrote items new is_broken before after refusals all back are.
@@ -231,7 +219,7 @@ module _ (schema : DatabaseSchema) (world : FactSet) (header directory : List �
         (journals_by Disk.reads Disk.image Disk.moment Disk.image_since directory disk disk' count count') (map named_user users) items [] all.output l
         is_broken) (sym are)
         (finish_all (Unit {0}) tt items new is_broken [] all.output
-        (all_alone schema world header T Disk wrote items seats new before after is_broken all) back);
+        (all_alone schema world header Disk wrote items seats new before after is_broken all) back);
     some = finish_some;
     to = finish_to;
   }

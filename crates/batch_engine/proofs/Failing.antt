@@ -110,7 +110,7 @@ module _ (schema : DatabaseSchema) (world : FactSet) (user : UserProfile) where
         by kept after reply = ap (λ (s : UserState). s.broken) (sym after) ∙ was reply
         by failed after reply = by_entry (entry_at schema world user old text) after reply
 
-module _ (schema : DatabaseSchema) (world : FactSet) (header : List ℕ) {D : Type 0} {g h : _} (told : Type 0) (Disk : DiskGhosts D) (count : Text → ℕ) where
+module _ (schema : DatabaseSchema) (world : FactSet) (header : List ℕ) {D : Type 0} {g h : _} (Disk : DiskGhosts D) (count : Text → ℕ) where
   -- an append failed at a desk whose journal wasn't refused, or the count of its disk had risen as it was opened
   abbrev pub HasBroken : DeskSeat D g h → Type 0
   HasBroken seat = ((is_sealed (seat_standing seat) ≡ false) × (seat_broke seat ≡ true)) ⊎ Rose (count (seat_journal seat)) (Disk.faults (seat_disk seat))
@@ -167,7 +167,7 @@ module _ (schema : DatabaseSchema) (world : FactSet) (header : List ℕ) {D : Ty
       inr (all_told name text others after told_reply rest (inr said))
 
   -- a restart leaves it so
-  seat_reopened : (old new : DeskSeat D g h) → IsReopened schema world header told Disk old new
+  seat_reopened : (old new : DeskSeat D g h) → IsReopened schema world header Disk old new
       → count (seat_journal old) ≤ Disk.faults (seat_disk old) → HasBroken old → HasBroken new
   seat_reopened old new is first has = inr (subst (λ n. Rose (count n) (Disk.faults (seat_disk new))) (sym is.journal_is) (by has))
     where
@@ -181,7 +181,7 @@ module _ (schema : DatabaseSchema) (world : FactSet) (header : List ℕ) {D : Ty
           rose_wide (count (seat_journal old)) (count (seat_journal old)) (Disk.faults (seat_disk old)) (Disk.faults (seat_disk new)) (omega arith)
           (omega (arith, closed, opened)) rose
 
-  all_reopened : (old new : List (DeskSeat D g h)) → AreReopened schema world header told Disk old new → AreLater Disk.faults count old
+  all_reopened : (old new : List (DeskSeat D g h)) → AreReopened schema world header Disk old new → AreLater Disk.faults count old
       → AtSome HasBroken old → AtSome HasBroken new
   all_reopened [] [] are first none = absurd none
   all_reopened [] (n ∷ new) are first none = absurd are
@@ -190,7 +190,7 @@ module _ (schema : DatabaseSchema) (world : FactSet) (header : List ℕ) {D : Ty
   all_reopened (o ∷ old) (n ∷ new) are first (inr others) = inr (all_reopened old new are.1 first.1 others)
 
   all_carried : (item : BatchItem) (old new : List (DeskSeat D g h)) (line : List ℕ) (says_broken : Bool)
-      → Carries schema world header told Disk item old new line says_broken → AreLater Disk.faults count old
+      → Carries schema world header Disk item old new line says_broken → AreLater Disk.faults count old
       → AtSome HasBroken old ⊎ (says_broken ≡ true) → AtSome HasBroken new
   all_carried (asked it) old new line says_broken carried first (inl has) = all_told it.name it.text old new carried.0 carried.1 (inl has)
   all_carried (asked it) old new line says_broken carried first (inr said) = all_told it.name it.text old new carried.0 carried.1 (inr (sym carried.3 ∙ said))
@@ -199,14 +199,14 @@ module _ (schema : DatabaseSchema) (world : FactSet) (header : List ℕ) {D : Ty
 
   -- behind items of which a line says so, it is so
   pub run_broken : (items : List BatchItem) (old new : List (DeskSeat D g h)) (output : List ℕ) (is_broken : Bool)
-      → Runs schema world header told Disk items old output new is_broken → AreLater Disk.faults count old
+      → Runs schema world header Disk items old output new is_broken → AreLater Disk.faults count old
       → is_broken ≡ true → AtSome HasBroken new
   run_broken items old new output is_broken (nothing seats) first said = absurd cc
   run_broken items old new output is_broken (more earlier old' mid new' before line was says_broken item runs carried) first said =
       by was refl (run_broken earlier old' mid before was runs first)
     where
       later : AreLater Disk.faults count mid
-      later = (stay_run schema world header told Disk earlier old' mid before was runs).later count first
+      later = (stay_run schema world header Disk earlier old' mid before was runs).later count first
 
       by : (b : Bool) → was ≡ b → (was ≡ true → AtSome HasBroken mid) → AtSome HasBroken new'
       by true broken so_far = all_carried item mid new' line says_broken carried later (inl (so_far broken))

@@ -1,5 +1,5 @@
 -- Batches are calls of which each goes on with what the one before left.
-use Rattle.std.proofs.Common.{◌≡◌, ◌⊎◌, inl, inr, ℕ, ◌≤◌, Bool, true, false, List, [], ◌∷◌, map, refl, sym, ap, subst, ◌∙◌}
+use Rattle.std.proofs.Common.{◌≡◌, ◌⊎◌, inl, inr, ℕ, ◌≤◌, Bool, true, false, List, [], ◌∷◌, ◌++◌, map, refl, sym, ap, subst, ◌∙◌}
 use Rattle.std.specs.Prelude.{Option, Some, IfSome, is_some, find, bytes_eq, if◌then◌else◌}
 use Rattle.std.specs.List.{list_any, AllByRecursion}
 use Rattle.std.specs.Cmp.Lexicographic.{same_text}
@@ -18,9 +18,11 @@ use Rattle.desk_crew.specs.Openings.{OpensWith}
 use Rattle.desk_crew.specs.Shelved.{Journals}
 use Rattle.batch_engine.specs.Batch.{ServesUser, AnswersBatch, unopened}
 use Rattle.batch_engine.specs.BatchLines.{BatchItem}
+use Rattle.std.proofs.lemmas.List.Folds.{list_any-append}
+use Rattle.std.proofs.lemmas.Bool.{or_left}
 use Rattle.batch_engine.specs.Lives.{is_opened}
-use Rattle.batch_engine.specs.Joining.{call_of, cut_call_of, cut_span_of, BatchesAreCalls, BatchesAreSpans, IsCutBatch, CutBatchesAreCalls}
-use Rattle.batch_engine.specs.Joining.{IsNamed, script_of, IsOpenedTo, IsAnsweredTo, IsCutRun, BatchesJoin, CutBatchesJoin}
+use Rattle.batch_engine.specs.Joining.{call_of, cut_call_of, cut_span_of, BatchesAreCalls, BatchesAreSpans, IsCutBatch, CutBatchesAreCalls, LaterCutsAreCalls}
+use Rattle.batch_engine.specs.Joining.{IsNamed, script_of, IsOpenedTo, IsAnsweredTo, IsCutRun, BatchesJoin, CutBatchesJoin, LateBatchesJoin}
 use Rattle.batch_engine.proofs.Along.{goes_on}
 
 -- what holds a state holds its entries and the one in flight at any standing
@@ -133,6 +135,22 @@ cut_batches_are_calls journals schema world header users script user serves held
       part = part_of schema world header (journals.bytes user.name) user amid.more left opens amid.holds;
     }
 
+-- where an opening held in front, one held
+held_in : (events front rest : List Event) → events ≡ front ++ rest → list_any is_opened front ≡ true → list_any is_opened events ≡ true
+held_in events front rest split held =
+    ap (list_any is_opened) split ∙ list_any-append is_opened front rest ∙ or_left (list_any is_opened front) (list_any is_opened rest) held
+
+pub later_cuts_are_calls : (journals : Journals) → LaterCutsAreCalls journals
+later_cuts_are_calls journals schema world header users script user serves front rest split ends held left at =
+    let behind = (serves.closings front rest split ends held).behind left at in
+    let some : list_any is_opened (own_events user.name script) ≡ true = held_in (own_events user.name script) front rest split held in
+    record {
+      more = behind.more;
+      further = behind.further;
+      split = behind.split;
+      over = record { opens = opens_at schema world header journals users script user serves some; replied = refl; holds = behind.holds };
+    }
+
 -- a batch that was answered, to the user of a name
 module _ (schema : DatabaseSchema) (world : FactSet) (header : List ℕ) (policy : List NamedUser) (journals : Journals) (items : List BatchItem)
     (written : List ℕ) (answers : AnswersBatch schema world header journals policy items written) (name : Text) (user : NamedUser)
@@ -231,3 +249,23 @@ pub cut_batches_join : (schema : DatabaseSchema) (world : FactSet) (header : Lis
 cut_batches_join schema world header policy journals journals' items items' written written' one two name left first second call' cut is' =
     cut_run schema world header policy journals journals' items items' written written' one two name left first second call' cut.opened is'
     (along schema world header policy journals items written one name first cut.opened cut.begun (journals'.bytes name) cut.began cut.leaves)
+
+pub late_batches_join : (schema : DatabaseSchema) (world : FactSet) (header : List ℕ) (policy : List NamedUser) (journals journals' : Journals)
+    → LateBatchesJoin schema world header policy journals journals'
+late_batches_join schema world header policy journals journals' items items' written written' one two name left first second front rest call' late is' =
+    let its = script_of schema world header policy journals one in
+    let is : IsOpenedTo schema world header policy journals one name first =
+    record { named = late.named; held = held_in (own_events first.name its) front rest late.split late.held } in
+    let same : first.name ≡ name = named_so schema world header policy journals items written one name first is in
+    let closing = (late.serves.closings front rest late.split late.ends late.held).closing in
+    let cut = later_cuts_are_calls journals schema world header one.users its first late.serves front rest late.split late.ends late.held
+    (journals'.bytes name) (subst (λ n. journals.since n closing (journals'.bytes name)) (sym same) late.leaves) in
+    record {
+      more = cut.more;
+      further = cut.further;
+      split = cut.split;
+      run = run_of schema world header policy journals journals' items items' written written' one two name left first second call' is is'
+          (cut_call_of schema world first (front ++ cut.more) (journals'.bytes name)) refl
+          (subst (λ n. IsCallOver schema world first.profile header (journals.bytes n)
+          (cut_call_of schema world first (front ++ cut.more) (journals'.bytes name))) same cut.over);
+    }

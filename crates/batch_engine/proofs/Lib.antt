@@ -1,3 +1,4 @@
+pub mod Batches
 pub mod Courses
 pub mod Along
 pub mod Seating

@@ -1,10 +1,9 @@
 -- The items of a batch, carried out one after the other: what stays of the seats.
-use Rattle.std.proofs.Common.{◌≡◌, inr, ℕ, zero, suc, ◌≤◌, ◌<◌, ◌+◌, Bool, true, false, List, [], ◌∷◌, ◌++◌, length, take, drop, get_or, map, refl, sym, ap}
+use Rattle.std.proofs.Common.{◌≡◌, ℕ, zero, suc, ◌≤◌, ◌<◌, ◌+◌, Bool, true, false, List, [], ◌∷◌, ◌++◌, length, take, drop, get_or, map, refl, sym, ap}
 use Rattle.std.proofs.Common.{subst, ◌∙◌, append-nil, append_assoc, arith}
 use Rattle.std.specs.Prelude.{Option, ◌||◌}
-use Rattle.std.specs.List.{list_all, AllByRecursion}
-use Rattle.std.proofs.lemmas.List.{take-append-drop, map-append}
-use Rattle.std.proofs.lemmas.Bool.{and_parts}
+use Rattle.std.specs.List.{AllByRecursion}
+use Rattle.std.proofs.lemmas.List.{map-append}
 use Rattle.outside.specs.declared.disk.Disk.{Ghosts as DiskGhosts}
 use Rattle.cqe_base.specs.Schema.{Text, DatabaseSchema}
 use Rattle.cqe_base.specs.Facts.{FactSet}
@@ -12,38 +11,35 @@ use Rattle.cqe_base.specs.History.{profile_of}
 use Rattle.cqe_base.specs.Limits.{KeepsLimits}
 use Rattle.cqe_base.specs.Run.{Reply}
 use Rattle.desk_crew.proofs.Taken.{map_more}
+use Rattle.std.specs.Prelude.{Vec}
+use Rattle.std.specs.declared.alloc.Global.{Global}
+use Rattle.std.proofs.Math.Bool.{or-false}
+use Rattle.std.proofs.lemmas.List.{take_more}
+use Rattle.cqe_base.proofs.Lists.{or_assoc, all_at}
+use Rattle.std.proofs.Common.{All}
+use Rattle.std.proofs.lemmas.List.Elements.{recursion_from_All}
 use Rattle.batch_engine.specs.BatchLines.{BatchItem, asked, restarted}
-use Rattle.batch_engine.specs.Said.{is_short_item}
-use Rattle.batch_engine.specs.Batches.{item_in}
+use Rattle.batch_engine.specs.Batch.{IsStretch}
+use Rattle.batch_engine.specs.Batches.{ask_in, stretch_in, stretches_in, items_in}
+use Rattle.batch_engine.specs.Outputs.{output_bytes}
+use Rattle.batch_engine.specs.declared.batch.BatchAsk.{BatchAsk}
+use Rattle.batch_engine.specs.declared.output.OutputLine.{OutputLine}
+use Rattle.batch_engine.proofs.Batches.{stretches-append}
+use Rattle.batch_engine.proofs.Seating.{flat_map-append}
 use Rattle.desk_counter.specs.declared.item.Fixed.{Fixed}
-use Rattle.desk_crew.specs.Crew.{seat_user, seat_journal, seat_disk, IsSeatServed, AreReopened, Tells, nobody, here, further}
+use Rattle.desk_crew.specs.Crew.{seat_user, seat_journal, seat_disk, IsSeatAsOpened, IsSeatServed, AreReopened, Tells, nobody, here, further}
 use Rattle.desk_crew.specs.Shelved.{journals, AreLater}
-use Rattle.outside.specs.Streams.{AppendsPart}
-use Rattle.batch_engine.specs.Steps.{Carries, Runs, nothing, more, RunsAll, RunsSome, RunsTo}
+use Rattle.batch_engine.specs.Steps.{restart_bytes, MaybeReopened, Carries, Runs, nothing, more, RunsAll, RunsSome, RunsTo}
 use Rattle.desk_crew.proofs.Asking.{still_served}
 use Rattle.desk_crew.specs.Seats.{DeskSeat}
-use Rattle.batch_engine.specs.declared.batch.BatchItem as memory
 
--- ---- items
+-- items up to a restart
+pub before_restart : (items done asks others : List BatchItem) → items ≡ (done ++ (asks ++ restarted ∷ [])) ++ others
+    → items ≡ (done ++ asks) ++ restarted ∷ others
+before_restart items done asks others split =
+    split ∙ ap (λ l. l ++ others) (sym (append_assoc done asks (restarted ∷ []))) ∙ append_assoc (done ++ asks) (restarted ∷ []) others
 
-pub item_short : (items : List memory.BatchItem) (i : ℕ) (item : memory.BatchItem) → i < length items → item ≡ get_or items i item
-    → list_all is_short_item (map item_in items) ≡ true → is_short_item (item_in item) ≡ true
-item_short items i item low is short = ap (λ a. is_short_item (item_in a)) is ∙ short_at items i item low short
-  where
-    short_at : (all : List memory.BatchItem) (n : ℕ) (d : memory.BatchItem) → n < length all → list_all is_short_item (map item_in all) ≡ true
-        → is_short_item (item_in (get_or all n d)) ≡ true
-    short_at [] n d small all_short = absurd (omega (arith, small))
-    short_at (x ∷ all) zero d small all_short = (and_parts _ _ all_short).0
-    short_at (x ∷ all) (suc n) d small all_short = short_at all n d (omega (arith, small)) (and_parts _ _ all_short).1
-
-pub items_more : (items : List memory.BatchItem) (i : ℕ) (item : memory.BatchItem) → i < length items → item ≡ get_or items i item
-    → map item_in (take (i + 1) items) ≡ map item_in (take i items) ++ item_in item ∷ []
-items_more items i item low is = map_more item_in items i item low is
-
-pub items_split : (items : List memory.BatchItem) (n : ℕ) → map item_in items ≡ map item_in (take n items) ++ map item_in (drop n items)
-items_split items n = ap (map item_in) (sym (take-append-drop n items)) ∙ map-append item_in (take n items) (drop n items)
-
-module _ (schema : DatabaseSchema) (world : FactSet) (header : List ℕ) {D : Type 0} {g h : _} (told : Type 0) (Disk : DiskGhosts D) where
+module _ (schema : DatabaseSchema) (world : FactSet) (header : List ℕ) {D : Type 0} {g h : _} (Disk : DiskGhosts D) where
   abbrev pub Limits : List (DeskSeat D g h) → Type 0
   Limits seats = AllByRecursion (λ (s : DeskSeat D g h). KeepsLimits schema (profile_of (seat_user s))) seats
 
@@ -96,7 +92,7 @@ module _ (schema : DatabaseSchema) (world : FactSet) (header : List ℕ) {D : Ty
         later = λ count l. (l.0, tail.later count l.1);
       }
 
-  stay_reopened : (old new : List (DeskSeat D g h)) → AreReopened schema world header told Disk old new → Stay old new
+  stay_reopened : (old new : List (DeskSeat D g h)) → AreReopened schema world header Disk old new → Stay old new
   stay_reopened [] [] are = stay []
   stay_reopened [] (n ∷ new) are = absurd are
   stay_reopened (o ∷ old) [] are = absurd are
@@ -113,62 +109,163 @@ module _ (schema : DatabaseSchema) (world : FactSet) (header : List ℕ) {D : Ty
       }
 
   stay_carried : (item : BatchItem) (old new : List (DeskSeat D g h)) (line : List ℕ) (is_broken : Bool)
-      → Carries schema world header told Disk item old new line is_broken → Stay old new
+      → Carries schema world header Disk item old new line is_broken → Stay old new
   stay_carried (asked ask) old new line is_broken carried = stay_told ask.name ask.text old new carried.0 carried.1
   stay_carried restarted old new line is_broken carried = stay_reopened old new carried.0
 
   pub stay_run : (items : List BatchItem) (old new : List (DeskSeat D g h)) (output : List ℕ) (is_broken : Bool)
-      → Runs schema world header told Disk items old output new is_broken → Stay old new
+      → Runs schema world header Disk items old output new is_broken → Stay old new
   stay_run items old new output is_broken (nothing seats) = stay seats
   stay_run items old new output is_broken (more first old' mid new' before line was says item runs carried) =
       stay_on old' mid new' (stay_run first old' mid before was runs) (stay_carried item mid new' line says carried)
 
-  -- ---- one more item
+  -- ---- items behind others
 
-  pub runs_first : (wrote : Type 0) (seats : List (DeskSeat D g h)) (before : List ℕ)
-      → RunsAll schema world header told Disk wrote [] seats seats false before before
-  runs_first wrote seats before = record { output = []; appended = λ w. sym (append-nil before); runs = nothing seats }
+  pub runs_then : (first second : List BatchItem) (old mid new : List (DeskSeat D g h)) (output lines : List ℕ) (was says : Bool)
+      → Runs schema world header Disk first old output mid was → Runs schema world header Disk second mid lines new says
+      → Runs schema world header Disk (first ++ second) old (output ++ lines) new (was || says)
+  runs_then first second old mid new output lines was says runs (nothing seats) =
+      subst (λ l. Runs schema world header Disk l old (output ++ []) mid (was || false)) (sym (append-nil first))
+      (subst (λ o. Runs schema world header Disk first old o mid (was || false)) (sym (append-nil output))
+      (subst (λ b. Runs schema world header Disk first old output mid b) (sym (or-false was)) runs))
+  runs_then first second old mid new output lines was says runs (more items old' middle new' before line broke says_broken item earlier carried) =
+      let step : Runs schema world header Disk ((first ++ items) ++ item ∷ []) old ((output ++ before) ++ line) new
+      ((was || broke) || says_broken) =
+      more (first ++ items) old middle new' (output ++ before) line (was || broke) says_broken item
+      (runs_then first items old mid middle output before was broke runs earlier) carried in
+      subst (λ l. Runs schema world header Disk l old (output ++ (before ++ line)) new (was || (broke || says_broken)))
+      (append_assoc first items (item ∷ []))
+      (subst (λ o. Runs schema world header Disk ((first ++ items) ++ item ∷ []) old o new (was || (broke || says_broken)))
+      (append_assoc output before line)
+      (subst (λ b. Runs schema world header Disk ((first ++ items) ++ item ∷ []) old ((output ++ before) ++ line) new b)
+      (or_assoc was broke says_broken) step))
 
-  pub runs_more : (wrote : Type 0) (items : List BatchItem) (item : BatchItem) (old mid new : List (DeskSeat D g h)) (is_broken says now : Bool)
-      (before after last line : List ℕ) → now ≡ (is_broken || says)
-      → RunsAll schema world header told Disk wrote items old mid is_broken before after
-      → Carries schema world header told Disk item mid new line says → (wrote → last ≡ after ++ line)
-      → RunsAll schema world header told Disk wrote (items ++ item ∷ []) old new now before last
-  runs_more wrote items item old mid new is_broken says now before after last line joined so_far carried appended = record {
-    output = so_far.output ++ line;
-    appended = λ w. appended w ∙ ap (λ l. l ++ line) (so_far.appended w) ∙ append_assoc before so_far.output line;
-    runs = subst (λ b. Runs schema world header told Disk (items ++ item ∷ []) old (so_far.output ++ line) new b) (sym joined)
-        (more items old mid new so_far.output line is_broken says item so_far.runs carried);
+  -- nothing was carried out, and nothing appended
+  pub all_first : (wrote : Type 0) (seats : List (DeskSeat D g h)) (before : List ℕ)
+      → RunsAll schema world header Disk wrote [] seats seats false before before
+  all_first wrote seats before = record { output = []; appended = λ w. sym (append-nil before); runs = nothing seats }
+
+  -- a stretch more, with its restart
+  pub restarted_more : (asks : List BatchItem) (old mid new : List (DeskSeat D g h)) (lines : List ℕ) (says : Bool)
+      → Runs schema world header Disk asks old lines mid says → AreReopened schema world header Disk mid new
+      → Runs schema world header Disk (asks ++ restarted ∷ []) old (lines ++ restart_bytes true) new (says || false)
+  restarted_more asks old mid new lines says runs again =
+      more asks old mid new lines (restart_bytes true) says false restarted runs (again, refl, refl)
+
+  pub all_more : (wrote : Type 0) (items next : List BatchItem) (old mid new : List (DeskSeat D g h)) (was says now : Bool) (before after last lines : List ℕ)
+      → now ≡ (was || says) → RunsAll schema world header Disk wrote items old mid was before after
+      → Runs schema world header Disk next mid lines new says → (wrote → last ≡ after ++ lines)
+      → RunsAll schema world header Disk wrote (items ++ next) old new now before last
+  all_more wrote items next old mid new was says now before after last lines joined so_far runs appended = record {
+    output = so_far.output ++ lines;
+    appended = λ w. appended w ∙ ap (λ l. l ++ lines) (so_far.appended w) ∙ append_assoc before so_far.output lines;
+    runs = subst (λ b. Runs schema world header Disk (items ++ next) old (so_far.output ++ lines) new b) (sym joined)
+        (runs_then items next old mid new so_far.output lines was says so_far.runs runs);
   }
 
-  -- memory was wanting at the next item, a restart
-  pub runs_stopped : (wrote : Type 0) (items front rest : List BatchItem) (item : BatchItem) (old new : List (DeskSeat D g h)) (is_broken : Bool)
-      (before after : List ℕ) → items ≡ (front ++ item ∷ []) ++ rest → item ≡ restarted
-      → RunsAll schema world header told Disk wrote front old new is_broken before after
-      → RunsTo schema world header told Disk wrote items old new before after
-  runs_stopped wrote items front rest item old new is_broken before after split is so_far = record {
-    front = front;
-    rest = rest;
-    split = split ∙ append_assoc front (item ∷ []) rest ∙ ap (λ i. front ++ i ∷ rest) is;
-    is_broken = is_broken;
-    all = so_far;
-  }
-
-  -- of the line of the next item a part was written
-  pub runs_cut : (wrote : Type 0) (items front back : List BatchItem) (item : BatchItem) (old mid new : List (DeskSeat D g h)) (is_broken says : Bool)
-      (before after last line : List ℕ) → items ≡ (front ++ item ∷ []) ++ back
-      → RunsAll schema world header told Disk wrote front old mid is_broken before after
-      → Carries schema world header told Disk item mid new line says → (wrote → AppendsPart after last line)
-      → RunsSome schema world header told Disk wrote items old new before last
-  runs_cut wrote items front back item old mid new is_broken says before after last line split so_far carried part = record {
-    front = front ++ item ∷ [];
+  -- of the lines of a stretch a part was written
+  pub some_cut : (wrote : Type 0) (items earlier stretch back : List BatchItem) (old mid new : List (DeskSeat D g h)) (was says : Bool)
+      (before after last lines : List ℕ) → items ≡ (earlier ++ stretch) ++ back → IsStretch stretch
+      → RunsAll schema world header Disk wrote earlier old mid was before after
+      → Runs schema world header Disk stretch mid lines new says → (wrote → (n : ℕ) × (last ≡ after ++ take n lines))
+      → RunsSome schema world header Disk wrote items old new before last
+  some_cut wrote items earlier stretch back old mid new was says before after last lines split one so_far runs part = record {
+    earlier = earlier;
+    stretch = stretch;
     back = back;
     split = split;
+    one = one;
+    mid = mid;
     output = so_far.output;
-    line = line;
-    is_broken = is_broken || says;
-    runs = more front old mid new so_far.output line is_broken says item so_far.runs carried;
-    last =
-        inr (record { first = front; item = item; split = refl; mid = mid; was_broken = is_broken; says_broken = says; runs = so_far.runs; carried = carried });
-    appended = λ w. ((part w).0, (part w).2 ∙ ap (λ l. l ++ take (part w).0 line) (so_far.appended w));
+    lines = lines;
+    was_broken = was;
+    says_broken = says;
+    first = so_far.runs;
+    last = runs;
+    appended = λ w. ((part w).0, (part w).1 ∙ ap (λ l. l ++ take (part w).0 lines) (so_far.appended w));
   }
+
+  -- a write failed as a stretch ended, behind its restart or without it
+  pub cut_off : (wrote : Type 0) (items done asks others : List BatchItem) (old mid last : List (DeskSeat D g h)) (was says : Bool)
+      (before after final lines : List ℕ) → items ≡ (done ++ (asks ++ restarted ∷ [])) ++ others → IsStretch asks → IsStretch (asks ++ restarted ∷ [])
+      → RunsAll schema world header Disk wrote done old mid was before after → Runs schema world header Disk asks mid lines last says
+      → (is_again : Bool) (new : List (DeskSeat D g h)) → MaybeReopened schema world header Disk is_again last new
+      → (wrote → (n : ℕ) × (final ≡ after ++ take n (lines ++ restart_bytes is_again)))
+      → RunsSome schema world header Disk wrote items old new before final
+  cut_off wrote items done asks others old mid last was says before after final lines split one whole so_far runs true new again part =
+      some_cut wrote items done (asks ++ restarted ∷ []) others old mid new was (says || false) before after final (lines ++ restart_bytes true) split whole
+      so_far (restarted_more asks mid last new lines says runs again) part
+  cut_off wrote items done asks others old mid last was says before after final lines split one whole so_far runs false new same part =
+      some_cut wrote items done asks (restarted ∷ others) old mid new was says before after final (lines ++ restart_bytes false)
+      (before_restart items done asks others split) one so_far
+      (subst (λ n. Runs schema world header Disk asks mid (lines ++ []) n says) (sym same)
+      (subst (λ o. Runs schema world header Disk asks mid o last says) (sym (append-nil lines)) runs)) part
+
+  -- memory was wanting at a restart
+  pub to_restart : (wrote : Type 0) (items front rest : List BatchItem) (old new : List (DeskSeat D g h)) (is_broken : Bool) (before after : List ℕ)
+      → items ≡ front ++ restarted ∷ rest → RunsAll schema world header Disk wrote front old new is_broken before after
+      → RunsTo schema world header Disk wrote items old new before after
+  to_restart wrote items front rest old new is_broken before after split so_far =
+      record { front = front; rest = rest; split = split; is_broken = is_broken; all = so_far }
+
+-- ---- the asks of a stretch
+
+-- asks alone are of one stretch, and so they are with the restart that ends them
+pub asks_one : (asks : List BatchAsk) → IsStretch (stretch_in asks)
+asks_one [] = tt
+asks_one (ask ∷ asks) = asks_one asks
+
+pub ended_one : (asks : List BatchAsk) → IsStretch (stretch_in asks ++ restarted ∷ [])
+ended_one [] = refl
+ended_one (ask ∷ asks) = ended_one asks
+
+-- the first of some asks, with one more
+pub stretch_more : (asks : List BatchAsk) (i : ℕ) (ask : BatchAsk) → i < length asks → ask ≡ get_or asks i ask
+    → stretch_in (take (i + 1) asks) ≡ stretch_in (take i asks) ++ asked (ask_in ask) ∷ []
+stretch_more asks i ask low is =
+    ap (map asked) (map_more ask_in asks i ask low is) ∙ map-append asked (map ask_in (take i asks)) (ask_in ask ∷ [])
+
+-- what holds of each stretch holds of the next
+pub asks_at : (P : List BatchAsk → Type 0) (ended : List (Vec BatchAsk Global)) (i : ℕ) (asks : Vec BatchAsk Global) → i < length ended
+    → asks ≡ get_or ended i asks → All (λ (a : Vec BatchAsk Global). P a.items) ended → P asks.items
+asks_at P ended i asks low is all =
+    subst (λ (a : Vec BatchAsk Global). P a.items) (sym is)
+    (all_at (λ (a : Vec BatchAsk Global). P a.items) ended i asks low (recursion_from_All (λ (a : Vec BatchAsk Global). P a.items) ended all))
+
+-- nothing was appended at the seats since they were opened again
+pub all_as_opened : (schema : DatabaseSchema) (world : FactSet) (header : List ℕ) {D : Type 0} {g h : _} (Disk : DiskGhosts D)
+    (olds news : List (DeskSeat D g h)) → AreReopened schema world header Disk olds news → AllByRecursion IsSeatAsOpened news
+all_as_opened schema world header Disk [] [] are = tt
+all_as_opened schema world header Disk [] (n ∷ news) are = absurd are
+all_as_opened schema world header Disk (o ∷ olds) [] are = absurd are
+all_as_opened schema world header Disk (o ∷ olds) (n ∷ news) are = (are.0.opened.fresh, all_as_opened schema world header Disk olds news are.1)
+
+-- one more line of the output
+pub output_more : (lines new : List OutputLine) (line : OutputLine) → new ≡ lines ++ line ∷ [] → output_bytes new ≡ output_bytes lines ++ line.text
+output_more lines new line is =
+    ap output_bytes is ∙ flat_map-append (λ (l : OutputLine). l.text) lines (line ∷ []) ∙ ap (λ l. output_bytes lines ++ l) (append-nil line.text)
+
+-- the asks of a stretch in front of others, as items of the batch
+pub stretch_split : (ended : List (Vec BatchAsk Global)) (last : List BatchAsk) (i : ℕ) (asks : Vec BatchAsk Global) → i < length ended
+    → asks ≡ get_or ended i asks
+    → items_in ended last
+    ≡ (stretches_in (take i ended) ++ (stretch_in asks.items ++ restarted ∷ [])) ++ items_in (drop (suc i) ended) last
+stretch_split [] last i asks low is = absurd (omega (arith, low))
+stretch_split (first ∷ ended) last zero asks low is =
+    ap (λ (v : Vec BatchAsk Global). (stretch_in v.items ++ restarted ∷ stretches_in ended) ++ stretch_in last) (sym is)
+    ∙ append_assoc (stretch_in asks.items) (restarted ∷ stretches_in ended) (stretch_in last)
+    ∙ sym (append_assoc (stretch_in asks.items) (restarted ∷ []) (items_in ended last))
+stretch_split (first ∷ ended) last (suc i) asks low is =
+    let rest = stretch_split ended last i asks (omega (arith, low)) is in
+    append_assoc (stretch_in first.items) (restarted ∷ stretches_in ended) (stretch_in last)
+    ∙ ap (λ l. stretch_in first.items ++ restarted ∷ l) rest
+    ∙ sym (append_assoc (stretch_in first.items)
+    (restarted ∷ (stretches_in (take i ended) ++ (stretch_in asks.items ++ restarted ∷ []))) (items_in (drop (suc i) ended) last))
+    ∙ ap (λ l. l ++ items_in (drop (suc i) ended) last)
+    (sym (append_assoc (stretch_in first.items) (restarted ∷ stretches_in (take i ended)) (stretch_in asks.items ++ restarted ∷ [])))
+
+-- one more stretch that ended
+pub stretches_more : (ended : List (Vec BatchAsk Global)) (i : ℕ) (asks : Vec BatchAsk Global) → i < length ended → asks ≡ get_or ended i asks
+    → stretches_in (take (i + 1) ended) ≡ stretches_in (take i ended) ++ (stretch_in asks.items ++ restarted ∷ [])
+stretches_more ended i asks low is =
+    ap stretches_in (take_more ended i asks low ∙ ap (λ a. take i ended ++ a ∷ []) (sym is)) ∙ stretches-append (take i ended) (asks ∷ [])

@@ -19,7 +19,7 @@ use Rattle.cqe_base.specs.Transcript.{NamedUser, ScriptEvent, script_ask, own_ev
 use Rattle.cqe_base.proofs.Lists.{other_text, text_is}
 use Rattle.cqe_base.proofs.Truths.{or_first, or_second}
 use Rattle.user_desk.specs.Causes.{Opens, OpensWithin, IsStanding}
-use Rattle.user_desk.specs.Lives.{Holds, HoldsAmid, Restarts, IsState}
+use Rattle.user_desk.specs.Lives.{Holds, HoldsFrom, HoldsAmid, Restarts, IsState}
 use Rattle.user_desk.specs.Standings.{is_sealed}
 use Rattle.desk_counter.specs.declared.item.Fixed.{Fixed}
 use Rattle.desk_counter.specs.Items.{flying}
@@ -28,7 +28,7 @@ use Rattle.desk_counter.specs.Sole.{pairs_of_sole}
 use Rattle.log_journal.specs.Names.{journal_name}
 use Rattle.desk_crew.specs.Openings.{OpensNone, OpensWith}
 use Rattle.batch_engine.specs.Batch.{unopened}
-use Rattle.batch_engine.specs.Lives.{is_ask, is_opened}
+use Rattle.batch_engine.specs.Lives.{is_ask, is_opened, is_opening}
 use Rattle.desk_crew.specs.Shelved.{IsSeatOf, AreSeatsOf}
 use Rattle.desk_crew.specs.Crew.{named_user, first_refusal, seat_user, seat_name, seat_journal, seat_kept, seat_standing, seat_history, seat_state, seat_disk}
 use Rattle.desk_crew.specs.Crew.{IsSeatIn, IsSeatAsOpened, is_named, IsClosed, IsSeatServed, IsToldAt, IsReopened, AreReopened, Tells, nobody, here, further}
@@ -36,7 +36,8 @@ use Rattle.desk_crew.proofs.Asking.{still_served}
 use Rattle.desk_crew.specs.Seats.{DeskSeat}
 use Rattle.batch_engine.proofs.Courses.{any-push, Course, course_on, stays_on, IsRunning, IsLiving, live, closing, Asked, ask_step, Restarted, IsExclusive}
 use Rattle.batch_engine.proofs.Courses.{open_step}
-use Rattle.batch_engine.proofs.Along.{Clock, IsAlong, along_first, along_event, along_on, along_open, amid_all, amid_within, no_fewer, shown_at}
+use Rattle.batch_engine.proofs.Along.{Clock, IsAlong, IsAlongClosed, along_first, along_event, along_on, along_open, along_closed, amid_all, amid_within}
+use Rattle.batch_engine.proofs.Along.{behind_front, run_on, no_fewer, shown_at, BeginsLife, CutBefore, cut_push}
 use Rattle.desk_crew.proofs.Lasting.{taken_moment}
 
 -- ---- lists and texts
@@ -87,8 +88,30 @@ module _ (schema : DatabaseSchema) (world : FactSet) (header : List ℕ) (bytes 
   first_course user name opened now c counted same (inr (none, empty)) =
       record { later = omega (arith, counted); caused = tt; fits = inr (none, empty, same, refl); refused = refl }
 
-module _ (schema : DatabaseSchema) (world : FactSet) (header directory : List ℕ) {D : Type 0} {g h : _} (T : Type 0) (Disk : DiskGhosts D) (t : T)
-    (read_is_image : (d : D) → T → Disk.image d (Disk.reads d)) (clock : Clock Disk)
+module _ (schema : DatabaseSchema) (world : FactSet) where
+  -- at the end of each stretch before the last opening there were at most so many entries
+  abbrev pub HasFewer : NamedUser → List Event → ℕ → Type 0
+  HasFewer user events count =
+      (front rest : List Event) → events ≡ front ++ rest → BeginsLife rest
+      → length (after_events schema world user.profile (opening schema world user.profile user.opened) front).entries ≤ count
+
+  -- an event that isn't an opening ends no stretch
+  fewer_asked : (user : NamedUser) (events : List Event) (event : Event) (count : ℕ) → is_opening event ≡ false → HasFewer user events count
+      → HasFewer user (events ++ event ∷ []) count
+  fewer_asked user events event count isnt fewer front rest split begins = by (cut_push events event front rest split)
+    where
+      of_less : (less : List Event) → rest ≡ less ++ event ∷ [] → events ≡ front ++ less
+          → length (after_events schema world user.profile (opening schema world user.profile user.opened) front).entries ≤ count
+      of_less [] is whole = let e : true ≡ false = sym (subst BeginsLife is begins) ∙ isnt in absurd cc
+      of_less (next ∷ less) is whole = fewer front (next ∷ less) whole (subst BeginsLife is begins)
+
+      by : ((front ≡ events ++ event ∷ []) × (rest ≡ [])) ⊎ CutBefore events event front rest
+          → length (after_events schema world user.profile (opening schema world user.profile user.opened) front).entries ≤ count
+      by (inl whole) = absurd (subst BeginsLife whole.1 begins)
+      by (inr part) = of_less part.less part.rest_is part.split
+
+module _ (schema : DatabaseSchema) (world : FactSet) (header directory : List ℕ) {D : Type 0} {g h : _} (Disk : DiskGhosts D) (t : Disk.tells)
+    (read_is_image : (d : D) → Disk.tells → Disk.image d (Disk.reads d)) (clock : Clock Disk)
     (bytes : Text → List ℕ) (before : Text → ℕ) (images : Text → List ℕ → Type 0) where
   -- a user sits at his desk behind these events of his
   pub record IsSeated (user : NamedUser) (events : List Event) (seat : DeskSeat D g h) : Type 0 where
@@ -99,12 +122,15 @@ module _ (schema : DatabaseSchema) (world : FactSet) (header directory : List �
     pub living : IsLiving schema world user.profile header (bytes user.name) (before user.name) (images user.name) user.opened events (seat_standing seat)
         (seat_state seat) (Disk.image (seat_disk seat)) (Disk.reads (seat_disk seat)) (Disk.faults (seat_disk seat)) seat.refusal
     pub fresh : list_any is_ask events ≡ false → IsSeatAsOpened seat
-    -- the moment at which the call began, and what each crash could leave since; at his desk's opening there were as many entries as at first
+    -- the moments at which the call began and his journal was first opened, and what each crash could leave since; at his desk's opening there were as many
+    -- entries as at first, and as at the end of each stretch before
     pub began : ℕ
     pub began_is : IfSome (clock.begins user.name) (λ begun. begun ≡ began)
-    pub along : IsAlong schema world user.profile header (images user.name) user.opened began events (Disk.moment (seat_disk seat))
+    pub opens_at : ℕ
+    pub along : IsAlong schema world user.profile header (images user.name) user.opened began opens_at events (Disk.moment (seat_disk seat))
         (Disk.image_since (seat_disk seat))
     pub least : is_sealed (seat_standing seat) ≡ false → length user.opened ≤ length (seat_kept seat).opening
+    pub fewer : is_sealed (seat_standing seat) ≡ false → HasFewer schema world user events (length (seat_kept seat).opening)
 
   -- all do, behind the events of a script
   abbrev pub AreSeated : List ScriptEvent → List NamedUser → List (DeskSeat D g h) → Type 0
@@ -150,13 +176,17 @@ module _ (schema : DatabaseSchema) (world : FactSet) (header directory : List �
           fresh = λ none. let e : true ≡ false = sym (any-push is_ask events (ask text asked.ending) ∙ or-true (list_any is_ask events)) ∙ none in absurd cc;
           began = seated.began;
           began_is = seated.began_is;
+          opens_at = seated.opens_at;
           along = subst (λ (f : Fixed D).
-              IsAlong schema world user.profile header (images user.name) user.opened seated.began (events ++ ask text asked.ending ∷ []) (Disk.moment f.disk)
-              (Disk.image_since f.disk)) (sym kept)
-              (along_event schema world user.profile header (images user.name) user.opened seated.began events (ask text asked.ending)
-              (Disk.moment (seat_disk old)) (Disk.image_since (seat_disk old)) refl seated.along);
+              IsAlong schema world user.profile header (images user.name) user.opened seated.began seated.opens_at (events ++ ask text asked.ending ∷ [])
+              (Disk.moment f.disk) (Disk.image_since f.disk)) (sym kept)
+              (along_event schema world user.profile header (images user.name) user.opened seated.began seated.opens_at events (ask text asked.ending)
+              (Disk.moment (seat_disk old)) (Disk.image_since (seat_disk old)) refl (λ opens. absurd cc) seated.along);
           least = λ served. subst (λ (f : Fixed D). length user.opened ≤ length f.opening) (sym kept)
               (seated.least (ap (λ (f : Fixed D). is_sealed f.standing) (sym kept) ∙ served));
+          fewer = λ served. subst (λ (f : Fixed D). HasFewer schema world user (events ++ ask text asked.ending ∷ []) (length f.opening)) (sym kept)
+              (fewer_asked schema world user events (ask text asked.ending) (length (seat_kept old).opening) refl
+              (seated.fewer (ap (λ (f : Fixed D). is_sealed f.standing) (sym kept) ∙ served)));
         };
       }
 
@@ -234,7 +264,7 @@ module _ (schema : DatabaseSchema) (world : FactSet) (header directory : List �
 
   -- a desk was closed, and left this disk
   pub close_at : (user : NamedUser) (events : List Event) (seat : DeskSeat D g h) (disk : D) → IsSeated user events seat
-      → IsClosed T Disk seat.desk disk
+      → IsClosed Disk seat.desk disk
       → IsRunning schema world user.profile header (bytes user.name) (before user.name) (images user.name) user.opened events (seat_standing seat)
       (seat_state seat) (Disk.image disk) (Disk.reads disk) (Disk.faults disk) seat.refusal
   close_at user events seat disk seated closed =
@@ -260,19 +290,26 @@ module _ (schema : DatabaseSchema) (world : FactSet) (header directory : List �
 
   -- what each crash could leave up to a close
   pub along_at : (user : NamedUser) (events : List Event) (seat : DeskSeat D g h) (disk : D) (seated : IsSeated user events seat)
-      → IsClosed T Disk seat.desk disk
-      → IsAlong schema world user.profile header (images user.name) user.opened seated.began events (Disk.moment disk) (Disk.image_since disk)
-  along_at user events seat disk seated closed = by (is_sealed (seat_standing seat)) refl
+      → IsClosed Disk seat.desk disk
+      → IsAlongClosed schema world user.profile header (images user.name) user.opened seated.began seated.opens_at events (Disk.moment disk)
+      (Disk.image_since disk)
+  along_at user events seat disk seated closed =
+      along_closed schema world user.profile header (images user.name) user.opened seated.began seated.opens_at events (Disk.moment disk)
+      (Disk.image_since disk) (by (is_sealed (seat_standing seat)) refl)
+      (λ some c at. (close_at user events seat disk seated closed).stays.stands some c (clock.only_now disk c at))
     where
-      state : UserState
-      state = after_events schema world user.profile (opening schema world user.profile user.opened) events
+      first : UserState
+      first = opening schema world user.profile user.opened
 
-      amid : is_sealed (seat_standing seat) ≡ false → (c : List ℕ) → Disk.image_since disk (Disk.moment (seat_disk seat)) c
-          → HoldsAmid schema world user.profile header (opening schema world user.profile user.opened) events c
-      amid served c at =
+      state : UserState
+      state = after_events schema world user.profile first events
+
+      -- what a crash leaves amid the asks opens a desk with at least the entries at the opening
+      within : is_sealed (seat_standing seat) ≡ false → (c : List ℕ) → Disk.image_since disk (Disk.moment (seat_disk seat)) c
+          → OpensWithin schema world user.profile header (length (seat_kept seat).opening) (state.entries ++ option_to_list state.pending) c
+      within served c at =
           let least = length (seat_kept seat).opening in
           let all = seat_history seat ++ option_to_list (flying (pairs_of_sole seat.desk)) in
-          amid_within schema world user.profile header (opening schema world user.profile user.opened) events least c (seated.least served)
           (subst (λ (s : UserState). OpensWithin schema world user.profile header least (s.entries ++ option_to_list s.pending) c)
           (sym (shown_at (seat_standing seat) (seat_state seat) state served seated.living.is_in))
           (subst (λ s. OpensWithin s world user.profile header least all c) seated.served.schema_is
@@ -281,14 +318,34 @@ module _ (schema : DatabaseSchema) (world : FactSet) (header directory : List �
           (subst (λ k. OpensWithin (seat_kept seat).schema (seat_kept seat).world (seat_kept seat).user k least all c) seated.served.header_is
           (closed.since t served c at))))))
 
+      -- so it is amid his events, and behind each stretch that ended before the opening
+      amid : is_sealed (seat_standing seat) ≡ false → (c : List ℕ) → Disk.image_since disk (Disk.moment (seat_disk seat)) c
+          → HoldsAmid schema world user.profile header first events c
+      amid served c at =
+          amid_within schema world user.profile header first events (length (seat_kept seat).opening) c (seated.least served) (within served c at)
+
+      behind : is_sealed (seat_standing seat) ≡ false → (front rest : List Event) → events ≡ front ++ rest → BeginsLife rest → (c : List ℕ)
+          → Disk.image_since disk (Disk.moment (seat_disk seat)) c → HoldsFrom schema world user.profile header first front rest c
+      behind served front rest split begins c at =
+          let middle : UserState = after_events schema world user.profile first front in
+          let same : after_events schema world user.profile middle rest ≡ state =
+          sym (run_on schema world user.profile first front rest) ∙ ap (after_events schema world user.profile first) (sym split) in
+          behind_front schema world user.profile header first front rest c
+          (amid_within schema world user.profile header middle rest (length (seat_kept seat).opening) c (seated.fewer served front rest split begins)
+          (subst (λ (s : UserState). OpensWithin schema world user.profile header (length (seat_kept seat).opening) (s.entries ++ option_to_list s.pending) c)
+          (sym same) (within served c at)))
+
       by : (b : Bool) → is_sealed (seat_standing seat) ≡ b
-          → IsAlong schema world user.profile header (images user.name) user.opened seated.began events (Disk.moment disk) (Disk.image_since disk)
+          → IsAlong schema world user.profile header (images user.name) user.opened seated.began seated.opens_at events (Disk.moment disk)
+          (Disk.image_since disk)
       by true sealed =
-          subst (λ d. IsAlong schema world user.profile header (images user.name) user.opened seated.began events (Disk.moment d) (Disk.image_since d))
-          (sym (closed.shut sealed)) seated.along
+          subst (λ d. IsAlong schema world user.profile header (images user.name) user.opened seated.began seated.opens_at events (Disk.moment d)
+          (Disk.image_since d)) (sym (closed.shut sealed)) seated.along
       by false served =
-          along_on schema world user.profile header (images user.name) user.opened seated.began events (Disk.moment (seat_disk seat)) (Disk.moment disk)
+          along_on schema world user.profile header (images user.name) user.opened seated.began seated.opens_at events (Disk.moment (seat_disk seat))
+          (Disk.moment disk)
           (Disk.image_since (seat_disk seat)) (Disk.image_since disk) closed.time (λ some. amid served)
+          (λ front rest split begins some. behind served front rest split begins)
           (λ none. let e : true ≡ false = sym (seated.living.held served) ∙ none in absurd cc) seated.along
 
   -- ---- openings
@@ -305,6 +362,24 @@ module _ (schema : DatabaseSchema) (world : FactSet) (header directory : List �
       (shown_at (seat_standing seat) (seat_state seat) end served is) in
       let count : length (seat_kept seat).opening ≡ length (seat_history seat) = ap length first in
       omega (arith, more, same, count)
+
+  -- and as at the end of each stretch before
+  fewer_at : (user : NamedUser) (events : List Event) (seat : DeskSeat D g h) → (seat_kept seat).opening ≡ seat_history seat
+      → is_sealed (seat_standing seat) ≡ false
+      → IsState (seat_standing seat) (seat_state seat) (after_events schema world user.profile (opening schema world user.profile user.opened) events)
+      → HasFewer schema world user events (length (seat_kept seat).opening)
+  fewer_at user events seat first served is front rest split begins =
+      let middle : UserState = after_events schema world user.profile (opening schema world user.profile user.opened) front in
+      let end : UserState = after_events schema world user.profile (opening schema world user.profile user.opened) events in
+      let more : length middle.entries ≤ length (after_events schema world user.profile middle rest).entries =
+      no_fewer schema world user.profile middle rest in
+      let whole : length (after_events schema world user.profile middle rest).entries ≡ length end.entries = ap (λ (s : UserState). length s.entries)
+      (sym (run_on schema world user.profile (opening schema world user.profile user.opened) front rest)
+      ∙ ap (after_events schema world user.profile (opening schema world user.profile user.opened)) (sym split)) in
+      let same : length end.entries ≡ length (seat_history seat) = ap (λ (s : UserState). length s.entries)
+      (shown_at (seat_standing seat) (seat_state seat) end served is) in
+      let count : length (seat_kept seat).opening ≡ length (seat_history seat) = ap length first in
+      omega (arith, more, whole, same, count)
 
   -- the choices of a user's opening
   abbrev pub Choice : NamedUser → List Event → DeskSeat D g h → Type 0
@@ -365,7 +440,7 @@ module _ (schema : DatabaseSchema) (world : FactSet) (header directory : List �
 
   module _ (exclusive : (user : UserProfile) → IsExclusive schema world user header) where
     restart_at : (user : NamedUser) (events : List Event) (old new : DeskSeat D g h) → IsSeated user events old
-        → IsReopened schema world header T Disk old new → Choice user events new
+        → IsReopened schema world header Disk old new → Choice user events new
     restart_at user events old new seated again =
         let profile : profile_of (seat_user new) ≡ user.profile = ap profile_of again.user_is ∙ seated.profile_is in
         let opened = again.opened in
@@ -374,8 +449,8 @@ module _ (schema : DatabaseSchema) (world : FactSet) (header directory : List �
         let step : Restarted schema world user.profile header (bytes user.name) (before user.name) (images user.name) user.opened events (seat_standing new)
         (seat_state new) (Disk.image (seat_disk new)) (Disk.reads (seat_disk new)) (Disk.faults (seat_disk new)) (first_refusal old.refusal
         (seat_standing new)) =
-        open_step schema world user.profile header (bytes user.name) (before user.name) (images user.name) (exclusive user.profile) T t user.opened events
-        (Disk.reads (seat_disk new)) (Disk.faults closed) (Disk.faults (seat_disk new)) old.refusal
+        open_step schema world user.profile header (bytes user.name) (before user.name) (images user.name) (exclusive user.profile) Disk.tells t user.opened
+        events (Disk.reads (seat_disk new)) (Disk.faults closed) (Disk.faults (seat_disk new)) old.refusal
         (seat_history new) (flying (pairs_of_sole new.desk)) (seat_standing new) (Disk.image (seat_disk new))
         (course_on schema world user.profile header (bytes user.name) (before user.name) (images user.name) user.opened events (Disk.reads closed)
         (Disk.reads (seat_disk new)) (Disk.faults closed) (Disk.faults closed) old.refusal again.left.reads_same (omega arith) running.course)
@@ -383,9 +458,10 @@ module _ (schema : DatabaseSchema) (world : FactSet) (header directory : List �
         (Disk.image (seat_disk new)) (Disk.reads closed) (Disk.reads (seat_disk new)) again.left.reads_same again.left.images running.stays)
         (record {
           standing_is = subst (λ r.
-              IsStanding schema world user.profile T header r (seat_history new) (Disk.faults closed) (Disk.faults (seat_disk new)) (seat_standing new))
+              IsStanding schema world user.profile Disk.tells header r (seat_history new) (Disk.faults closed) (Disk.faults (seat_disk new))
+              (seat_standing new))
               (sym again.left.reads_same)
-              (subst (λ p. IsStanding schema world p T header (Disk.reads closed) (seat_history new) (Disk.faults closed) (Disk.faults (seat_disk new))
+              (subst (λ p. IsStanding schema world p Disk.tells header (Disk.reads closed) (seat_history new) (Disk.faults closed) (Disk.faults (seat_disk new))
               (seat_standing new))
               profile opened.standing);
           restarted = λ state holds. subst (λ p. Restarts schema world p (IsSeatIn new) state (Disk.faults closed) (Disk.faults (seat_disk new))) profile
@@ -395,7 +471,15 @@ module _ (schema : DatabaseSchema) (world : FactSet) (header directory : List �
           on = again.left.later;
           holds = λ served c at. subst (λ p. Holds schema world p header (seat_state new) c) profile (opened.holds t served c at);
           here = read_is_image (seat_disk new) t;
-        }) in (
+        }) in
+        let along = along_open schema world user.profile header (images user.name) user.opened seated.began seated.opens_at events step.found step.opens
+        (Disk.moment closed) (Disk.moment (seat_disk new)) (Disk.image_since closed) (Disk.image_since (seat_disk new)) (Disk.image closed) again.left.time
+        again.left.rests running.stays.stands
+        (λ none c at. (running.stays.kept (ap (λ b. b && list_any is_ask events) none)).1 c at)
+        (λ held c at. amid_all schema world user.profile header (opening schema world user.profile user.opened)
+        (events ++ restart step.found step.opens ∷ []) c
+        (step.running.stays.stands (opened_behind events step.found step.opens held) c (clock.only_now (seat_disk new) c at)))
+        (along_at user events old closed seated again.is_closed) in (
           step.found,
           step.opens,
           record {
@@ -412,22 +496,16 @@ module _ (schema : DatabaseSchema) (world : FactSet) (header directory : List �
             fresh = λ none. opened.fresh;
             began = seated.began;
             began_is = seated.began_is;
-            along = along_open schema world user.profile header (images user.name) user.opened seated.began events step.found step.opens (Disk.moment closed)
-                (Disk.moment (seat_disk new)) (Disk.image_since closed) (Disk.image_since (seat_disk new)) (Disk.image closed) again.left.time again.left.rests
-                (λ some c at. amid_all schema world user.profile header (opening schema world user.profile user.opened) events c
-                (running.stays.stands some c at))
-                (λ none c at. (running.stays.kept (ap (λ b. b && list_any is_ask events) none)).1 c at)
-                (λ held c at. amid_all schema world user.profile header (opening schema world user.profile user.opened)
-                (events ++ restart step.found step.opens ∷ []) c
-                (step.running.stays.stands (opened_behind events step.found step.opens held) c (clock.only_now (seat_disk new) c at)))
-                (along_at user events old closed seated again.is_closed);
+            opens_at = along.0;
+            along = along.1;
             least = λ served. least_at user (events ++ restart step.found step.opens ∷ []) new opened.opening_is served step.running.is_in;
+            fewer = λ served. fewer_at user (events ++ restart step.found step.opens ∷ []) new opened.opening_is served step.running.is_in;
           },
         )
 
     -- every desk was closed and opened again
     pub restart_all : (script : List ScriptEvent) (users : List NamedUser) (olds news : List (DeskSeat D g h)) → AreSeated script users olds
-        → AreReopened schema world header T Disk olds news → Choices script users news
+        → AreReopened schema world header Disk olds news → Choices script users news
     restart_all script [] [] [] seated again = tt
     restart_all script [] [] (new ∷ news) seated again = absurd again
     restart_all script [] (old ∷ olds) news seated again = absurd seated
@@ -451,7 +529,7 @@ module _ (schema : DatabaseSchema) (world : FactSet) (header directory : List �
 
       begin_with : (user : User) (seat : DeskSeat D g h) (opened : History)
           → OpensWith schema world (profile_of user) header (bytes (string_bytes user.name)) opened
-          → IsSeatOf S Disk T schema world header directory disk count user seat → Begun user seat
+          → IsSeatOf S Disk schema world header directory disk count user seat → Begun user seat
       begin_with user seat opened opening is =
           let name = string_bytes user.name in
           let profile : profile_of (seat_user seat) ≡ profile_of user = ap profile_of is.user_is in
@@ -466,7 +544,7 @@ module _ (schema : DatabaseSchema) (world : FactSet) (header directory : List �
           (taken_images Disk.reads Disk.image (disk (seat_journal seat)) is.taken c (is.from s) at)) in
           let step : Restarted schema world (profile_of user) header (bytes name) (before name) (images name) opened [] (seat_standing seat) (seat_state seat)
           (Disk.image (seat_disk seat)) (Disk.reads (seat_disk seat)) (Disk.faults (seat_disk seat)) (first_refusal None (seat_standing seat)) =
-          open_step schema world (profile_of user) header (bytes name) (before name) (images name) (exclusive (profile_of user)) T t opened []
+          open_step schema world (profile_of user) header (bytes name) (before name) (images name) (exclusive (profile_of user)) Disk.tells t opened []
           (Disk.reads (seat_disk seat)) (Disk.faults is.taken) (Disk.faults (seat_disk seat)) None
           (seat_history seat) (flying (pairs_of_sole seat.desk)) (seat_standing seat) (Disk.image (seat_disk seat))
           (first_course schema world header bytes before images (profile_of user) name opened (Disk.faults is.taken) (Disk.reads
@@ -478,11 +556,11 @@ module _ (schema : DatabaseSchema) (world : FactSet) (header directory : List �
           })
           (record {
             standing_is = subst (λ r.
-                IsStanding schema world (profile_of user) T header r (seat_history seat) (Disk.faults is.taken) (Disk.faults (seat_disk seat))
+                IsStanding schema world (profile_of user) Disk.tells header r (seat_history seat) (Disk.faults is.taken) (Disk.faults (seat_disk seat))
                 (seat_standing seat))
                 (sym same)
-                (subst (λ p. IsStanding schema world p T header (Disk.reads is.taken) (seat_history seat) (Disk.faults is.taken) (Disk.faults (seat_disk seat))
-                (seat_standing seat)) profile from.standing);
+                (subst (λ p. IsStanding schema world p Disk.tells header (Disk.reads is.taken) (seat_history seat) (Disk.faults is.taken)
+                (Disk.faults (seat_disk seat)) (seat_standing seat)) profile from.standing);
             restarted = λ state holds. subst (λ p. Restarts schema world p (IsSeatIn seat) state (Disk.faults is.taken) (Disk.faults (seat_disk seat))) profile
                 (from.restarted t state
                 (subst (Holds schema world (profile_of (seat_user seat)) header state) same
@@ -491,6 +569,15 @@ module _ (schema : DatabaseSchema) (world : FactSet) (header directory : List �
             holds = λ served c at. subst (λ p. Holds schema world p header (seat_state seat) c) profile (from.holds t served c at);
             here = read_is_image (seat_disk seat) t;
           }) in
+          let along = along_open schema world (profile_of user) header (images name) opened (Disk.moment is.taken) (Disk.moment is.taken) [] step.found
+          step.opens (Disk.moment is.taken) (Disk.moment (seat_disk seat)) (Disk.image_since is.taken) (Disk.image_since (seat_disk seat))
+          (Disk.image is.taken) is.left.time is.left.rests
+          (λ some. absurd cc) (λ none c at. first c at)
+          (λ held c at. amid_all schema world (profile_of user) header (Run.opening schema world (profile_of user) opened)
+          ([] ++ restart step.found step.opens ∷ []) c
+          (step.running.stays.stands (opened_behind [] step.found step.opens held) c (clock.only_now (seat_disk seat) c at)))
+          (along_first schema world (profile_of user) header (images name) opened (Disk.moment is.taken) (Disk.image_since is.taken)
+          (λ c at. first c (clock.only_now is.taken c at))) in
           record {
             opened = opened;
             opening = opening;
@@ -514,16 +601,11 @@ module _ (schema : DatabaseSchema) (world : FactSet) (header directory : List �
                 began_is = subst (λ o. IfSome o (λ begun. begun ≡ Disk.moment is.taken)) (sym (begins_are name))
                     (subst (λ j. IfSome (option_map Disk.moment (disk j)) (λ begun. begun ≡ Disk.moment is.taken)) is.journal_is
                     (taken_moment Disk.reads Disk.image Disk.moment (disk (seat_journal seat)) is.taken (is.from s)));
-                along = along_open schema world (profile_of user) header (images name) opened (Disk.moment is.taken) [] step.found step.opens
-                    (Disk.moment is.taken) (Disk.moment (seat_disk seat)) (Disk.image_since is.taken) (Disk.image_since (seat_disk seat))
-                    (Disk.image is.taken) is.left.time is.left.rests
-                    (λ some. absurd cc) (λ none c at. first c at)
-                    (λ held c at. amid_all schema world (profile_of user) header (Run.opening schema world (profile_of user) opened)
-                    ([] ++ restart step.found step.opens ∷ []) c
-                    (step.running.stays.stands (opened_behind [] step.found step.opens held) c (clock.only_now (seat_disk seat) c at)))
-                    (along_first schema world (profile_of user) header (images name) opened (Disk.moment is.taken) (Disk.image_since is.taken)
-                    (λ c at. first c (clock.only_now is.taken c at)));
+                opens_at = along.0;
+                along = along.1;
                 least = λ served. least_at (record { name = name; profile = profile_of user; opened = opened })
+                    ([] ++ restart step.found step.opens ∷ []) seat from.opening_is served step.running.is_in;
+                fewer = λ served. fewer_at (record { name = name; profile = profile_of user; opened = opened })
                     ([] ++ restart step.found step.opens ∷ []) seat from.opening_is served step.running.is_in;
               },
             );
@@ -531,7 +613,7 @@ module _ (schema : DatabaseSchema) (world : FactSet) (header directory : List �
 
       module _ (decided : (user : UserProfile) (c : List ℕ) → ((entries : History) × Opens schema world user header entries c)
           ⊎ OpensNone schema world user header c) where
-        begin_at : (user : User) (seat : DeskSeat D g h) → IsSeatOf S Disk T schema world header directory disk count user seat → Begun user seat
+        begin_at : (user : User) (seat : DeskSeat D g h) → IsSeatOf S Disk schema world header directory disk count user seat → Begun user seat
         begin_at user seat is = by (decided (profile_of user) (bytes (string_bytes user.name)))
           where
             by : ((entries : History) × Opens schema world (profile_of user) header entries (bytes (string_bytes user.name)))
@@ -547,7 +629,7 @@ module _ (schema : DatabaseSchema) (world : FactSet) (header directory : List �
           pub choices : Choices [] begun seats
 
         pub begin_all : (users : List User) (seats : List (DeskSeat D g h))
-            → AreSeatsOf S Disk T schema world header directory disk count users seats → AreBegun users seats
+            → AreSeatsOf S Disk schema world header directory disk count users seats → AreBegun users seats
         begin_all [] [] are = record { begun = []; of_policy = refl; openings = tt; choices = tt }
         begin_all [] (seat ∷ seats) are = absurd are
         begin_all (user ∷ users) [] are = absurd are

@@ -1,5 +1,5 @@
 -- The items of a batch, one after the other: what was written, and where its users sit.
-use Rattle.std.proofs.Common.{◌≡◌, ◌≤◌, ℕ, Bool, false, List, [], ◌∷◌, ◌++◌, length, refl, sym, ap, ◌∙◌, append_assoc, append-nil, arith}
+use Rattle.std.proofs.Common.{◌≡◌, ℕ, ◌+◌, Bool, false, List, [], ◌∷◌, ◌++◌, length, refl, sym, ap, subst, ◌∙◌, append_assoc, append-nil, length-append}
 use Rattle.std.specs.Prelude.{Option, Some, None, ◌||◌}
 use Rattle.std.specs.List.{list_any}
 use Rattle.outside.specs.declared.disk.Disk.{Ghosts as DiskGhosts}
@@ -12,7 +12,9 @@ use Rattle.cqe_base.specs.Transcript.{NamedUser, ScriptEvent, script_ask, script
 use Rattle.cqe_base.specs.Transcript.{transcript, line_text}
 use Rattle.batch_engine.specs.BatchLines.{BatchItem, asked, restarted}
 use Rattle.batch_engine.specs.Batch.{IsEventOf, AreEventsOf, line_bytes, is_broken_line, with_opening}
-use Rattle.batch_engine.specs.Steps.{Carries, is_broken_reply}
+use Rattle.std.proofs.Math.Bool.{or-false}
+use Rattle.cqe_base.proofs.Lists.{or_assoc}
+use Rattle.batch_engine.specs.Steps.{Carries, is_broken_reply, Runs, nothing, more}
 use Rattle.desk_crew.specs.Seats.{DeskSeat}
 use Rattle.batch_engine.proofs.Courses.{IsExclusive, any-push}
 use Rattle.batch_engine.proofs.Along.{Clock}
@@ -74,54 +76,71 @@ module _ (schema : DatabaseSchema) (world : FactSet) (users : List NamedUser) wh
       ∙ ap (λ ls. list_any is_broken_line (transcript schema world users events ++ ls)) (sym one)
       ∙ ap (λ ls. list_any is_broken_line ls) (sym (transcript-push events event))
 
-  module _ (header directory : List ℕ) {D : Type 0} {g h : _} (T : Type 0) (Disk : DiskGhosts D) (t : T)
-      (read_is_image : (d : D) → T → Disk.image d (Disk.reads d)) (clock : Clock Disk)
+  module _ (header directory : List ℕ) {D : Type 0} {g h : _} (Disk : DiskGhosts D) (t : Disk.tells)
+      (read_is_image : (d : D) → Disk.tells → Disk.image d (Disk.reads d)) (clock : Clock Disk)
       (bytes : Text → List ℕ) (before : Text → ℕ) (images : Text → List ℕ → Type 0) (found opened : Text → Bool) where
     -- these items were answered with these lines, the users then sit at these desks, and it is known whether some line says that an append failed
     pub record SoFar (items : List BatchItem) (output : List ℕ) (seats : List (DeskSeat D g h)) (is_broken : Bool) : Type 0 where
       pub events : List ScriptEvent
       pub of_items : AreEventsOf items events
       pub lines : output ≡ line_bytes (transcript schema world users (with_opening found opened events))
-      pub seated : AreSeated schema world header directory T Disk t read_is_image clock bytes before images
+      pub seated : AreSeated schema world header directory Disk t read_is_image clock bytes before images
           (with_opening found opened events) users seats
       pub broken : is_broken ≡ list_any is_broken_line (transcript schema world users (with_opening found opened events))
 
-    as_lines : (items : List BatchItem) (output : List ℕ) (seats : List (DeskSeat D g h)) (is_broken : Bool) (so_far : SoFar items output seats is_broken)
-        (lines : List Line)
-        → transcript schema world users (with_opening found opened so_far.events) ≡ lines → SoFar items (line_bytes lines) seats is_broken
-    as_lines items output seats is_broken so_far lines is =
-        record { events = so_far.events; of_items = so_far.of_items; lines = ap line_bytes (sym is); seated = so_far.seated; broken = so_far.broken }
+    -- what items behind others add: their events, and a line for each of them
+    pub record Adds (earlier : List ScriptEvent) (items : List BatchItem) (count : ℕ) (lines : List ℕ) (seats : List (DeskSeat D g h)) (is_broken : Bool) :
+        Type 0 where
+      pub added : List ScriptEvent
+      pub of_items : AreEventsOf items (earlier ++ added)
+      pub said : List Line
+      pub each : length said ≡ count
+      pub lines_are : lines ≡ line_bytes said
+      pub transcript_is : transcript schema world users (with_opening found opened (earlier ++ added))
+          ≡ transcript schema world users (with_opening found opened earlier) ++ said
+      pub seated : AreSeated schema world header directory Disk t read_is_image clock bytes before images
+          (with_opening found opened (earlier ++ added)) users seats
+      pub broken : is_broken ≡ list_any is_broken_line (transcript schema world users (with_opening found opened (earlier ++ added)))
 
-    -- the output are the lines of these items but the last, or all of them, and this is the last line, or nothing
-    pub record LastLine (items : List BatchItem) (output line : List ℕ) (seats : List (DeskSeat D g h)) : Type 0 where
-      pub whole : List Line
-      pub last : List Line
-      pub one : length last ≤ 1
-      pub output_is : output ≡ line_bytes whole
-      pub line_is : line ≡ line_bytes last
-      pub is_broken : Bool
-      pub so_far : SoFar items (line_bytes (whole ++ last)) seats is_broken
-      pub lines : transcript schema world users (with_opening found opened so_far.events) ≡ whole ++ last
-
-    -- all lines are whole
-    pub no_last : (items : List BatchItem) (output line : List ℕ) (seats : List (DeskSeat D g h)) (is_broken : Bool) → line ≡ []
-        → SoFar items (output ++ line) seats is_broken → LastLine items output line seats
-    unfolding as_lines
-    no_last items output line seats is_broken none so_far =
-        let all = transcript schema world users (with_opening found opened so_far.events) in
+    -- no item
+    pub adds_none : (items : List BatchItem) (output : List ℕ) (seats : List (DeskSeat D g h)) (is_broken : Bool)
+        (so_far : SoFar items output seats is_broken) → Adds so_far.events items 0 [] seats is_broken
+    adds_none items output seats is_broken so_far =
+        let same : so_far.events ++ [] ≡ so_far.events = append-nil so_far.events in
         record {
-          whole = all;
-          last = [];
-          one = omega arith;
-          output_is = sym (append-nil output) ∙ ap (λ l. output ++ l) (sym none) ∙ so_far.lines;
-          line_is = none;
-          is_broken = is_broken;
-          so_far = as_lines items (output ++ line) seats is_broken so_far (all ++ []) (sym (append-nil all));
-          lines = sym (append-nil all);
+          added = [];
+          of_items = subst (AreEventsOf items) (sym same) so_far.of_items;
+          said = [];
+          each = refl;
+          lines_are = refl;
+          transcript_is = ap (λ es. transcript schema world users (with_opening found opened es)) same
+              ∙ sym (append-nil (transcript schema world users (with_opening found opened so_far.events)));
+          seated = subst (λ es. AreSeated schema world header directory Disk t read_is_image clock bytes before images (with_opening found opened es) users
+              seats) (sym same) so_far.seated;
+          broken = so_far.broken ∙ ap (λ es. list_any is_broken_line (transcript schema world users (with_opening found opened es))) (sym same);
         }
 
+    -- all of them, with the lines of those before and their own
+    pub record Joined (items : List BatchItem) (whole said : List Line) (seats : List (DeskSeat D g h)) (is_broken : Bool) : Type 0 where
+      pub so_far : SoFar items (line_bytes (whole ++ said)) seats is_broken
+      pub lines : transcript schema world users (with_opening found opened so_far.events) ≡ whole ++ said
+
+    pub joined : (first items : List BatchItem) (output lines : List ℕ) (old new : List (DeskSeat D g h)) (was is_broken : Bool) (count : ℕ)
+        (so_far : SoFar first output old was) (adds : Adds so_far.events items count lines new is_broken)
+        → Joined items (transcript schema world users (with_opening found opened so_far.events)) adds.said new is_broken
+    joined first items output lines old new was is_broken count so_far adds = record {
+      so_far = record {
+        events = so_far.events ++ adds.added;
+        of_items = adds.of_items;
+        lines = ap line_bytes (sym adds.transcript_is);
+        seated = adds.seated;
+        broken = adds.broken;
+      };
+      lines = adds.transcript_is;
+    }
+
     pub so_far_first : (seats : List (DeskSeat D g h))
-        → AreSeated schema world header directory T Disk t read_is_image clock bytes before images (with_opening found opened []) users seats
+        → AreSeated schema world header directory Disk t read_is_image clock bytes before images (with_opening found opened []) users seats
         → SoFar [] [] seats false
     unfolding transcript
     so_far_first seats seated = record { events = []; of_items = tt; lines = refl; seated = seated; broken = refl }
@@ -134,20 +153,20 @@ module _ (schema : DatabaseSchema) (world : FactSet) (users : List NamedUser) wh
       one : written_after schema world users (with_opening found opened earlier) event ≡ said ∷ []
       line_is : line ≡ line_text said ++ 10 ∷ []
       says_is : says_broken ≡ is_broken_line said
-      seated : AreSeated schema world header directory T Disk t read_is_image clock bytes before images
+      seated : AreSeated schema world header directory Disk t read_is_image clock bytes before images
           (with_opening found opened (earlier ++ event ∷ [])) users seats
 
     module _ (exclusive : (user : UserProfile) → IsExclusive schema world user header) (distinct : has_duplicate (names users) ≡ false) where
       one_more : (events : List ScriptEvent) (old new : List (DeskSeat D g h)) (says_broken : Bool) (item : BatchItem) (line : List ℕ)
-          → AreSeated schema world header directory T Disk t read_is_image clock bytes before images (with_opening found opened events) users old
-          → Carries schema world header T Disk item old new line says_broken
+          → AreSeated schema world header directory Disk t read_is_image clock bytes before images (with_opening found opened events) users old
+          → Carries schema world header Disk item old new line says_broken
           → OneMore events item line new says_broken
       one_more events old new says_broken (asked ask) line seated (told, tells, is, says) =
           let script = with_opening found opened events in
-          let next : Next schema world header directory T Disk t read_is_image clock bytes before images script ask.name ask.session ask.text
+          let next : Next schema world header directory Disk t read_is_image clock bytes before images script ask.name ask.session ask.text
           users new
           told =
-          told_next schema world header directory T Disk t read_is_image clock bytes before images script ask.name ask.session ask.text
+          told_next schema world header directory Disk t read_is_image clock bytes before images script ask.name ask.session ask.text
           users old new
           told distinct seated tells in
           record {
@@ -161,12 +180,12 @@ module _ (schema : DatabaseSchema) (world : FactSet) (users : List NamedUser) wh
           }
       one_more events old new says_broken restarted line seated (again, is, says) =
           let script = with_opening found opened events in
-          let choices : Choices schema world header directory T Disk t read_is_image clock bytes before images script users new =
-          restart_all schema world header directory T Disk t read_is_image clock bytes before images exclusive script users old new seated
+          let choices : Choices schema world header directory Disk t read_is_image clock bytes before images script users new =
+          restart_all schema world header directory Disk t read_is_image clock bytes before images exclusive script users old new seated
           again in
-          let chosen : Chosen schema world header directory T Disk t read_is_image clock bytes before images script_restart
+          let chosen : Chosen schema world header directory Disk t read_is_image clock bytes before images script_restart
           (λ name f o. refl) script users new =
-          choose schema world header directory T Disk t read_is_image clock bytes before images script_restart
+          choose schema world header directory Disk t read_is_image clock bytes before images script_restart
           (λ name f o. refl) script users new distinct choices in
           record {
             event = script_restart chosen.found chosen.opens;
@@ -179,7 +198,7 @@ module _ (schema : DatabaseSchema) (world : FactSet) (users : List NamedUser) wh
           }
 
       module _ (items : List BatchItem) (output : List ℕ) (old new : List (DeskSeat D g h)) (is_broken says_broken : Bool) (item : BatchItem) (line : List ℕ)
-          (so_far : SoFar items output old is_broken) (carried : Carries schema world header T Disk item old new line says_broken) where
+          (so_far : SoFar items output old is_broken) (carried : Carries schema world header Disk item old new line says_broken) where
         step : OneMore so_far.events item line new says_broken
         step = one_more so_far.events old new says_broken item line so_far.seated carried
 
@@ -193,20 +212,48 @@ module _ (schema : DatabaseSchema) (world : FactSet) (users : List NamedUser) wh
               ∙ broken-push (with_opening found opened so_far.events) step.event step.said is_broken step.one so_far.broken;
         }
 
-        -- the line of the item is the last one
-        pub last_carried : LastLine (items ++ item ∷ []) output line new
-        unfolding so_far_more as_lines
-        last_carried =
-            let script = with_opening found opened so_far.events in
-            let lines = transcript-push script step.event ∙ ap (λ l. transcript schema world users script ++ l) step.one in
-            record {
-              whole = transcript schema world users script;
-              last = step.said ∷ [];
-              one = omega arith;
-              output_is = so_far.lines;
-              line_is = step.line_is ∙ sym (append-nil (line_text step.said ++ 10 ∷ []));
-              is_broken = is_broken || says_broken;
-              so_far = as_lines (items ++ item ∷ []) (output ++ line) new (is_broken || says_broken) so_far_more
-                  (transcript schema world users script ++ step.said ∷ []) lines;
-              lines = lines;
-            }
+      -- one more item behind others
+      adds_more : (earlier : List ScriptEvent) (items : List BatchItem) (count : ℕ) (lines line : List ℕ) (old new : List (DeskSeat D g h))
+          (is_broken says_broken : Bool) (item : BatchItem)
+          → Adds earlier items count lines old is_broken → Carries schema world header Disk item old new line says_broken
+          → Adds earlier (items ++ item ∷ []) (count + 1) (lines ++ line) new (is_broken || says_broken)
+      adds_more earlier items count lines line old new is_broken says_broken item adds carried =
+          let events = earlier ++ adds.added in
+          let next : OneMore events item line new says_broken = one_more events old new says_broken item line adds.seated carried in
+          let same : events ++ next.event ∷ [] ≡ earlier ++ (adds.added ++ next.event ∷ []) = append_assoc earlier adds.added (next.event ∷ []) in
+          let script = with_opening found opened events in
+          record {
+            added = adds.added ++ next.event ∷ [];
+            of_items = subst (AreEventsOf (items ++ item ∷ [])) same (events-push items events item next.event adds.of_items next.is_event);
+            said = adds.said ++ next.said ∷ [];
+            each = length-append adds.said (next.said ∷ []) ∙ ap (λ n. n + 1) adds.each;
+            lines_are = ap (λ l. l ++ line) adds.lines_are
+                ∙ ap (λ l. line_bytes adds.said ++ l) (next.line_is ∙ sym (append-nil (line_text next.said ++ 10 ∷ [])))
+                ∙ sym (flat_map-append (λ l. line_text l ++ 10 ∷ []) adds.said (next.said ∷ []));
+            transcript_is = ap (λ es. transcript schema world users (with_opening found opened es)) (sym same)
+                ∙ transcript-push script next.event ∙ ap (λ l. transcript schema world users script ++ l) next.one
+                ∙ ap (λ l. l ++ next.said ∷ []) adds.transcript_is
+                ∙ append_assoc (transcript schema world users (with_opening found opened earlier)) adds.said (next.said ∷ []);
+            seated = subst (λ es. AreSeated schema world header directory Disk t read_is_image clock bytes before images
+                (with_opening found opened es) users new) same next.seated;
+            broken = ap (λ b. is_broken || b) next.says_is ∙ broken-push script next.event next.said is_broken next.one adds.broken
+                ∙ ap (λ es. list_any is_broken_line (transcript schema world users (with_opening found opened es))) same;
+          }
+
+      -- all of these
+      pub adds_all : (first items : List BatchItem) (output lines : List ℕ) (old new : List (DeskSeat D g h)) (was says_broken : Bool)
+          (so_far : SoFar first output old was) → Runs schema world header Disk items old lines new says_broken
+          → Adds so_far.events (first ++ items) (length items) lines new (was || says_broken)
+      adds_all first items output lines old new was says_broken so_far (nothing seats) =
+          subst (λ l. Adds so_far.events l 0 [] old (was || false)) (sym (append-nil first))
+          (subst (λ b. Adds so_far.events first 0 [] old b) (sym (or-false was)) (adds_none first output old was so_far))
+      adds_all first items output lines old new was says_broken so_far (more earlier old' mid new' before_lines line broke says item runs carried) =
+          let rest : Adds so_far.events (first ++ earlier) (length earlier) before_lines mid (was || broke) =
+          adds_all first earlier output before_lines old mid was broke so_far runs in
+          let step : Adds so_far.events ((first ++ earlier) ++ item ∷ []) (length earlier + 1) (before_lines ++ line) new ((was || broke) || says) =
+          adds_more so_far.events (first ++ earlier) (length earlier) before_lines line mid new (was || broke) says item rest carried in
+          subst (λ l. Adds so_far.events l (length (earlier ++ item ∷ [])) (before_lines ++ line) new (was || (broke || says)))
+          (append_assoc first earlier (item ∷ []))
+          (subst (λ n. Adds so_far.events ((first ++ earlier) ++ item ∷ []) n (before_lines ++ line) new (was || (broke || says)))
+          (sym (length-append earlier (item ∷ [])))
+          (subst (λ b. Adds so_far.events ((first ++ earlier) ++ item ∷ []) (length earlier + 1) (before_lines ++ line) new b) (or_assoc was broke says) step))

@@ -1,20 +1,21 @@
 -- What a batch writes, and what its lines mean for each of its users.
-use Rattle.std.specs.Prelude.{◌≡◌, ◌⊎◌, ◌&&◌, ◌≤◌, ℕ, Bool, true, false, List, [], ◌∷◌, ◌++◌}
+use Rattle.std.specs.Prelude.{◌≡◌, ◌⊎◌, ◌&&◌, ℕ, Bool, true, false, List, [], ◌∷◌, ◌++◌}
 use Rattle.std.specs.Prelude.{length, take, map, Option, Some, Ok, Err}
 use Rattle.std.specs.List.{flat_map, list_any, AllByRecursion}
 use Rattle.cqe_base.specs.Schema.{Text, DatabaseSchema}
 use Rattle.cqe_base.specs.Facts.{FactSet}
 use Rattle.cqe_base.specs.Censor.{IsLegal, admitted}
 use Rattle.cqe_base.specs.Headline.{HidesInScript}
-use Rattle.cqe_base.specs.Run.{desk_broken, opening, replies, final_history}
+use Rattle.cqe_base.specs.Run.{Event, desk_broken, opening, replies, final_history}
 use Rattle.cqe_base.specs.Transcript.{NamedUser, ScriptEvent, script_ask, script_restart}
 use Rattle.cqe_base.specs.Transcript.{script_opening, Line, reply_line, own_events, own_replies}
 use Rattle.cqe_base.specs.Transcript.{state_after, transcript, line_text}
 use Rattle.user_desk.specs.Causes.{Opens}
 use Rattle.user_desk.specs.Entries.{IsNoLonger}
-use Rattle.user_desk.specs.Lives.{Holds, HoldsAmid}
+use Rattle.user_desk.specs.Lives.{Holds, HoldsFrom, HoldsAmid}
 use Rattle.user_desk.specs.declared.standing.DeskError.{DeskError}
 use Rattle.desk_crew.specs.Shelved.{Journals, KeepsJournal, KeepsJournals, StandsAllAlong}
+use Rattle.desk_crew.specs.Shelved.{ClosedBehind}
 use Rattle.script_lines.specs.Read.{IsReadThrough}
 use Rattle.batch_engine.specs.BatchLines.{BatchItem, asked, restarted, batch_of}
 use Rattle.desk_crew.specs.Openings.{OpensNone, OpensWith}
@@ -23,6 +24,7 @@ use Rattle.batch_engine.specs.Lives.{
   is_ask,
   is_opened,
   is_failed_append,
+  IsStretchEnd,
   failures,
   AreCaused,
 }
@@ -44,6 +46,12 @@ AreEventsOf [] [] = Unit {0}
 AreEventsOf (item ∷ items) (event ∷ events) = IsEventOf item event × AreEventsOf items events
 AreEventsOf items events = ⊥
 
+-- items of one stretch: asks, and maybe the restart that ends it
+abbrev pub IsStretch : List BatchItem → Type 0
+IsStretch [] = Unit {0}
+IsStretch (asked ask ∷ items) = IsStretch items
+IsStretch (restarted ∷ items) = items ≡ []
+
 -- the bytes of lines, each with its line feed
 abbrev pub line_bytes : List Line → List ℕ
 line_bytes lines = flat_map (λ line. line_text line ++ 10 ∷ []) lines
@@ -60,6 +68,20 @@ unopened user = record user { opened = [] }
 -- the events of a script, behind the opening of all journals
 abbrev pub with_opening : (Text → Bool) → (Text → Bool) → List ScriptEvent → List ScriptEvent
 with_opening found opened events = script_opening found opened ∷ events
+
+module _ (schema : DatabaseSchema) (world : FactSet) (header : List ℕ) where
+  -- the bytes hold a user's history behind some first of these events, or this and the entry in
+  -- flight
+  abbrev pub StandsAmid : NamedUser → List Event → List ℕ → Type 0
+  StandsAmid user events =
+      HoldsAmid schema world user.profile header (opening schema world user.profile user.opened)
+      events
+
+  -- the same behind all events in front and some first of the others
+  abbrev pub StandsBehind : NamedUser → List Event → List Event → List ℕ → Type 0
+  StandsBehind user front rest =
+      HoldsFrom schema world user.profile header (opening schema world user.profile user.opened)
+      front rest
 
 module _ (schema : DatabaseSchema) (world : FactSet) (header : List ℕ) (journals : Journals) where
   -- What a script means for one user.
@@ -105,8 +127,17 @@ module _ (schema : DatabaseSchema) (world : FactSet) (header : List ℕ) (journa
     -- nothing new.
     pub moments : StandsAllAlong journals user.name
         (list_any is_opened (own_events user.name events))
-        (HoldsAmid schema world user.profile header
-        (opening schema world user.profile user.opened) (own_events user.name events))
+        (StandsAmid schema world header user (own_events user.name events))
+    -- Each stretch of his events ends at a restart or with the script. Once an opening has held,
+    -- his journal is closed there. Since then each crash leaves his history behind all events up to
+    -- there and some first of those behind them, or this and the entry in flight; so no entry whose
+    -- mark he was told in the stretch is lost at any moment since. Before that, since his journal
+    -- was first opened, each leaves his history behind some first of the events up to there.
+    pub closings : (front rest : List Event) → own_events user.name events ≡ front ++ rest
+        → IsStretchEnd rest → list_any is_opened front ≡ true
+        → ClosedBehind journals user.name moments.opening
+        (StandsAmid schema world header user front)
+        (StandsBehind schema world header user front rest)
 
   -- what was written answers these items: it is the lines of the transcript of a script in which
   -- all journals are opened, each ask has some ending, and each restart finds and opens what it may
@@ -146,18 +177,21 @@ module _ (schema : DatabaseSchema) (world : FactSet) (header : List ℕ) (journa
           (transcript schema world answers.users
           (with_opening answers.found answers.opened answers.events))
 
-    -- what was appended are the lines that answer the first of these items, of the last line maybe
-    -- only a part; so no item was answered behind a line that wasn't written
+    -- What was appended are the lines that answer some first stretches of these items: those of all
+    -- of them but the last, and of those of the last maybe only a part. So no item was answered
+    -- behind a stretch of which a line wasn't written.
     pub record AppendsSome (items : List BatchItem) (old new : List ℕ) : Type 0 where
-      pub front : List BatchItem
+      pub earlier : List BatchItem
+      pub stretch : List BatchItem
       pub back : List BatchItem
-      pub split : items ≡ front ++ back
+      pub split : items ≡ (earlier ++ stretch) ++ back
+      pub one : IsStretch stretch
       pub whole : List Line
       pub last : List Line
-      pub one : length last ≤ 1
+      pub each : length last ≡ length stretch
       pub part : ℕ
       pub appended : new ≡ old ++ (line_bytes whole ++ take part (line_bytes last))
-      pub answers : AnswersBatch policy front (line_bytes (whole ++ last))
+      pub answers : AnswersBatch policy (earlier ++ stretch) (line_bytes (whole ++ last))
       pub lines : transcript schema world answers.users
           (with_opening answers.found answers.opened answers.events) ≡ whole ++ last
 
@@ -170,7 +204,7 @@ module _ (schema : DatabaseSchema) (world : FactSet) (header : List ℕ) (journa
       pub appended : new ≡ old ++ written
       pub answers : AnswersBatch policy front written
 
-    -- the bytes are a batch, and its first items were answered so, the last line maybe in part
+    -- the bytes are a batch, and some first stretches were answered so
     abbrev pub BreaksBatch : List ℕ → List ℕ → List ℕ → Type 0
     BreaksBatch bytes old new =
         (items : List BatchItem) × (batch_of bytes ≡ Ok items) × AppendsSome items old new

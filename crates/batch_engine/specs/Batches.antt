@@ -1,17 +1,33 @@
--- The items of a batch in memory.
-use Rattle.std.specs.Prelude.{string_bytes}
-use Rattle.batch_engine.specs.BatchLines
-use Rattle.batch_engine.specs.BatchLines.{NamedAsk, asked, restarted}
+-- The asks of a batch in memory, in their stretches.
+use Rattle.std.specs.Prelude.{◌≡◌, true, List, [], ◌∷◌, ◌++◌, map, string_bytes, Vec}
+use Rattle.std.specs.List.{list_all}
+use Rattle.std.specs.declared.alloc.Global.{Global}
+use Rattle.batch_engine.specs.BatchLines.{NamedAsk, BatchItem, asked, restarted}
+use Rattle.batch_engine.specs.Said.{is_short_ask}
 use Rattle.batch_engine.specs.declared.batch.BatchAsk.{BatchAsk}
-use Rattle.batch_engine.specs.declared.batch.BatchItem.{BatchItem}
-use Rattle.batch_engine.specs.declared.batch.BatchItem.TheVariants.{Ask, Restart}
 
 -- an ask in memory
 abbrev pub ask_in : BatchAsk → NamedAsk
 ask_in ask =
     record { name = string_bytes ask.name; session = ask.session; text = string_bytes ask.text }
 
--- an item in memory
-abbrev pub item_in : BatchItem → BatchLines.BatchItem
-item_in (Ask ask) = asked (ask_in ask)
-item_in Restart = restarted
+-- the asks of a stretch
+abbrev pub asks_in : List BatchAsk → List NamedAsk
+asks_in asks = map ask_in asks
+
+-- they are short
+abbrev pub AreShort : List BatchAsk → Type 0
+AreShort asks = list_all is_short_ask (asks_in asks) ≡ true
+
+-- what is to be done in a stretch
+abbrev pub stretch_in : List BatchAsk → List BatchItem
+stretch_in asks = map asked (asks_in asks)
+
+-- what is to be done in stretches that a restart ended each
+abbrev pub stretches_in : List (Vec BatchAsk Global) → List BatchItem
+stretches_in [] = []
+stretches_in (asks ∷ ended) = stretch_in asks.items ++ restarted ∷ stretches_in ended
+
+-- and in a last one behind them
+abbrev pub items_in : List (Vec BatchAsk Global) → List BatchAsk → List BatchItem
+items_in ended last = stretches_in ended ++ stretch_in last

@@ -10,7 +10,7 @@ use Rattle.user_desk.specs.Joining.{Call, IsCallOver, AreOneRun, Span, IsSpanOve
 use Rattle.desk_crew.specs.Shelved.{Journals}
 use Rattle.batch_engine.specs.Batch.{ServesUser, AnswersBatch, with_opening}
 use Rattle.batch_engine.specs.BatchLines.{BatchItem}
-use Rattle.batch_engine.specs.Lives.{is_opened}
+use Rattle.batch_engine.specs.Lives.{is_opened, IsStretchEnd}
 
 -- a batch as a call to one user, which left these bytes of his journal
 abbrev pub call_of : DatabaseSchema → FactSet → List NamedUser → List ScriptEvent → NamedUser
@@ -91,6 +91,29 @@ module _ (journals : Journals) where
       → (left : List ℕ) → journals.since user.name serves.moments.opening left
       → IsCutBatch schema world header script user left
 
+  -- A batch was cut so behind all events in front: it is a call with these and some of the others,
+  -- the first.
+  pub record IsLaterCut (schema : DatabaseSchema) (world : FactSet) (header : List ℕ)
+      (user : NamedUser) (front rest : List Event) (left : List ℕ) : Type 0 where
+    pub more : List Event
+    pub further : List Event
+    pub split : rest ≡ more ++ further
+    pub over : IsCallOver schema world user.profile header (journals.bytes user.name)
+        (cut_call_of schema world user (front ++ more) left)
+
+  -- so it is at each moment since a stretch of his events ended: whatever he was told by then was
+  -- told in this call too
+  abbrev pub LaterCutsAreCalls : Type 0
+  LaterCutsAreCalls =
+      (schema : DatabaseSchema) (world : FactSet) (header : List ℕ) (users : List NamedUser)
+      (script : List ScriptEvent) (user : NamedUser)
+      (serves : ServesUser schema world header journals users script user)
+      (front rest : List Event) (split : own_events user.name script ≡ front ++ rest)
+      (ends : IsStretchEnd rest) (held : list_any is_opened front ≡ true)
+      (left : List ℕ)
+      → journals.since user.name (serves.closings front rest split ends held).closing left
+      → IsLaterCut schema world header user front rest left
+
 -- the user of a name among others
 abbrev pub IsNamed : Text → List NamedUser → NamedUser → Type 0
 IsNamed name users user = find (λ u. bytes_eq u.name name) users ≡ Some user
@@ -131,6 +154,27 @@ module _ (schema : DatabaseSchema) (world : FactSet) (header : List ℕ)
       pub run : AreOneRun schema world user.profile header (journals.bytes name) user.opened
           (cut_call_of schema world user front left ∷ next ∷ [])
 
+    -- A stretch of his events ended behind those in front, where an opening of his journal had
+    -- held. A crash at a moment since it was closed there could leave him these bytes.
+    pub record IsLateFor (name : Text) (left : List ℕ) (user : NamedUser)
+        (front rest : List Event) : Type 0 where
+      pub named : IsNamed name answers.users user
+      pub serves : ServesUser schema world header journals answers.users script_of user
+      pub split : own_events user.name script_of ≡ front ++ rest
+      pub ends : IsStretchEnd rest
+      pub held : list_any is_opened front ≡ true
+      pub leaves : journals.since name (serves.closings front rest split ends held).closing left
+
+    -- the batch, cut behind all events in front and some first of the rest, and one more call are
+    -- one run
+    pub record IsLateRun (name : Text) (left : List ℕ) (user : NamedUser)
+        (front rest : List Event) (next : Call) : Type 0 where
+      pub more : List Event
+      pub further : List Event
+      pub split : rest ≡ more ++ further
+      pub run : AreOneRun schema world user.profile header (journals.bytes name) user.opened
+          (cut_call_of schema world user (front ++ more) left ∷ next ∷ [])
+
   -- Two batches of one policy were answered, whole or in part, the second over what a crash left as
   -- the first ended. To a user they are one run.
   abbrev pub BatchesJoin : Journals → Journals → Type 0
@@ -156,3 +200,16 @@ module _ (schema : DatabaseSchema) (world : FactSet) (header : List ℕ)
       → IsAnsweredTo journals' two name left second call'
       → journals.image_before name (journals'.bytes name)
       ⊎ IsCutRun journals one name (journals'.bytes name) first call'
+
+  -- Where a stretch of his events in the first had ended by that moment, all events up to there and
+  -- some first of those behind them, and then the second, are one run.
+  abbrev pub LateBatchesJoin : Journals → Journals → Type 0
+  LateBatchesJoin journals journals' =
+      (items items' : List BatchItem) (written written' : List ℕ)
+      (one : AnswersBatch schema world header journals policy items written)
+      (two : AnswersBatch schema world header journals' policy items' written')
+      (name : Text) (left : List ℕ) (first second : NamedUser) (front rest : List Event)
+      (call' : Call)
+      → IsLateFor journals one name (journals'.bytes name) first front rest
+      → IsAnsweredTo journals' two name left second call'
+      → IsLateRun journals one name (journals'.bytes name) first front rest call'

@@ -2,9 +2,10 @@ pub mod BatchLines
 pub mod Said
 pub mod Batches
 pub mod BatchOf
+pub mod Outputs
 pub mod Lives
 pub mod Batch
-pub mod DeskAnswers
+pub mod DeskEnds
 pub mod Steps
 pub mod AnswerTexts
 pub mod Joining

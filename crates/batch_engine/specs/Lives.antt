@@ -27,6 +27,17 @@ is_opened (restart found opened) = opened
 is_opened (ask text ending) = false
 is_opened (stop text) = false
 
+-- whether it is an opening, which held or was refused
+abbrev pub is_opening : Event → Bool
+is_opening (restart found opened) = true
+is_opening (ask text ending) = false
+is_opening (stop text) = false
+
+-- A stretch ended before these events: there are none, or the first of them opens the journal.
+abbrev pub IsStretchEnd : List Event → Type 0
+IsStretchEnd [] = Unit {0}
+IsStretchEnd (event ∷ events) = is_opening event ≡ true
+
 -- whether it is an opening that was refused
 abbrev pub is_refused : Event → Bool
 is_refused (restart found true) = false

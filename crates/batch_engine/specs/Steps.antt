@@ -1,6 +1,6 @@
 -- What an item does to the seats, and its line.
-use Rattle.std.specs.Prelude.{◌≡◌, ◌⊎◌, ℕ, Bool, true, false, ◌||◌, List, [], ◌∷◌, ◌++◌, take}
-use Rattle.std.specs.Prelude.{Option, Some}
+use Rattle.std.specs.Prelude.{◌≡◌, ℕ, Bool, true, false, ◌||◌, List, [], ◌∷◌, ◌++◌, take}
+use Rattle.std.specs.Prelude.{Option, Some, map}
 use Rattle.outside.specs.declared.disk.Disk.{Ghosts as DiskGhosts}
 use Rattle.cqe_base.specs.Schema.{DatabaseSchema}
 use Rattle.cqe_base.specs.Facts.{FactSet}
@@ -9,15 +9,23 @@ use Rattle.cqe_base.specs.Transcript.{reply_line, restart_line, line_text}
 use Rattle.batch_engine.specs.BatchLines.{BatchItem, asked, restarted}
 use Rattle.desk_crew.specs.Crew.{Tells, AreReopened}
 use Rattle.desk_crew.specs.Seats.{DeskSeat}
-use Rattle.batch_engine.specs.DeskAnswers.{DeskAnswered}
+use Rattle.batch_engine.specs.Batch.{IsStretch}
+use Rattle.batch_engine.specs.DeskEnds.{DeskEnded}
+use Rattle.batch_engine.specs.declared.run.Answered.{Answered}
 use Rattle.batch_engine.specs.declared.run.Answered.TheVariants.{All, Cut, Memory}
+use Rattle.batch_engine.specs.declared.run.Ended.TheVariants.{Again, CutOff, NoMemory}
 
 -- whether a reply says that an append failed
 abbrev pub is_broken_reply : Option Reply → Bool
 is_broken_reply (Some desk_broken) = true
 is_broken_reply reply = false
 
-module _ (schema : DatabaseSchema) (world : FactSet) (header : List ℕ) {D : Type 0} (told : Type 0)
+-- the bytes of a restart's line, where there is one
+abbrev pub restart_bytes : Bool → List ℕ
+restart_bytes true = line_text restart_line ++ 10 ∷ []
+restart_bytes false = []
+
+module _ (schema : DatabaseSchema) (world : FactSet) (header : List ℕ) {D : Type 0}
     (Disk : DiskGhosts D) where
   -- what an item does: an ask is replied to by the user of its name, and a restart closes and opens
   -- every desk; its line, and whether that says that an append failed
@@ -28,7 +36,7 @@ module _ (schema : DatabaseSchema) (world : FactSet) (header : List ℕ) {D : Ty
       × (line ≡ line_text (reply_line ask.name ask.session reply) ++ 10 ∷ [])
       × (is_broken ≡ is_broken_reply reply)
   Carries restarted old new line is_broken =
-      AreReopened schema world header told Disk old new
+      AreReopened schema world header Disk old new
       × (line ≡ line_text restart_line ++ 10 ∷ []) × (is_broken ≡ false)
 
   -- these items were carried out with these lines, one after the other
@@ -47,30 +55,23 @@ module _ (schema : DatabaseSchema) (world : FactSet) (header : List ℕ) {D : Ty
     pub appended : wrote → after ≡ before ++ output
     pub runs : Runs items old output new is_broken
 
-  -- this is the line of the last of these items
-  pub record IsLastLine {g h : _} (items : List BatchItem) (old new : List (DeskSeat D g h))
-      (output line : List ℕ) : Type 0 where
-    pub first : List BatchItem
-    pub item : BatchItem
-    pub split : items ≡ first ++ item ∷ []
-    pub mid : List (DeskSeat D g h)
-    pub was_broken : Bool
-    pub says_broken : Bool
-    pub runs : Runs first old output mid was_broken
-    pub carried : Carries item mid new line says_broken
-
-  -- the first items were, and of the last line maybe only a part was appended
+  -- some first stretches were carried out: the lines of all of them but the last were appended, and
+  -- of those of the last maybe only a part
   pub record RunsSome {g h : _} (wrote : Type 0) (items : List BatchItem)
       (old new : List (DeskSeat D g h)) (before after : List ℕ) : Type 0 where
-    pub front : List BatchItem
+    pub earlier : List BatchItem
+    pub stretch : List BatchItem
     pub back : List BatchItem
-    pub split : items ≡ front ++ back
+    pub split : items ≡ (earlier ++ stretch) ++ back
+    pub one : IsStretch stretch
+    pub mid : List (DeskSeat D g h)
     pub output : List ℕ
-    pub line : List ℕ
-    pub is_broken : Bool
-    pub runs : Runs front old (output ++ line) new is_broken
-    pub last : (line ≡ []) ⊎ IsLastLine front old new output line
-    pub appended : wrote → (n : ℕ) × (after ≡ (before ++ output) ++ take n line)
+    pub lines : List ℕ
+    pub was_broken : Bool
+    pub says_broken : Bool
+    pub first : Runs earlier old output mid was_broken
+    pub last : Runs stretch mid lines new says_broken
+    pub appended : wrote → (n : ℕ) × (after ≡ (before ++ output) ++ take n lines)
 
   -- the items before a restart were carried out and their lines appended, and no more
   pub record RunsTo {g h : _} (wrote : Type 0) (items : List BatchItem)
@@ -81,24 +82,47 @@ module _ (schema : DatabaseSchema) (world : FactSet) (header : List ℕ) {D : Ty
     pub is_broken : Bool
     pub all : RunsAll wrote front old new is_broken before after
 
-  -- How items were answered; where memory was wanting, the disks are back as the seats left them.
+  -- How items were answered. The disks are back as the seats left them; with the first refusal of
+  -- each seat, where all items were.
   abbrev pub IsAnswered : {g h : _} → Type 0 → (List (DeskSeat D g h) → Type 0) → List BatchItem
-      → List (DeskSeat D g h) → List ℕ → List ℕ → DeskAnswered D g h → Type 0
-  IsAnswered wrote are_back items old before after (All new is_broken) =
-      RunsAll wrote items old new.items is_broken before after
-  IsAnswered wrote are_back items old before after (Cut new) =
-      RunsSome wrote items old new.items before after
+      → List (DeskSeat D g h) → List ℕ → List ℕ → Answered → Type 0
+  IsAnswered {g} {h} wrote are_back items old before after (All refusals is_broken) =
+      (new : List (DeskSeat D g h)) × RunsAll wrote items old new is_broken before after
+      × are_back new × (refusals.items ≡ map (λ seat. seat.refusal) new)
+  IsAnswered {g} {h} wrote are_back items old before after Cut =
+      (new : List (DeskSeat D g h)) × RunsSome wrote items old new before after × are_back new
   IsAnswered {g} {h} wrote are_back items old before after Memory =
       (new : List (DeskSeat D g h)) × RunsTo wrote items old new before after × are_back new
 
--- the seats are still there
-abbrev pub HasSeats : {D : Type 0} {g h : _} → DeskAnswered D g h → Type 0
-HasSeats (All seats is_broken) = Unit {0}
-HasSeats (Cut seats) = Unit {0}
-HasSeats Memory = ⊥
+  -- the desks were opened again, or they weren't
+  abbrev pub MaybeReopened : {g h : _} → Bool → List (DeskSeat D g h) → List (DeskSeat D g h)
+      → Type 0
+  MaybeReopened true old new = AreReopened schema world header Disk old new
+  MaybeReopened false old new = new ≡ old
 
--- a write failed
-abbrev pub FailsToWrite : {D : Type 0} {g h : _} → DeskAnswered D g h → Type 0
-FailsToWrite (All seats is_broken) = ⊥
-FailsToWrite (Cut seats) = Unit {0}
-FailsToWrite Memory = ⊥
+  -- How a stretch ended whose lines were still to be written. Once its counters were closed they
+  -- were, and that of the restart; or a write failed, behind the restart or without it; or memory
+  -- was wanting at the restart.
+  abbrev pub IsEnded : {g h : _} → Type 0 → (List (DeskSeat D g h) → Type 0)
+      → List (DeskSeat D g h) → List ℕ → List ℕ → List ℕ → DeskEnded D g h → Type 0
+  IsEnded wrote are_back old lines before after (Again new) =
+      AreReopened schema world header Disk old new.items
+      × (wrote → after ≡ before ++ (lines ++ restart_bytes true))
+  IsEnded {g} {h} wrote are_back old lines before after CutOff =
+      (is_again : Bool) × (new : List (DeskSeat D g h)) × MaybeReopened is_again old new
+      × are_back new
+      × (wrote → (n : ℕ) × (after ≡ before ++ take n (lines ++ restart_bytes is_again)))
+  IsEnded wrote are_back old lines before after NoMemory =
+      are_back old × (wrote → after ≡ before ++ lines)
+
+-- a stretch goes on
+abbrev pub GoesOn : {D : Type 0} {g h : _} → DeskEnded D g h → Type 0
+GoesOn (Again seats) = Unit {0}
+GoesOn CutOff = ⊥
+GoesOn NoMemory = ⊥
+
+-- a write failed as it ended
+abbrev pub IsCutOff : {D : Type 0} {g h : _} → DeskEnded D g h → Type 0
+IsCutOff (Again seats) = ⊥
+IsCutOff CutOff = Unit {0}
+IsCutOff NoMemory = ⊥

@@ -1,14 +1,16 @@
 //! What is to be done in a batch.
 
-ghost use Rattle.std.specs.Prelude.{◌≡◌, true, [], map};
+ghost use Rattle.std.specs.Prelude.{◌≡◌, ◌≤◌, true, [], ◌∷◌, ◌++◌, length, All, OnOk};
 ghost use Rattle.std.specs.List.{list_all};
-ghost use Rattle.batch_engine.specs.Said.{is_short_item};
-ghost use Rattle.batch_engine.specs.Batches.{item_in};
+ghost use Rattle.batch_engine.specs.BatchLines.{asked, restarted};
+ghost use Rattle.batch_engine.specs.Said.{ask_said, is_short_ask, is_short_item};
+ghost use Rattle.batch_engine.specs.Batches.{items_in, AreShort};
 
-use crate::line::{BatchLine, batch_line};
+use crate::line::{BatchLine, LineAsk, batch_line};
 use cqe_base::text::ScriptKind;
 use script_lines::LineError;
-use std::alloc::Global;
+use std::alloc::{AllocError, Global};
+use std::mem;
 
 /// An ask of a named user in one of his sessions.
 #[derive(Drop)]
@@ -18,40 +20,84 @@ pub struct BatchAsk {
     pub text: String,
 }
 
-/// What is to be done.
-#[derive(Drop)]
-pub enum BatchItem {
-    /// An ask is to be answered.
-    Ask(BatchAsk),
-    /// Every desk is to be closed and opened again.
-    Restart,
-}
-
-/// The items of a batch, in order.
+/// What is to be done, in order: stretches of asks, with a restart between two of them.
 #[derive(Drop)]
 pub struct Batch {
-    items: Vec<BatchItem>,
-    ghost short: { list_all is_short_item (map item_in items.items) ≡ true },
+    // The stretches that a restart ended.
+    ended: Vec<Vec<BatchAsk>>,
+    // The asks behind the last restart.
+    last: Vec<BatchAsk>,
+    ghost short: { list_all is_short_item (items_in ended.items last.items) ≡ true },
 }
 
 impl Batch {
-    ghost use Rattle.batch_engine.specs.BatchOf.{items_of};
+    ghost use Rattle.batch_engine.specs.BatchOf.{items_of, ended_of, last_of};
 
-    /// A batch without items.
+    /// A batch without asks and restarts.
     pub fn new(alloc: Global) -> Self
         ensures { items_of result ≡ [] }
     {
         Batch {
-            items: Vec::new(alloc),
+            ended: Vec::new(alloc),
+            last: Vec::new(alloc),
         }
     }
 
-    /// The items, in order.
-    pub fn items(&self) -> &[BatchItem]
-        ensures items { map item_in result.now ≡ items_of self.now }
-        ensures short { list_all is_short_item (map item_in result.now) ≡ true }
+    /// The stretches that a restart ended, in order.
+    pub fn ended(&self) -> &[Vec<BatchAsk>]
+        ensures stretches { result.now ≡ ended_of self.now }
+        ensures short { All (λ asks. AreShort asks.items) result.now }
     {
-        self.items.as_slice()
+        self.ended.as_slice()
+    }
+
+    /// The last stretch.
+    pub fn last(&self) -> &[BatchAsk]
+        ensures stretch { result.now ≡ last_of self.now }
+        ensures short { AreShort result.now }
+    {
+        self.last.as_slice()
+    }
+
+    /// The number of asks in the longest stretch.
+    pub fn longest(&self) -> usize
+        ensures ended { All (λ asks. length asks.items ≤ result) (ended_of self.now) }
+        ensures last { length (last_of self.now) ≤ result }
+    {
+        let mut most = self.last.len();
+        for asks in self.ended.as_slice() {
+            if asks.len() > most {
+                most = asks.len();
+            }
+        }
+        most
+    }
+
+    // One more ask behind the others.
+    fn push_ask(&mut self, alloc: Global, ask: LineAsk<'_>) -> Result<(), AllocError>
+        requires { is_short_ask (ask_said ask) ≡ true }
+        ensures { OnOk result
+            (items_of self.new ≡ items_of self.old ++ asked (ask_said ask.entry) ∷ []) }
+    {
+        let name = String::from_str(alloc, ask.name)?;
+        let text = String::from_str(alloc, ask.text)?;
+        let session = ask.session;
+        self.last.push(BatchAsk {
+            name,
+            session,
+            text,
+        })?;
+        Ok(())
+    }
+
+    // A restart behind the others.
+    fn push_restart(&mut self, alloc: Global) -> Result<(), AllocError>
+        ensures { OnOk result (items_of self.new ≡ items_of self.old ++ restarted ∷ []) }
+    {
+        self.ended.reserve(1)?;
+        let asks = mem::replace(&mut self.last, Vec::new(alloc));
+        self.ended.push_reserved(asks);
+        Ok(())
     }
 }
 
@@ -70,18 +116,11 @@ impl script_lines::Script for Batch {
         match batch_line(line) {
             Some(BatchLine::Silence) => Ok(()),
             Some(BatchLine::Restart) => {
-                self.items.push(BatchItem::Restart)?;
+                self.push_restart(alloc)?;
                 Ok(())
             }
             Some(BatchLine::Ask(ask)) => {
-                let name = String::from_str(alloc, ask.name)?;
-                let text = String::from_str(alloc, ask.text)?;
-                let session = ask.session;
-                self.items.push(BatchItem::Ask(BatchAsk {
-                    name,
-                    session,
-                    text,
-                }))?;
+                self.push_ask(alloc, ask)?;
                 Ok(())
             }
             None => Err(LineError::Refused(ScriptKind::NotALine)),

@@ -5,16 +5,19 @@ ghost use Rattle.cqe_base.specs.Transcript.{NamedUser};
 ghost use Rattle.std.specs.Prelude.{List, ℕ};
 ghost use Rattle.desk_crew.specs.Shelved.{journals_on};
 ghost use Rattle.batch_engine.specs.Joining.{BatchesAreCalls, BatchesAreSpans, BatchesJoin};
-ghost use Rattle.batch_engine.specs.Joining.{CutBatchesAreCalls, CutBatchesJoin};
+ghost use Rattle.batch_engine.specs.Joining.{CutBatchesAreCalls, CutBatchesJoin, LaterCutsAreCalls};
+ghost use Rattle.batch_engine.specs.Joining.{LateBatchesJoin};
 
 use outside::Shelf;
 
 /// Of two batches, by what their shelves held before and behind each. Where an opening of a user's
 /// journal held, a batch is a call to him over what his journal read as it began, whatever a crash
 /// leaves as it ends; and a batch that a crash cut at any moment since is one with some first of
-/// his events. Each is a part of his one history, too. So by `user_desk::laws::law_lives_join` any
-/// list of batches and crashes is one run. Of two that were answered, to the end or until a write
-/// failed or memory was wanting, it is said here, with a crash behind the first or in its midst.
+/// his events, since the end of a stretch with at least those of the stretch and before it. Each
+/// is a part of his one history, too. So by `user_desk::laws::law_lives_join` any list of batches
+/// and crashes is one run. Of two that were answered, to the end or until a write failed or memory
+/// was wanting, it is said here, with a crash behind the first or in its midst: there, too, with
+/// all events of a stretch that had ended and before it.
 pub fn law_batches_join<F: Shelf>(before: &F, behind: &F, later_before: &F, later_behind: &F)
     ensures calls { (directory : Text) → BatchesAreCalls
         (journals_on F.Shelf F.D.Disk directory before.now behind.now) }
@@ -22,12 +25,18 @@ pub fn law_batches_join<F: Shelf>(before: &F, behind: &F, later_before: &F, late
         (journals_on F.Shelf F.D.Disk directory before.now behind.now) }
     ensures cut { (directory : Text) → CutBatchesAreCalls
         (journals_on F.Shelf F.D.Disk directory before.now behind.now) }
+    ensures late { (directory : Text) → LaterCutsAreCalls
+        (journals_on F.Shelf F.D.Disk directory before.now behind.now) }
     ensures joined { (directory : Text) (schema : DatabaseSchema) (world : FactSet)
         (header : List ℕ) (policy : List NamedUser) → BatchesJoin schema world header policy
         (journals_on F.Shelf F.D.Disk directory before.now behind.now)
         (journals_on F.Shelf F.D.Disk directory later_before.now later_behind.now) }
     ensures cut_joined { (directory : Text) (schema : DatabaseSchema) (world : FactSet)
         (header : List ℕ) (policy : List NamedUser) → CutBatchesJoin schema world header policy
+        (journals_on F.Shelf F.D.Disk directory before.now behind.now)
+        (journals_on F.Shelf F.D.Disk directory later_before.now later_behind.now) }
+    ensures late_joined { (directory : Text) (schema : DatabaseSchema) (world : FactSet)
+        (header : List ℕ) (policy : List NamedUser) → LateBatchesJoin schema world header policy
         (journals_on F.Shelf F.D.Disk directory before.now behind.now)
         (journals_on F.Shelf F.D.Disk directory later_before.now later_behind.now) }
 {}

@@ -1,31 +1,35 @@
 //! A batch from its first byte to its last line.
 
-ghost use Rattle.std.specs.Prelude.{◌≡◌, ◌≤◌, ◌++◌, ◌∷◌, [], true, false, map, length, All};
-ghost use Rattle.std.specs.Prelude.{option_map, IfOk, IfSome, IfNone, OnSome, vec_capacity};
+ghost use Rattle.std.specs.Prelude.{◌≡◌, ◌<◌, ◌≤◌, ◌++◌, ◌∷◌, [], true, false, map, length, All};
+ghost use Rattle.std.specs.Prelude.{List, ℕ, option_map, IfOk, vec_len, vec_capacity};
 ghost use Rattle.std.specs.List.{AllByRecursion};
 ghost use Rattle.outside.specs.Faults.{Rose};
 ghost use Rattle.outside.specs.Shelf.{SameNames};
-ghost use Rattle.cqe_base.specs.Schema.{has_duplicate};
+ghost use Rattle.cqe_base.specs.Schema.{DatabaseSchema, has_duplicate};
+ghost use Rattle.cqe_base.specs.Facts.{FactSet};
 ghost use Rattle.cqe_base.specs.Transcript.{reply_line, line_text};
 ghost use Rattle.log_journal.specs.Opening.{header_bytes};
 ghost use Rattle.user_log.specs.Replies.{reply_of};
-ghost use Rattle.batch_engine.specs.Said.{is_short_ask, is_short_item};
-ghost use Rattle.batch_engine.specs.Batches.{ask_in, item_in};
-ghost use Rattle.batch_engine.specs.BatchLines.{restarted};
+ghost use Rattle.batch_engine.specs.Said.{is_short_ask};
+ghost use Rattle.batch_engine.specs.Batches.{ask_in, stretch_in, AreShort};
 ghost use Rattle.desk_crew.specs.Crew.{named_user, IsSeatServed};
 ghost use Rattle.outside.specs.Shelf.{AllOut, AllIn, NoneOut, NoneFell, SomeRose, SameBeside};
 ghost use Rattle.desk_crew.specs.Shelved.{journals, journals_on};
 ghost use Rattle.desk_crew.specs.Shelved.{AreLater, AreBack};
 ghost use Rattle.desk_crew.specs.Registered.{AllKeepLimits, SeatsKeepLimits};
 ghost use Rattle.desk_crew.specs.Registered.{registered_journals, HaveOwnNames};
-ghost use Rattle.batch_engine.specs.BatchOf.{items_of};
+ghost use Rattle.batch_engine.specs.BatchOf.{items_of, ended_of, last_of};
 ghost use Rattle.batch_engine.specs.AnswerTexts.{answer_text};
-ghost use Rattle.batch_engine.specs.Steps.{Carries, is_broken_reply, IsAnswered, HasSeats};
-ghost use Rattle.batch_engine.specs.Steps.{FailsToWrite};
+ghost use Rattle.batch_engine.specs.Outputs.{output_bytes};
+ghost use Rattle.batch_engine.specs.Steps.{Runs, is_broken_reply, IsAnswered, IsEnded, GoesOn};
+ghost use Rattle.batch_engine.specs.Steps.{IsCutOff};
 ghost use Rattle.batch_engine.specs.Batch.{EndsBatch, LeavesJournals, IsUnopened, IsBroken};
+ghost use Rattle.batch_engine.specs.declared.run.Answered.{Answered};
 ghost use Rattle.batch_engine.specs.declared.run.BatchEnd.{BatchEnd};
 
-use crate::batch::{Batch, BatchAsk, BatchItem};
+use crate::batch::{Batch, BatchAsk};
+use crate::closed::{write_again, write_behind};
+use crate::output::OutputLine;
 use cqe_base::laws::{law_legal_grows, law_private, law_runs_legal, law_scripts_hide};
 use cqe_base::text::ScriptError;
 use desk_counter::{Owned, TicketedDesk};
@@ -35,9 +39,9 @@ use desk_crew::{
 };
 use line_protocol::{LineText, text_of};
 use log_journal::law_journals_differ;
-use outside::{Disk, Failed, Gate, Shelf, Sink, Source, write_all};
+use outside::{Disk, Failed, Gate, Shelf, Sink, Source};
 use script_lines::{Reading, read_script};
-use std::alloc::Global;
+use std::alloc::{AllocError, Global};
 use std::sync::Wait;
 use user_desk::DeskError;
 use user_desk::laws::law_openings;
@@ -61,15 +65,27 @@ pub enum BatchEnd {
     Memory,
 }
 
-/// How the items of a batch were answered.
+/// How the items of a batch were answered. All disks are back.
 #[derive(Drop)]
-enum Answered<'w, V: Owned> {
-    /// All were, and it says whether some line is that an append failed.
-    All(Vec<Seat<'w, V>>, bool),
+enum Answered {
+    /// All were. Of each user there is the first refusal of his journal, if one was; and it says
+    /// whether some line is that an append failed.
+    All(Vec<Option<DeskError>>, bool),
     /// A write failed.
-    Cut(Vec<Seat<'w, V>>),
-    /// Memory was wanting at a restart. All disks are back.
+    Cut,
+    /// Memory was wanting at a restart.
     Memory,
+}
+
+/// How a stretch ended that a restart ends.
+#[derive(Drop)]
+enum Ended<'w, V: Owned> {
+    /// All journals are open again, and its lines are written.
+    Again(Vec<Seat<'w, V>>),
+    /// A write failed. All disks are back.
+    CutOff,
+    /// Memory was wanting. All disks are back.
+    NoMemory,
 }
 
 /// The text of a reply, or that no user has the name.
@@ -106,80 +122,68 @@ fn is_broken_reply(reply: Option<Reply>) -> bool
     matches!(reply, Some(Reply::Broken))
 }
 
-/// Does what an item says: the seats behind it, its line, and whether that says that an append
-/// failed. Where memory is wanting at a restart, all disks are back.
-fn carry_out<'w, R: Wait, G: Gate, F: Shelf>(
+/// Answers the asks of a stretch, and keeps their lines. It says whether one of them is that an
+/// append failed.
+fn answer_stretch<R: Wait, G: Gate, D: Disk>(
     rt: &R,
     alloc: Global,
-    registry: &Registry<'w>,
-    shelf: &mut F,
-    seats: Vec<DeskSeat<'w, F::D>>,
-    item: &BatchItem,
+    seats: &mut Vec<DeskSeat<'_, D>>,
+    asks: &[BatchAsk],
+    lines: &mut Vec<OutputLine>,
     gate: &G,
-) -> Option<(Vec<DeskSeat<'w, F::D>>, LineText, bool)>
-    requires limits { SeatsKeepLimits registry.now.schema.now seats.items }
-    requires served { AllByRecursion (IsSeatServed registry.now.schema.now registry.now.world.now
-        (header_bytes registry.now.header.now)) seats.items }
-    requires distinct { has_duplicate (journals seats.items) ≡ false }
-    requires out { AllOut (journals seats.items) (F.is_out shelf.old) }
-    requires later { AreLater F.D.faults (F.disk_faults shelf.old) seats.items }
-    requires short { is_short_item (item_in item.now) ≡ true }
-    ensures carried { IfSome result (λ r. Carries registry.now.schema.now registry.now.world.now
-        (header_bytes registry.now.header.now) F.D.tells F.D.Disk
-        (item_in item.now) seats.entry.items r.0.items r.1 r.2) }
-    ensures untouched { OnSome result (shelf.new ≡ shelf.old) }
-    ensures back { IfNone result (AreBack F.tells F.D.Disk (F.disk shelf.new)
-        (F.disk_faults shelf.new) seats.entry.items) }
-    ensures inside { IfNone result (AllIn (journals seats.entry.items) (F.is_out shelf.new)) }
-    ensures restart { IfNone result (item_in item.now ≡ restarted) }
-    ensures others_out { SameBeside (journals seats.entry.items) (F.is_out shelf.old)
-        (F.is_out shelf.new) }
-    ensures counts { SameBeside (journals seats.entry.items) (F.disk_faults shelf.old)
-        (F.disk_faults shelf.new) }
-    ensures disks { SameBeside (journals seats.entry.items) (F.disk shelf.old) (F.disk shelf.new) }
-    ensures faults { F.faults shelf.new ≡ F.faults shelf.old }
-    ensures files { SameNames (F.file shelf.old) (F.file shelf.new) }
-    ensures looked { F.looked shelf.new ≡ F.looked shelf.old }
+) -> bool
+    requires short { AreShort asks.now }
+    requires served { (schema : DatabaseSchema) × (world : FactSet) × (header : List ℕ)
+        × AllByRecursion (IsSeatServed schema world header) seats.old.items }
+    requires room { length asks.now < vec_capacity lines.old }
+    ensures answered { (schema : DatabaseSchema) (world : FactSet) (header : List ℕ)
+        → AllByRecursion (IsSeatServed schema world header) seats.old.items
+        → Runs schema world header D.Disk (stretch_in asks.now)
+        seats.old.items (output_bytes lines.new.items) seats.new.items result }
+    ensures spare { vec_len lines.new < vec_capacity lines.new }
+    ensures capacity { vec_capacity lines.new ≡ vec_capacity lines.old }
 {
-    match item {
-        BatchItem::Ask(ask) => {
-            let mut seats = seats;
-            let (name, text) = (ask.name.as_str(), ask.text.as_str());
-            let reply = answer(rt, alloc, &mut seats, name, text, gate);
-            Some((seats, line_of(ask, reply), is_broken_reply(reply)))
-        }
-        BatchItem::Restart => {
-            let seats = reopen_all(alloc, registry, shelf, seats)?;
-            Some((seats, LineText::new("* restarted\n"), false))
-        }
+    lines.clear();
+    let mut is_broken = false;
+    for ask in asks {
+        let (name, text) = (ask.name.as_str(), ask.text.as_str());
+        let reply = answer(rt, alloc, seats, name, text, gate);
+        lines.push_reserved(OutputLine {
+            text: line_of(ask, reply),
+        });
+        let is_failed = is_broken_reply(reply);
+        is_broken = is_broken || is_failed;
     }
+    is_broken
 }
 
-/// Answers the items of a batch, each in a line.
-fn answer_all<'w, R: Wait, G: Gate, F: Shelf, K: Sink>(
-    rt: &R,
+/// Ends a stretch: closes its counters and opens all journals again, and only then writes its lines
+/// and that of the restart. Where it doesn't go on, all disks are back.
+fn restart<'w, F: Shelf, K: Sink>(
     alloc: Global,
     registry: &Registry<'w>,
     shelf: &mut F,
     seats: Vec<DeskSeat<'w, F::D>>,
-    batch: &Batch,
+    lines: &mut Vec<OutputLine>,
     sink: &mut K,
-    gate: &G,
-) -> Answered<'w, TicketedDesk<'w, F::D>>
+) -> Ended<'w, TicketedDesk<'w, F::D>>
     requires limits { SeatsKeepLimits registry.now.schema.now seats.items }
     requires served { AllByRecursion (IsSeatServed registry.now.schema.now registry.now.world.now
         (header_bytes registry.now.header.now)) seats.items }
+    requires registered { journals seats.items
+        ≡ registered_journals registry.now.directory.now registry.now.users.now }
     requires distinct { has_duplicate (journals seats.items) ≡ false }
     requires out { AllOut (journals seats.items) (F.is_out shelf.old) }
     requires later { AreLater F.D.faults (F.disk_faults shelf.old) seats.items }
-    ensures answered { IsAnswered registry.now.schema.now registry.now.world.now
-        (header_bytes registry.now.header.now) F.D.tells F.D.Disk K.tells
-        (λ left. AreBack F.tells F.D.Disk (F.disk shelf.new)
-        (F.disk_faults shelf.new) left)
-        (items_of batch.now) seats.entry.items (K.written sink.old) (K.written sink.new) result }
-    ensures untouched { HasSeats result → shelf.new ≡ shelf.old }
-    ensures inside { (HasSeats result → ⊥)
-        → AllIn (journals seats.entry.items) (F.is_out shelf.new) }
+    requires spare { vec_len lines.old < vec_capacity lines.old }
+    ensures ended { IsEnded registry.now.schema.now registry.now.world.now
+        (header_bytes registry.now.header.now) F.D.Disk K.tells
+        (λ left. AreBack F.tells F.D.Disk (F.disk shelf.new) (F.disk_faults shelf.new) left)
+        seats.entry.items (output_bytes lines.old.items) (K.written sink.old) (K.written sink.new)
+        result }
+    ensures capacity { vec_capacity lines.new ≡ vec_capacity lines.old }
+    ensures untouched { GoesOn result → shelf.new ≡ shelf.old }
+    ensures inside { (GoesOn result → ⊥) → AllIn (journals seats.entry.items) (F.is_out shelf.new) }
     ensures others_out { SameBeside (journals seats.entry.items) (F.is_out shelf.old)
         (F.is_out shelf.new) }
     ensures counts { SameBeside (journals seats.entry.items) (F.disk_faults shelf.old)
@@ -189,31 +193,106 @@ fn answer_all<'w, R: Wait, G: Gate, F: Shelf, K: Sink>(
     ensures files { SameNames (F.file shelf.old) (F.file shelf.new) }
     ensures looked { F.looked shelf.new ≡ F.looked shelf.old }
     ensures sink_later { K.faults sink.old ≤ K.faults sink.new }
-    ensures cause { FailsToWrite result → Rose (K.faults sink.old) (K.faults sink.new) }
+    ensures cause { IsCutOff result → Rose (K.faults sink.old) (K.faults sink.new) }
 {
-    let mut seats = seats;
-    let mut is_broken = false;
-    for item in batch.items() {
-        let Some((next, line, says_broken)) = carry_out(
-            rt, alloc, registry, shelf, seats, item, gate,
-        ) else {
-            return Answered::Memory;
+    let Some(seats) = reopen_all(alloc, registry, shelf, seats) else {
+        return match write_behind(sink, lines.as_slice(), registry, shelf) {
+            Ok(()) => Ended::NoMemory,
+            Err(Failed) => Ended::CutOff,
         };
-        seats = next;
-        is_broken = is_broken || says_broken;
-        match write_all(sink, line.bytes()) {
-            Ok(()) => (),
-            Err(Failed) => return Answered::Cut(seats),
+    };
+    lines.push_reserved(OutputLine {
+        text: LineText::new("* restarted\n"),
+    });
+    match write_again(sink, lines.as_slice(), seats.as_slice()) {
+        Ok(()) => Ended::Again(seats),
+        Err(Failed) => {
+            give_back(shelf, seats);
+            Ended::CutOff
         }
     }
-    Answered::All(seats, is_broken)
+}
+
+/// Answers the items of a batch, stretch by stretch. The lines of a stretch are written once its
+/// counters are closed. All disks are given back.
+fn answer_all<'w, R: Wait, G: Gate, F: Shelf, K: Sink>(
+    rt: &R,
+    alloc: Global,
+    registry: &Registry<'w>,
+    shelf: &mut F,
+    seats: Vec<DeskSeat<'w, F::D>>,
+    batch: &Batch,
+    rooms: (Vec<Option<DeskError>>, Vec<OutputLine>),
+    sink: &mut K,
+    gate: &G,
+) -> Answered
+    requires limits { SeatsKeepLimits registry.now.schema.now seats.items }
+    requires served { AllByRecursion (IsSeatServed registry.now.schema.now registry.now.world.now
+        (header_bytes registry.now.header.now)) seats.items }
+    requires registered { journals seats.items
+        ≡ registered_journals registry.now.directory.now registry.now.users.now }
+    requires distinct { has_duplicate (journals seats.items) ≡ false }
+    requires out { AllOut (journals seats.items) (F.is_out shelf.old) }
+    requires later { AreLater F.D.faults (F.disk_faults shelf.old) seats.items }
+    requires empty { rooms.0.items ≡ [] }
+    requires refusals { length seats.items ≤ vec_capacity rooms.0 }
+    requires ended { All (λ asks. length asks.items < vec_capacity rooms.1) (ended_of batch.now) }
+    requires last { length (last_of batch.now) < vec_capacity rooms.1 }
+    ensures answered { IsAnswered registry.now.schema.now registry.now.world.now
+        (header_bytes registry.now.header.now) F.D.Disk K.tells
+        (λ left. AreBack F.tells F.D.Disk (F.disk shelf.new) (F.disk_faults shelf.new) left)
+        (items_of batch.now) seats.entry.items (K.written sink.old) (K.written sink.new) result }
+    ensures inside { AllIn (journals seats.entry.items) (F.is_out shelf.new) }
+    ensures others_out { SameBeside (journals seats.entry.items) (F.is_out shelf.old)
+        (F.is_out shelf.new) }
+    ensures counts { SameBeside (journals seats.entry.items) (F.disk_faults shelf.old)
+        (F.disk_faults shelf.new) }
+    ensures disks { SameBeside (journals seats.entry.items) (F.disk shelf.old) (F.disk shelf.new) }
+    ensures faults { F.faults shelf.new ≡ F.faults shelf.old }
+    ensures files { SameNames (F.file shelf.old) (F.file shelf.new) }
+    ensures looked { F.looked shelf.new ≡ F.looked shelf.old }
+    ensures sink_later { K.faults sink.old ≤ K.faults sink.new }
+    ensures cause { result ≡ Answered.Cut → Rose (K.faults sink.old) (K.faults sink.new) }
+{
+    let mut seats = seats;
+    let (room, mut lines) = rooms;
+    let mut is_broken = false;
+    for asks in batch.ended() {
+        let says_broken = answer_stretch(rt, alloc, &mut seats, asks.as_slice(), &mut lines, gate);
+        is_broken = is_broken || says_broken;
+        match restart(alloc, registry, shelf, seats, &mut lines, sink) {
+            Ended::Again(next) => seats = next,
+            Ended::CutOff => return Answered::Cut,
+            Ended::NoMemory => return Answered::Memory,
+        }
+    }
+    let says_broken = answer_stretch(rt, alloc, &mut seats, batch.last(), &mut lines, gate);
+    let refusals = refusals_of(room, seats.as_slice());
+    give_back(shelf, seats);
+    match write_behind(sink, lines.as_slice(), registry, shelf) {
+        Ok(()) => Answered::All(refusals, is_broken || says_broken),
+        Err(Failed) => Answered::Cut,
+    }
+}
+
+/// The room for the lines of each stretch of a batch, one at a time, with that of its restart.
+fn room_for_lines(alloc: Global, batch: &Batch) -> Result<Vec<OutputLine>, AllocError>
+    ensures ended { IfOk result (λ lines.
+        All (λ asks. length asks.items < vec_capacity lines) (ended_of batch.now)) }
+    ensures last { IfOk result (λ lines. length (last_of batch.now) < vec_capacity lines) }
+{
+    match batch.longest().checked_add(1) {
+        Some(count) => room_for(alloc, count),
+        None => Err(AllocError),
+    }
 }
 
 /// Reads the whole script of a batch from the source, refuses it before the first ask, or opens the
-/// journals of all users and answers its asks with one line each. Each desk stands under a counter,
-/// at which an ask is settled as those of threads are, and passes the gate. A restart closes every
-/// desk and opens it again from its disk. All disks are given back on every path. It may wait, at
-/// the counters and at the gate.
+/// journals of all users and answers its asks with one line each, stretch by stretch: a stretch is
+/// what stands between two restarts. Each desk stands under a counter, at which an ask is settled
+/// as those of threads are, and passes the gate. At the end of a stretch all counters are closed,
+/// and only then its lines are written. A restart opens every desk again from its disk. All disks
+/// are given back on every path. It may wait, at the counters and at the gate.
 pub fn run_batch<R: Wait, F: Shelf, S: Source, K: Sink, G: Gate>(
     rt: &R,
     alloc: Global,
@@ -278,21 +357,18 @@ pub fn run_batch<R: Wait, F: Shelf, S: Source, K: Sink, G: Gate>(
     let Ok(room) = room_for(alloc, registry.users.len()) else {
         return BatchEnd::Memory;
     };
+    let Ok(lines) = room_for_lines(alloc, &batch) else {
+        return BatchEnd::Memory;
+    };
     let seats = match open_all(alloc, registry, shelf) {
         Ok(seats) => seats,
         Err(NotOpened::Shelf) => return BatchEnd::ShelfFault,
         Err(NotOpened::Memory) => return BatchEnd::Memory,
     };
-    match answer_all(rt, alloc, registry, shelf, seats, &batch, sink, gate) {
-        Answered::All(seats, is_broken) => {
-            let refusals = refusals_of(room, seats.as_slice());
-            give_back(shelf, seats);
-            BatchEnd::Done(refusals, is_broken)
-        }
-        Answered::Cut(seats) => {
-            give_back(shelf, seats);
-            BatchEnd::WriteFault
-        }
+    let rooms = (room, lines);
+    match answer_all(rt, alloc, registry, shelf, seats, &batch, rooms, sink, gate) {
+        Answered::All(refusals, is_broken) => BatchEnd::Done(refusals, is_broken),
+        Answered::Cut => BatchEnd::WriteFault,
         Answered::Memory => BatchEnd::Memory,
     }
 }

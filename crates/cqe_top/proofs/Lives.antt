@@ -1,5 +1,5 @@
 -- Calls over the same journals are one run, and parts of one history, for each user.
-use Rattle.std.proofs.Common.{◌≡◌, ◌⊎◌, inl, inr, ℕ, ◌≤◌, Bool, true, false, not, ◌&&◌, List, [], ◌∷◌, map, refl, sym, ap, subst, ◌∙◌}
+use Rattle.std.proofs.Common.{◌≡◌, ◌⊎◌, inl, inr, ℕ, ◌≤◌, Bool, true, false, not, ◌&&◌, List, [], ◌∷◌, ◌++◌, map, refl, sym, ap, subst, ◌∙◌}
 use Rattle.std.specs.Prelude.{Option, Some, None, IfSome, Vec, string_bytes}
 use Rattle.std.specs.List.{list_any, AllByRecursion}
 use Rattle.std.specs.declared.alloc.Global.{Global}
@@ -21,7 +21,7 @@ use Rattle.batch_engine.specs.Joining as batch
 use Rattle.batch_engine.specs.Lives.{is_ask, is_opened}
 use Rattle.batch_engine.specs.declared.run.BatchEnd.{BatchEnd}
 use Rattle.batch_engine.specs.declared.run.BatchEnd.TheVariants as batch_end
-use Rattle.batch_engine.proofs.Joining.{batches_are_spans, cut_batches_are_calls, batches_join, cut_batches_join}
+use Rattle.batch_engine.proofs.Joining.{batches_are_spans, cut_batches_are_calls, batches_join, cut_batches_join, late_batches_join}
 use Rattle.command_words.specs.Readings.{Reading, FileNames, reading_of, runs_case, runs_init, runs_batch, runs_audit, runs_selfrun, runs_serve}
 use Rattle.log_journal.specs.Names.{journal_name}
 use Rattle.policy_files.specs.Memory.{policy_user_of}
@@ -78,6 +78,7 @@ calls_join s complaints s' complaints' words words' status status' files users u
             (sym at'.3 ∙ same ∙ at.3) at'.4;
         joined = batches_join at.0.schema at.1 at.2 (new_users at.0) (journals_of s.shelf files) (journals_of s'.shelf files);
         cut = cut_batches_join at.0.schema at.1 at.2 (new_users at.0) (journals_of s.shelf files) (journals_of s'.shelf files);
+        late = late_batches_join at.0.schema at.1 at.2 (new_users at.0) (journals_of s.shelf files) (journals_of s'.shelf files);
       },
     )
 
@@ -152,7 +153,7 @@ module _ (journals : Journals) (policy : PolicyValue) (world : FactSet) (header 
   batch_leaves (batch_end.Done refusals is_broken) (items, written, all) = batch_parts items all.written all.answers
   batch_leaves (batch_end.Script refusal) kept = inl kept
   batch_leaves batch_end.ReadFault kept = inl kept
-  batch_leaves batch_end.WriteFault (items, written, some) = batch_parts some.front _ some.answers
+  batch_leaves batch_end.WriteFault (items, written, some) = batch_parts (some.earlier ++ some.stretch) _ some.answers
   batch_leaves batch_end.ShelfFault kept = inl kept
   batch_leaves batch_end.Memory (inl kept) = inl kept
   batch_leaves batch_end.Memory (inr (items, written, to)) = batch_parts to.front _ to.answers

@@ -8,7 +8,7 @@ use Rattle.cqe_base.specs.declared.user.User.{User}
 use Rattle.user_desk.specs.Joining.{Span, IsSpanOver}
 use Rattle.desk_crew.specs.Shelved.{Journals, KeepsJournals}
 use Rattle.batch_engine.specs.Batch.{EndsBatch}
-use Rattle.batch_engine.specs.Joining.{BatchesJoin, CutBatchesJoin}
+use Rattle.batch_engine.specs.Joining.{BatchesJoin, CutBatchesJoin, LateBatchesJoin}
 use Rattle.batch_engine.specs.declared.run.BatchEnd.{BatchEnd}
 use Rattle.command_words.specs.Readings.{Reading, FileNames, reading_of, runs_batch, runs_audit}
 use Rattle.command_words.specs.Readings.{runs_serve}
@@ -33,7 +33,7 @@ module _ (s : Scene) (files : FileNames) (policy : PolicyValue) (world : FactSet
 
 -- Both batches came to these ends over journals of the policy's users. What was answered in both is
 -- to a user one run, where the second call began with what a crash left of his journal as the first
--- ended, or at a moment of it.
+-- ended, or at a moment of it: with all events up to the end of a stretch, where that had come.
 pub record AreJoined (s s' : Scene) (files : FileNames) (end end' : BatchEnd) (policy : PolicyValue)
     (world : FactSet) (header : List ℕ) : Type 0 where
   pub one : IsEndOf s files policy world header end
@@ -41,6 +41,8 @@ pub record AreJoined (s s' : Scene) (files : FileNames) (end end' : BatchEnd) (p
   pub joined : BatchesJoin policy.schema world header (new_users policy)
       (journals_of s.shelf files) (journals_of s'.shelf files)
   pub cut : CutBatchesJoin policy.schema world header (new_users policy)
+      (journals_of s.shelf files) (journals_of s'.shelf files)
+  pub late : LateBatchesJoin policy.schema world header (new_users policy)
       (journals_of s.shelf files) (journals_of s'.shelf files)
 
 -- Whatever `top` promised of two calls of `batch` over the same files that came to any ends, they

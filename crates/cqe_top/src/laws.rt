@@ -21,7 +21,8 @@ pub struct Seen<'a, F, S, K, E, L> {
 /// Two calls of `batch` over the same files, of which the second began with what a crash left as
 /// the first ended, or at a moment of it, are one run for each user: by what `top` promises of
 /// both, whatever their ends, what they told him are its replies, and its history is legal and
-/// hides. By `user_desk::laws::law_lives_join` so are more of them.
+/// hides. Where the crash came since a stretch of the first had ended, all his events up to there
+/// are in the run. By `user_desk::laws::law_lives_join` so are more of them.
 pub fn law_calls_join<F: Shelf, S: Source, K: Sink, E: Sink, L: Links>(
     first: &Seen<'_, F, S, K, E, L>,
     second: &Seen<'_, F, S, K, E, L>,

@@ -3,6 +3,7 @@ use Rattle.std.proofs.Common.{◌≡◌, ℕ, ◌≤◌, true, false, List, [], 
 use Rattle.std.specs.Prelude.{Option, None, is_some, option_to_list}
 use Rattle.std.proofs.lemmas.List.{length-take-le}
 use Rattle.outside.specs.Faults.{Rose}
+use Rattle.outside.specs.declared.disk.Disk.{Ghosts as DiskGhosts}
 use Rattle.cqe_base.specs.Censor.{IsLegal}
 use Rattle.cqe_base.specs.Limits.{KeepsSizes}
 use Rattle.cqe_base.specs.History.{AnsweredQuery, History}
@@ -40,18 +41,20 @@ module _ {D : Type 0} {g : _} (desk : Desk D g) (fixed : Fixed D) (pairs : Entri
   pub closed_sealed : is_sealed (desk_standing desk) ≡ is_sealed fixed.standing
   closed_sealed = ap (λ (f : Fixed D). is_sealed f.standing) same
 
-  module _ (told : Type 0) (image : List ℕ → Type 0) where
-    pub closed_whole : (told → is_sealed (desk_standing desk) ≡ false → is_broken_desk desk ≡ false → (c : List ℕ) → image c
+  module _ (Disk : DiskGhosts D) where
+    pub closed_whole : (Disk.tells → is_sealed (desk_standing desk) ≡ false → is_broken_desk desk ≡ false → (c : List ℕ) → Disk.image (desk_disk desk) c
         → StandsFor (desk_schema desk) (desk_header desk) (desk_history desk) c)
-        → told → is_sealed fixed.standing ≡ false → has_broke pairs ≡ false → (c : List ℕ) → image c → StandsFor fixed.schema fixed.header (history_of pairs) c
+        → Disk.tells → is_sealed fixed.standing ≡ false → has_broke pairs ≡ false → (c : List ℕ) → Disk.image (desk_disk desk) c
+        → StandsFor fixed.schema fixed.header (history_of pairs) c
     closed_whole known t served unbroken c here =
         subst (λ (f : Fixed D). StandsFor f.schema f.header (history_of pairs) c) same
         (subst (λ (h : History). StandsFor (desk_schema desk) (desk_header desk) h c) entries
         (known t (closed_sealed ∙ served) (closed_broke ∙ unbroken) c here))
 
-    pub closed_images : (told → is_sealed (desk_standing desk) ≡ false → (c : List ℕ) → image c
+    pub closed_images : (Disk.tells → is_sealed (desk_standing desk) ≡ false → (c : List ℕ) → Disk.image (desk_disk desk) c
         → Holds (desk_schema desk) (desk_world desk) (desk_user desk) (desk_header desk) (state_of desk) c)
-        → told → is_sealed fixed.standing ≡ false → (c : List ℕ) → image c → Holds fixed.schema fixed.world fixed.user fixed.header (state_shown fixed pairs) c
+        → Disk.tells → is_sealed fixed.standing ≡ false → (c : List ℕ) → Disk.image (desk_disk desk) c
+        → Holds fixed.schema fixed.world fixed.user fixed.header (state_shown fixed pairs) c
     closed_images known t served c here =
         subst (λ (f : Fixed D). Holds f.schema f.world f.user f.header (state_shown f pairs) c) same
         (subst (λ (h : History).
@@ -62,10 +65,10 @@ module _ {D : Type 0} {g : _} (desk : Desk D g) (fixed : Fixed D) (pairs : Entri
         flies (known t (closed_sealed ∙ served) c here)))
 
     pub closed_since : opening_count desk ≤ length (desk_history desk)
-        → (told → is_sealed (desk_standing desk) ≡ false → (c : List ℕ) → image c
+        → (Disk.tells → is_sealed (desk_standing desk) ≡ false → (c : List ℕ) → Disk.image_since (desk_disk desk) (Disk.moment (opening_disk desk)) c
         → OpensWithin (desk_schema desk) (desk_world desk) (desk_user desk) (desk_header desk) (opening_count desk)
         (desk_history desk ++ option_to_list (entry_in_flight desk)) c)
-        → told → is_sealed fixed.standing ≡ false → (c : List ℕ) → image c
+        → Disk.tells → is_sealed fixed.standing ≡ false → (c : List ℕ) → Disk.image_since (desk_disk desk) (Disk.moment fixed.disk) c
         → OpensWithin fixed.schema fixed.world fixed.user fixed.header (length fixed.opening) (history_of pairs ++ option_to_list (flying pairs)) c
     closed_since begins known t served c here =
         subst (λ (f : Fixed D). OpensWithin f.schema f.world f.user f.header (length f.opening) (history_of pairs ++ option_to_list (flying pairs)) c) same
@@ -77,20 +80,20 @@ module _ {D : Type 0} {g : _} (desk : Desk D g) (fixed : Fixed D) (pairs : Entri
         (subst (λ (o : Option AnsweredQuery).
         OpensWithin (desk_schema desk) (desk_world desk) (desk_user desk) (desk_header desk) (opening_count desk)
         (desk_history desk ++ option_to_list o) c) flies
-        (known t (closed_sealed ∙ served) c here))))
+        (known t (closed_sealed ∙ served) c
+        (subst (λ (f : Fixed D). Disk.image_since (desk_disk desk) (Disk.moment f.disk) c) (sym same) here)))))
 
-  module _ (faults : D → ℕ) where
-    pub closed_cause : (is_broken_desk desk ≡ true → Rose (faults (opening_disk desk)) (faults (desk_disk desk))) → has_broke pairs ≡ true
-        → Rose (faults fixed.disk) (faults (desk_disk desk))
-    closed_cause known broke = subst (λ (f : Fixed D). Rose (faults f.disk) (faults (desk_disk desk))) same (known (closed_broke ∙ broke))
+    pub closed_cause : (is_broken_desk desk ≡ true → Rose (Disk.faults (opening_disk desk)) (Disk.faults (desk_disk desk))) → has_broke pairs ≡ true
+        → Rose (Disk.faults fixed.disk) (Disk.faults (desk_disk desk))
+    closed_cause known broke = subst (λ (f : Fixed D). Rose (Disk.faults f.disk) (Disk.faults (desk_disk desk))) same (known (closed_broke ∙ broke))
 
-  -- where no append failed, the disk has grown for the entries alone
-  pub closed_size : (told : Type 0) (reads : D → List ℕ)
-      → (told → is_broken_desk desk ≡ false → IsNoLonger (reads (opening_disk desk)) (desk_history desk) (reads (desk_disk desk)))
-      → told → has_broke pairs ≡ false → IsNoLonger (reads fixed.disk) (history_of pairs) (reads (desk_disk desk))
-  closed_size told reads known t whole =
-      subst (λ (f : Fixed D). IsNoLonger (reads f.disk) (history_of pairs) (reads (desk_disk desk))) same
-      (subst (λ (h : History). IsNoLonger (reads (opening_disk desk)) h (reads (desk_disk desk))) entries (known t (closed_broke ∙ whole)))
+    -- where no append failed, the disk has grown for the entries alone
+    pub closed_size : (Disk.tells → is_broken_desk desk ≡ false
+        → IsNoLonger (Disk.reads (opening_disk desk)) (desk_history desk) (Disk.reads (desk_disk desk)))
+        → Disk.tells → has_broke pairs ≡ false → IsNoLonger (Disk.reads fixed.disk) (history_of pairs) (Disk.reads (desk_disk desk))
+    closed_size known t whole =
+        subst (λ (f : Fixed D). IsNoLonger (Disk.reads f.disk) (history_of pairs) (Disk.reads (desk_disk desk))) same
+        (subst (λ (h : History). IsNoLonger (Disk.reads (opening_disk desk)) h (Disk.reads (desk_disk desk))) entries (known t (closed_broke ∙ whole)))
 
   -- only a user who is served has entries, or one in flight
   pub closed_idle : (is_open (desk_standing desk) ≡ false → desk_history desk ≡ []) → (is_open (desk_standing desk) ≡ false → is_broken_desk desk ≡ false)

@@ -23,9 +23,9 @@ use Rattle.desk_counter.specs.Sole.{IsAsOpened}
 -- failed; where none did, the disk has grown for the entries alone; and where nothing was appended
 -- it is as it was at the opening. Since the opening each image opens a desk with a beginning of the
 -- history, with the entry in flight, that has all entries at the opening.
-pub record IsClosed {D : Type 0} (told : Type 0) (Disk : DiskGhosts D) (kept : Fixed D)
+pub record IsClosed {D : Type 0} (Disk : DiskGhosts D) (kept : Fixed D)
     (first own pairs : Entries TurnItem) (disk : D) : Type 0 where
-  pub holds : told → is_sealed kept.standing ≡ false → (c : List ℕ) → Disk.image disk c
+  pub holds : Disk.tells → is_sealed kept.standing ≡ false → (c : List ℕ) → Disk.image disk c
       → Holds kept.schema kept.world kept.user kept.header (state_shown kept pairs) c
   pub legal : IsLegal kept.schema kept.world kept.user (history_of pairs)
   pub added : pairs ≡ first ++ own
@@ -33,11 +33,11 @@ pub record IsClosed {D : Type 0} (told : Type 0) (Disk : DiskGhosts D) (kept : F
   pub idle : is_open kept.standing ≡ false → (history_of pairs ≡ []) × (flying pairs ≡ None)
   pub later : Disk.faults kept.disk ≤ Disk.faults disk
   pub cause : has_broke pairs ≡ true → Rose (Disk.faults kept.disk) (Disk.faults disk)
-  pub size : told → has_broke pairs ≡ false
+  pub size : Disk.tells → has_broke pairs ≡ false
       → IsNoLonger (Disk.reads kept.disk) (history_of pairs) (Disk.reads disk)
   pub shut : is_sealed kept.standing ≡ true → disk ≡ kept.disk
   pub still : IsAsOpened kept pairs → disk ≡ kept.disk
-  pub since : told → is_sealed kept.standing ≡ false → (c : List ℕ)
+  pub since : Disk.tells → is_sealed kept.standing ≡ false → (c : List ℕ)
       → Disk.image_since disk (Disk.moment kept.disk) c
       → OpensWithin kept.schema kept.world kept.user kept.header (length kept.opening)
       (history_of pairs ++ option_to_list (flying pairs)) c

@@ -41,10 +41,7 @@ pub type DeskPass<D> = Pass<TurnItem, Fixed<D>>;
 
 impl<'w, D: Disk> CounterOf<'w, TicketedDesk<'w, D>> {
     ghost use Rattle.std.specs.Prelude.{◌⊎◌, ℕ, ◌^◌, ◌+◌, ◌*◌, ◌≤◌, ◌<◌, ◌↔◌, IsTrue, true, false};
-    ghost use Rattle.std.specs.Prelude.{List, [], ◌++◌, length, option_to_list, None, IfOk, IfErr};
-    ghost use Rattle.std.specs.Prelude.{OnOk, IfSome};
-    ghost use Rattle.outside.specs.Disk.{Elapses};
-    ghost use Rattle.outside.specs.Faults.{Rose};
+    ghost use Rattle.std.specs.Prelude.{List, [], length, None, IfOk, IfErr, OnOk, IfSome};
     ghost use Rattle.cqe_base.specs.Censor.{IsLegal};
     ghost use Rattle.cqe_base.specs.History.{profile_of};
     ghost use Rattle.cqe_base.specs.Limits.{KeepsSizes};
@@ -265,8 +262,8 @@ impl<'w, D: Disk> CounterOf<'w, TicketedDesk<'w, D>> {
         // pass's own: so an append failed where one had failed before, or one of the pass's own.
         // What was seen is a legal history within the limits, and what became of its disk since the
         // desk's opening.
-        ensures closed { IsClosed D.tells D.Disk (kept_by self.entry) (first_pairs self.entry)
-            (mine pass) (seen pass) (desk_disk result) }
+        ensures closed { IsClosed D.Disk (kept_by self.entry) (first_pairs self.entry) (mine pass)
+            (seen pass) (desk_disk result) }
         ensures drew { DrewEachOnce (view_of pass) }
         ensures sizes { KeepsSizes (kept_by self.entry).schema (kept_by self.entry).user
             (history_of (seen pass)) }

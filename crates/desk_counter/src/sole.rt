@@ -119,9 +119,8 @@ impl<'w, D: Disk> SoleOf<'w, TicketedDesk<'w, D>> {
 
         // Its pairs are those that it was put under the counter with, and then those that its pass
         // has of its own; and what became of its disk since the opening.
-        ensures closed { IsClosed D.tells D.Disk (kept_in self.entry)
-            (first_pairs (counter_in self.entry)) (mine (pass_in self.entry))
-            (pairs_of_sole self.entry) (desk_disk result) }
+        ensures closed { IsClosed D.Disk (kept_in self.entry) (first_pairs (counter_in self.entry))
+            (mine (pass_in self.entry)) (pairs_of_sole self.entry) (desk_disk result) }
     {
         self.counter.close(self.pass)
     }

@@ -71,10 +71,10 @@ module _ (directory : Text) where
   journals_distinct differ (n ∷ ns) =
       ap (λ b. b || has_duplicate (map (journal_name directory) ns)) (journal_among differ ns n) ∙ ap (λ b. is_among ns n || b) (journals_distinct differ ns)
 
-  module _ (schema : DatabaseSchema) (world : FactSet) (header : List ℕ) {D : Type 0} {g h : _} (told disk_told : Type 0) (Disk : DiskGhosts D)
+  module _ (schema : DatabaseSchema) (world : FactSet) (header : List ℕ) {D : Type 0} {g h : _} (told : Type 0) (Disk : DiskGhosts D)
       (disk0 : Text → Option D) (count0 : Text → ℕ) where
     abbrev Seats : List User → List (DeskSeat D g h) → Type 0
-    Seats users seats = AreSeatsOf told Disk disk_told schema world header directory disk0 count0 users seats
+    Seats users seats = AreSeatsOf told Disk schema world header directory disk0 count0 users seats
 
     -- the journals of seats are those of their users
     pub seat_journals : (users : List User) (seats : List (DeskSeat D g h)) → Seats users seats → journals seats ≡ map (journal_name directory) (names users)
@@ -121,7 +121,7 @@ module _ (directory : Text) where
     same_length (u ∷ users) (s ∷ seats) are = ap (λ n. suc n) (same_length users seats are.1)
 
     seats-push : (users : List User) (seats : List (DeskSeat D g h)) (user : User) (seat : DeskSeat D g h) → Seats users seats
-        → IsSeatOf told Disk disk_told schema world header directory disk0 count0 user seat → Seats (users ++ user ∷ []) (seats ++ seat ∷ [])
+        → IsSeatOf told Disk schema world header directory disk0 count0 user seat → Seats (users ++ user ∷ []) (seats ++ seat ∷ [])
     seats-push [] [] user seat are is = (is, tt)
     seats-push [] (s ∷ seats) user seat are is = absurd are
     seats-push (u ∷ users) [] user seat are is = absurd are
@@ -179,8 +179,8 @@ module _ (directory : Text) where
       pub next_in : is_out one ≡ false
       next_in = so_far.out one ∙ next_none
 
-      seat_here : (seat : DeskSeat D g h) → IsSeatOf told Disk disk_told schema world header directory disk count user seat
-          → IsSeatOf told Disk disk_told schema world header directory disk0 count0 user seat
+      seat_here : (seat : DeskSeat D g h) → IsSeatOf told Disk schema world header directory disk count user seat
+          → IsSeatOf told Disk schema world header directory disk0 count0 user seat
       seat_here seat at = record {
         user_is = at.user_is;
         journal_is = at.journal_is;
@@ -194,7 +194,7 @@ module _ (directory : Text) where
       }
 
       pub opened_more : (seat : DeskSeat D g h) (disk' : Text → Option D) (is_out' : Text → Bool) (count' : Text → ℕ)
-          → IsSeatOf told Disk disk_told schema world header directory disk count user seat
+          → IsSeatOf told Disk schema world header directory disk count user seat
           → is_out' one ≡ true → SameOthers one is_out is_out' → SameOthers one disk disk' → SameNames count count'
           → Opened users (i + 1) (seats ++ seat ∷ []) disk' is_out' count'
       opened_more seat disk' is_out' count' at out outs disks counts =
@@ -270,7 +270,7 @@ module _ (directory : Text) where
         by false none = subst (λ n. count name ≤ n) (sym (others name none)) (omega arith)
 
     by_same : told → (disk' : Text → Option D) (count' : Text → ℕ) (name : Text) (u : User) (s : DeskSeat D g h)
-        → IsSeatOf told Disk disk_told schema world header directory disk0 count0 u s → IsBack told Disk disk' count' s
+        → IsSeatOf told Disk schema world header directory disk0 count0 u s → IsBack told Disk disk' count' s
         → (b : Bool) → bytes_eq name (seat_journal s) ≡ b → (bytes_eq name (seat_journal s) ≡ false → Same Disk.reads Disk.image disk0 disk' name)
         → Same Disk.reads Disk.image disk0 disk' name
     by_same t disk' count' name u s are back true same more =
@@ -312,23 +312,23 @@ module _ (directory : Text) where
 
 -- ---- where the next journal is refused
 
-module _ {directory : Text} {schema : DatabaseSchema} {world : FactSet} {header : List ℕ} {D : Type 0} {g h : _} {told disk_told : Type 0} {Disk : DiskGhosts D}
+module _ {directory : Text} {schema : DatabaseSchema} {world : FactSet} {header : List ℕ} {D : Type 0} {g h : _} {told : Type 0} {Disk : DiskGhosts D}
     {disk0 : Text → Option D} {count0 : Text → ℕ} (differ : JournalsDiffer) {users : List User} (distinct : has_duplicate (names users) ≡ false) {i : ℕ}
     {user : User} (low : i < length users) (is : user ≡ get_or users i user) {seats : List (DeskSeat D g h)} {disk : Text → Option D} {is_out : Text → Bool}
-    {count : Text → ℕ} (so_far : Opened directory schema world header told disk_told Disk disk0 count0 users i seats disk is_out count)
+    {count : Text → ℕ} (so_far : Opened directory schema world header told Disk disk0 count0 users i seats disk is_out count)
     {disk' : Text → Option D} {is_out' : Text → Bool} {count' : Text → ℕ}
     (refused : IsRefused told Disk (journal_name directory (string_bytes user.name)) disk disk' is_out is_out' count count') where
   -- those that are open can be given back
   pub refused_can : CanGive Disk seats is_out' count'
   refused_can =
-      let none = next_none directory schema world header told disk_told Disk disk0 count0 differ users distinct i user low is seats disk is_out count so_far in
+      let none = next_none directory schema world header told Disk disk0 count0 differ users distinct i user low is seats disk is_out count so_far in
       record {
-        distinct = seats_distinct directory schema world header told disk_told Disk disk0 count0 differ (take i users) seats so_far.are
+        distinct = seats_distinct directory schema world header told Disk disk0 count0 differ (take i users) seats so_far.are
             (first_distinct users i distinct);
         out = λ name among. refused.out name ∙ so_far.out name ∙ among;
-        later = later_on told Disk count count' seats
+        later = later_on Disk count count' seats
             (beside_one (journal_name directory (string_bytes user.name)) (journals seats) count count' none refused.counts)
-            (seats_later directory schema world header told disk_told Disk disk0 count0 count (take i users) seats so_far.counts so_far.are);
+            (seats_later directory schema world header told Disk disk0 count0 count (take i users) seats so_far.counts so_far.are);
       }
 
   -- and then all disks are as they were
@@ -336,23 +336,23 @@ module _ {directory : Text} {schema : DatabaseSchema} {world : FactSet} {header 
       → AreGiven told Disk seats disk' disk'' is_out' is_out'' count' count''
       → AreUnopened told Disk (registered_journals directory users) disk0 disk'' is_out'' count0 count''
   refused_back {disk''} {is_out''} {count''} given = record {
-    inside = none_out directory schema world header told disk_told Disk disk0 count0 seats is_out' is_out''
+    inside = none_out directory schema world header told Disk disk0 count0 seats is_out' is_out''
         (λ name. refused.out name ∙ so_far.out name) given.inside given.others_out;
     same = λ t.
-        all_same directory schema world header told disk_told Disk disk0 count0 t (take i users) seats so_far.are disk'' count'' given.back
+        all_same directory schema world header told Disk disk0 count0 t (take i users) seats so_far.are disk'' count'' given.back
         (λ name none. (
           ap (bytes_on Disk.reads) (given.disks name none) ∙ refused.bytes t name ∙ ap (bytes_on Disk.reads) (so_far.disks name none),
           λ crash left. subst (λ d. image_on Disk.image d crash) (so_far.disks name none)
               (refused.images t name crash (subst (λ d. image_on Disk.image d crash) (given.disks name none) left)),
         ));
     disks = λ name none.
-        let apart = no_journal directory schema world header told disk_told Disk disk0 count0 differ users distinct i user low is seats disk is_out count
+        let apart = no_journal directory schema world header told Disk disk0 count0 differ users distinct i user low is seats disk is_out count
         so_far name none in
         given.disks name apart.0 ∙ refused.disks name apart.1 ∙ so_far.disks name apart.0;
     counts = λ name.
         let first = so_far.counts name in
         let second = refused.fell name in
-        let third = none_fell directory schema world header told disk_told Disk disk0 count0 count' count'' seats refused_can.later disk'' given.back
+        let third = none_fell directory schema world header told Disk disk0 count0 count' count'' seats refused_can.later disk'' given.back
         given.counts name in
         omega (arith, first, second, third);
   }
@@ -360,10 +360,10 @@ module _ {directory : Text} {schema : DatabaseSchema} {world : FactSet} {header 
 -- ---- the seats of all users
 
 -- behind an opening of all journals, which changed no count
-pub record AllSeated (directory : Text) (schema : DatabaseSchema) (world : FactSet) (header : List ℕ) {D : Type 0} {g h : _} (told disk_told : Type 0)
+pub record AllSeated (directory : Text) (schema : DatabaseSchema) (world : FactSet) (header : List ℕ) {D : Type 0} {g h : _} (told : Type 0)
     (Disk : DiskGhosts D) (users : List User) (seats : List (DeskSeat D g h)) (disk disk' : Text → Option D) (is_out' : Text → Bool)
     (count count' : Text → ℕ) : Type 0 where
-  pub are : AreSeatsOf told Disk disk_told schema world header directory disk count users seats
+  pub are : AreSeatsOf told Disk schema world header directory disk count users seats
   pub journals_are : journals seats ≡ registered_journals directory users
   pub distinct : has_duplicate (journals seats) ≡ false
   pub served : AllByRecursion (IsSeatServed schema world header) seats
@@ -374,27 +374,27 @@ pub record AllSeated (directory : Text) (schema : DatabaseSchema) (world : FactS
   pub disks : SameBeside (registered_journals directory users) disk disk'
   pub counts : SameNames count count'
 
-pub all_seated : (directory : Text) (schema : DatabaseSchema) (world : FactSet) (header : List ℕ) {D : Type 0} {g h : _} (told disk_told : Type 0)
+pub all_seated : (directory : Text) (schema : DatabaseSchema) (world : FactSet) (header : List ℕ) {D : Type 0} {g h : _} (told : Type 0)
     (Disk : DiskGhosts D) (users : List User) (seats : List (DeskSeat D g h)) (disk disk' : Text → Option D) (is_out' : Text → Bool) (count count' : Text → ℕ)
-    → JournalsDiffer → HaveOwnNames users → AreSeatsOf told Disk disk_told schema world header directory disk count users seats
+    → JournalsDiffer → HaveOwnNames users → AreSeatsOf told Disk schema world header directory disk count users seats
     → AreOut (journals seats) is_out' → SameBeside (registered_journals directory users) disk disk' → SameNames count count'
-    → AllSeated directory schema world header told disk_told Disk users seats disk disk' is_out' count count'
-all_seated directory schema world header told disk_told Disk users seats disk disk' is_out' count count' differ distinct are out disks counts = record {
+    → AllSeated directory schema world header told Disk users seats disk disk' is_out' count count'
+all_seated directory schema world header told Disk users seats disk disk' is_out' count count' differ distinct are out disks counts = record {
   are = are;
-  journals_are = seat_journals directory schema world header told disk_told Disk disk count users seats are;
-  distinct = seats_distinct directory schema world header told disk_told Disk disk count differ users seats are distinct;
-  served = seats_served directory schema world header told disk_told Disk disk count users seats are;
-  many = same_length directory schema world header told disk_told Disk disk count users seats are;
+  journals_are = seat_journals directory schema world header told Disk disk count users seats are;
+  distinct = seats_distinct directory schema world header told Disk disk count differ users seats are distinct;
+  served = seats_served directory schema world header told Disk disk count users seats are;
+  many = same_length directory schema world header told Disk disk count users seats are;
   out = out;
-  first = seats_later directory schema world header told disk_told Disk disk count count users seats (λ name. refl) are;
-  later = seats_later directory schema world header told disk_told Disk disk count count' users seats counts are;
+  first = seats_later directory schema world header told Disk disk count count users seats (λ name. refl) are;
+  later = seats_later directory schema world header told Disk disk count count' users seats counts are;
   disks = disks;
   counts = counts;
 }
 
-module _ {directory : Text} {schema : DatabaseSchema} {world : FactSet} {header : List ℕ} {D : Type 0} {g h : _} {told disk_told : Type 0} {Disk : DiskGhosts D}
+module _ {directory : Text} {schema : DatabaseSchema} {world : FactSet} {header : List ℕ} {D : Type 0} {g h : _} {told : Type 0} {Disk : DiskGhosts D}
     {users : List User} {seats : List (DeskSeat D g h)} {disk disk' : Text → Option D} {is_out' : Text → Bool} {count count' : Text → ℕ}
-    (seated : AllSeated directory schema world header told disk_told Disk users seats disk disk' is_out' count count') (news : List (DeskSeat D g h))
+    (seated : AllSeated directory schema world header told Disk users seats disk disk' is_out' count count') (news : List (DeskSeat D g h))
     (same : journals news ≡ journals seats) (later : AreLater Disk.faults count' news) where
   -- seats that took the place of these can be given back
   pub seats_can : CanGive Disk news is_out' count'
@@ -410,8 +410,8 @@ module _ {directory : Text} {schema : DatabaseSchema} {world : FactSet} {header 
       → AllReturned (registered_journals directory users) disk disk'' is_out'' count count''
   all_returned {disk''} {is_out''} {count''} given = record {
     disks = λ name none. given.disks name (ap (λ ns. is_among ns name) (same ∙ seated.journals_are) ∙ none) ∙ seated.disks name none;
-    inside = none_out directory schema world header told disk_told Disk disk count news is_out' is_out''
+    inside = none_out directory schema world header told Disk disk count news is_out' is_out''
         (subst (λ ns. AreOut ns is_out') (sym same) seated.out) given.inside given.others_out;
     counts = λ name. subst (λ n. n ≤ count'' name) (seated.counts name)
-        (none_fell directory schema world header told disk_told Disk disk count count' count'' news later disk'' given.back given.counts name);
+        (none_fell directory schema world header told Disk disk count count' count'' news later disk'' given.back given.counts name);
   }

@@ -7,7 +7,7 @@ use Rattle.outside.specs.declared.disk.Disk.{Ghosts as DiskGhosts}
 use Rattle.cqe_base.specs.Schema.{Text, DatabaseSchema, has_duplicate}
 use Rattle.cqe_base.specs.Facts.{FactSet}
 use Rattle.cqe_base.proofs.Truths.{or_first, or_second}
-use Rattle.desk_crew.specs.Crew.{seat_journal, seat_disk, IsLeft, IsLeftBy, IsClosed, IsReopened, AreReopened}
+use Rattle.desk_crew.specs.Crew.{seat_journal, seat_disk, IsLeft, IsLeftBy, IsReopened, AreReopened}
 use Rattle.desk_crew.specs.Shelved.{journals, AreBack, AreLater}
 use Rattle.desk_crew.specs.Seats.{DeskSeat}
 use Rattle.cqe_base.proofs.Lists.{text_is}
@@ -15,26 +15,26 @@ use Rattle.desk_crew.proofs.Shelving.{Parts, parts, among-append, journals-appen
 use Rattle.desk_crew.proofs.Shelving.{among_first, among_second, among_none_first, among_none_second, beside_one}
 use Rattle.desk_crew.proofs.Giving.{CanGive, AreGiven, IsGiven}
 
-module _ (schema : DatabaseSchema) (world : FactSet) (header : List ℕ) {D : Type 0} {g h : _} (told shelf_told : Type 0) (Disk : DiskGhosts D) where
+module _ (schema : DatabaseSchema) (world : FactSet) (header : List ℕ) {D : Type 0} {g h : _} (Disk : DiskGhosts D) where
   -- these seats were closed and opened again, and those are still to be
   pub record Halfway (all seats reopened : List (DeskSeat D g h)) : Type 0 where
     pub done : List (DeskSeat D g h)
     pub split : all ≡ done ++ seats
-    pub are : AreReopened schema world header told Disk done reopened
+    pub are : AreReopened schema world header Disk done reopened
 
   pub halfway_first : (all reopened : List (DeskSeat D g h)) → reopened ≡ [] → Halfway all all reopened
-  halfway_first all reopened none = record { done = []; split = refl; are = subst (AreReopened schema world header told Disk []) (sym none) tt }
+  halfway_first all reopened none = record { done = []; split = refl; are = subst (AreReopened schema world header Disk []) (sym none) tt }
 
-  reopened-push : (done news : List (DeskSeat D g h)) (old new : DeskSeat D g h) → AreReopened schema world header told Disk done news
-      → IsReopened schema world header told Disk old new
-      → AreReopened schema world header told Disk (done ++ old ∷ []) (news ++ new ∷ [])
+  reopened-push : (done news : List (DeskSeat D g h)) (old new : DeskSeat D g h) → AreReopened schema world header Disk done news
+      → IsReopened schema world header Disk old new
+      → AreReopened schema world header Disk (done ++ old ∷ []) (news ++ new ∷ [])
   reopened-push [] [] old new are is = (is, tt)
   reopened-push [] (n ∷ news) old new are is = absurd are
   reopened-push (d ∷ done) [] old new are is = absurd are
   reopened-push (d ∷ done) (n ∷ news) old new are is = (are.0, reopened-push done news old new are.1 is)
 
   pub halfway_more : (all seats rest reopened : List (DeskSeat D g h)) (old new : DeskSeat D g h) → seats ≡ old ∷ rest → Halfway all seats reopened
-      → IsReopened schema world header told Disk old new → Halfway all rest (reopened ++ new ∷ [])
+      → IsReopened schema world header Disk old new → Halfway all rest (reopened ++ new ∷ [])
   halfway_more all seats rest reopened old new is half again = record {
     done = half.done ++ old ∷ [];
     split = half.split ∙ ap (λ l. half.done ++ l) is ∙ sym (append_assoc half.done (old ∷ []) rest);
@@ -42,19 +42,19 @@ module _ (schema : DatabaseSchema) (world : FactSet) (header : List ℕ) {D : Ty
   }
 
   pub halfway_all : (all seats reopened : List (DeskSeat D g h)) → seats ≡ [] → Halfway all seats reopened
-      → AreReopened schema world header told Disk all reopened
+      → AreReopened schema world header Disk all reopened
   halfway_all all seats reopened none half =
-      subst (λ l. AreReopened schema world header told Disk l reopened)
+      subst (λ l. AreReopened schema world header Disk l reopened)
       (sym (half.split ∙ ap (λ l. half.done ++ l) none ∙ append-nil half.done)) half.are
 
   -- a seat's names go on
-  pub same_journals : (olds news : List (DeskSeat D g h)) → AreReopened schema world header told Disk olds news → journals news ≡ journals olds
+  pub same_journals : (olds news : List (DeskSeat D g h)) → AreReopened schema world header Disk olds news → journals news ≡ journals olds
   same_journals [] [] are = refl
   same_journals [] (n ∷ news) are = absurd are
   same_journals (o ∷ olds) [] are = absurd are
   same_journals (o ∷ olds) (n ∷ news) are = ap (λ j. j ∷ journals news) are.0.journal_is ∙ ap (λ js. seat_journal o ∷ js) (same_journals olds news are.1)
 
-  pub later_reopened : (count : Text → ℕ) (olds news : List (DeskSeat D g h)) → AreReopened schema world header told Disk olds news
+  pub later_reopened : (count : Text → ℕ) (olds news : List (DeskSeat D g h)) → AreReopened schema world header Disk olds news
       → AreLater Disk.faults count olds → AreLater Disk.faults count news
   later_reopened count [] [] are later = tt
   later_reopened count [] (n ∷ news) are later = absurd are
@@ -65,56 +65,35 @@ module _ (schema : DatabaseSchema) (world : FactSet) (header : List ℕ) {D : Ty
       let on = are.0.left.later in
       (subst (λ j. count j ≤ Disk.faults (seat_disk n)) (sym are.0.journal_is) (omega (arith, first, closed, on)), later_reopened count olds news are.1 later.1)
 
-  -- what a closed desk shows where the shelf tells its disks
-  closed_told : (shelf_told → told) → (seat : DeskSeat D g h) (disk : D) → IsClosed told Disk seat.desk disk
-      → IsClosed shelf_told Disk seat.desk disk
-  closed_told tells seat disk closed =
-      record {
-        holds = λ t. closed.holds (tells t);
-        legal = closed.legal;
-        added = closed.added;
-        items = closed.items;
-        idle = closed.idle;
-        later = closed.later;
-        cause =
-            closed.cause;
-        size = λ t. closed.size (tells t);
-        shut = closed.shut;
-        still = closed.still;
-        since = λ t. closed.since (tells t);
-        time = closed.time;
-      }
-
   -- where the disks of reopened seats are back, those of the seats before are
-  back_before : (shelf_told → told) → (disk : Text → Option D) (count : Text → ℕ) (olds news : List (DeskSeat D g h))
-      → AreReopened schema world header told Disk olds news → AreBack shelf_told Disk disk count news
-      → AreBack shelf_told Disk disk count olds
-  back_before tells disk count [] [] are back = tt
-  back_before tells disk count [] (n ∷ news) are back = absurd are
-  back_before tells disk count (o ∷ olds) [] are back = absurd are
-  back_before tells disk count (o ∷ olds) (n ∷ news) are back = (
+  back_before : (told : Type 0) (disk : Text → Option D) (count : Text → ℕ) (olds news : List (DeskSeat D g h))
+      → AreReopened schema world header Disk olds news → AreBack told Disk disk count news → AreBack told Disk disk count olds
+  back_before told disk count [] [] are back = tt
+  back_before told disk count [] (n ∷ news) are back = absurd are
+  back_before told disk count (o ∷ olds) [] are back = absurd are
+  back_before told disk count (o ∷ olds) (n ∷ news) are back = (
     record {
       now = back.0.now;
       left = record {
         closed = are.0.closed;
-        is_closed = closed_told tells o are.0.closed are.0.is_closed;
+        is_closed = are.0.is_closed;
         left = left_on Disk are.0.closed (seat_disk n) back.0.now are.0.left
             (subst (λ d. IsLeft Disk d back.0.now) (back.0.left.is_closed.still are.0.opened.fresh) back.0.left.left);
       };
       held = λ t. ap disk (sym are.0.journal_is) ∙ back.0.held t;
       counted = ap count (sym are.0.journal_is) ∙ back.0.counted;
     },
-    back_before tells disk count olds news are.1 back.1,
+    back_before told disk count olds news are.1 back.1,
   )
 
 -- ---- memory was wanting at one seat
 
-module _ {schema : DatabaseSchema} {world : FactSet} {header : List ℕ} {D : Type 0} {g h : _} {told shelf_told : Type 0} {Disk : DiskGhosts D} where
+module _ {schema : DatabaseSchema} {world : FactSet} {header : List ℕ} {D : Type 0} {g h : _} {Disk : DiskGhosts D} where
   module _ {all seats rest reopened : List (DeskSeat D g h)} {seat : DeskSeat D g h} (is : seats ≡ seat ∷ rest)
-      (half : Halfway schema world header told shelf_told Disk all seats reopened)
+      (half : Halfway schema world header Disk all seats reopened)
       {out0 : Text → Bool} {count0 : Text → ℕ} (can : CanGive Disk all out0 count0) where
     same : journals reopened ≡ journals half.done
-    same = same_journals schema world header told shelf_told Disk half.done reopened half.are
+    same = same_journals schema world header Disk half.done reopened half.are
 
     abbrev here : Text
     here = seat_journal seat
@@ -141,14 +120,13 @@ module _ {schema : DatabaseSchema} {world : FactSet} {header : List ℕ} {D : Ty
     fail_out = can.out here (among_all here (among_second (journals half.done) (here ∷ journals rest) here among_here))
 
     pub fail_later : count0 here ≤ Disk.faults (seat_disk seat)
-    fail_later = (later-second shelf_told Disk count0 half.done (seat ∷ rest) all_later).0
+    fail_later = (later-second Disk count0 half.done (seat ∷ rest) all_later).0
 
     here_apart : is_among (journals rest) here ≡ false
     here_apart = or_first _ _ two.second
 
-    module _ {returned : D} {disk0 disk1 : Text → Option D} {out1 : Text → Bool} {count1 : Text → ℕ} {one : Text} (named : one ≡ here)
-        (tells : shelf_told → told) (left : IsLeftBy told Disk seat.desk returned)
-        (first : IsGiven shelf_told Disk one returned disk0 disk1 out0 out1 count0 count1) where
+    module _ {told : Type 0} {returned : D} {disk0 disk1 : Text → Option D} {out1 : Text → Bool} {count1 : Text → ℕ} {one : Text} (named : one ≡ here)
+        (left : IsLeftBy Disk seat.desk returned) (first : IsGiven told Disk one returned disk0 disk1 out0 out1 count0 count1) where
       one_apart : is_among (journals rest) one ≡ false
       one_apart = ap (is_among (journals rest)) named ∙ here_apart
 
@@ -159,12 +137,12 @@ module _ {schema : DatabaseSchema} {world : FactSet} {header : List ℕ} {D : Ty
         out = λ name among.
             beside_one one (journals rest) out0 out1 one_apart first.others_out name among
             ∙ can.out name (among_all name (among_second (journals half.done) (here ∷ journals rest) name (among_rest name among)));
-        later = later_on shelf_told Disk count0 count1 rest (beside_one one (journals rest) count0 count1 one_apart first.counts)
-            (later-second shelf_told Disk count0 half.done (seat ∷ rest) all_later).1;
+        later = later_on Disk count0 count1 rest (beside_one one (journals rest) count0 count1 one_apart first.counts)
+            (later-second Disk count0 half.done (seat ∷ rest) all_later).1;
       }
 
       module _ {disk2 : Text → Option D} {out2 : Text → Bool} {count2 : Text → ℕ}
-          (second : AreGiven shelf_told Disk rest disk1 disk2 out1 out2 count1 count2) where
+          (second : AreGiven told Disk rest disk1 disk2 out1 out2 count1 count2) where
         done_apart : is_among (journals half.done) one ≡ false
         done_apart = ap (is_among (journals half.done)) named ∙ two.apart_back here among_here
 
@@ -185,13 +163,13 @@ module _ {schema : DatabaseSchema} {world : FactSet} {header : List ℕ} {D : Ty
               ap (λ ns. is_among ns name) (sym same) ∙ among in
               done_same out0 out1 out2 first.others_out second.others_out name was
               ∙ can.out name (among_all name (among_first (journals half.done) (here ∷ journals rest) name was));
-          later = later_reopened schema world header told shelf_told Disk count2 half.done reopened half.are
-              (later_on shelf_told Disk count0 count2 half.done (done_same count0 count1 count2 first.counts second.counts)
-              (later-first shelf_told Disk count0 half.done (seat ∷ rest) all_later));
+          later = later_reopened schema world header Disk count2 half.done reopened half.are
+              (later_on Disk count0 count2 half.done (done_same count0 count1 count2 first.counts second.counts)
+              (later-first Disk count0 half.done (seat ∷ rest) all_later));
         }
 
         module _ {disk3 : Text → Option D} {out3 : Text → Bool} {count3 : Text → ℕ}
-            (third : AreGiven shelf_told Disk reopened disk2 disk3 out2 out3 count2 count3) where
+            (third : AreGiven told Disk reopened disk2 disk3 out2 out3 count2 count3) where
           beside_done : {A : Type 0} (f2 f3 : Text → A) → SameBeside (journals reopened) f2 f3 → SameBeside (journals half.done) f2 f3
           beside_done f2 f3 beside = subst (λ ns. SameBeside ns f2 f3) same beside
 
@@ -230,22 +208,18 @@ module _ {schema : DatabaseSchema} {world : FactSet} {header : List ℕ} {D : Ty
               by_done false none = by_here (bytes_eq name here) refl none
 
           -- all disks are back
-          pub all_given : AreGiven shelf_told Disk all disk0 disk3 out0 out3 count0 count3
+          pub all_given : AreGiven told Disk all disk0 disk3 out0 out3 count0 count3
           all_given = record {
-            back = subst (AreBack shelf_told Disk disk3 count3) (sym (half.split ∙ ap (λ l. half.done ++ l) is))
-                (back-append shelf_told Disk disk3 count3 half.done (seat ∷ rest)
-                (back_before schema world header told shelf_told Disk tells disk3 count3 half.done reopened half.are third.back) (
+            back = subst (AreBack told Disk disk3 count3) (sym (half.split ∙ ap (λ l. half.done ++ l) is))
+                (back-append told Disk disk3 count3 half.done (seat ∷ rest)
+                (back_before schema world header Disk told disk3 count3 half.done reopened half.are third.back) (
                   record {
                     now = returned;
-                    left = record {
-                      closed = left.closed;
-                      is_closed = closed_told schema world header told shelf_told Disk tells seat left.closed left.is_closed;
-                      left = left.left;
-                    };
+                    left = left;
                     held = λ t. here_same disk1 disk2 disk3 second.disks third.disks ∙ ap disk1 (sym named) ∙ first.held t;
                     counted = here_same count1 count2 count3 second.counts third.counts ∙ ap count1 (sym named) ∙ first.counted;
                   },
-                  back_on shelf_told Disk disk2 disk3 count2 count3 rest (rest_same disk2 disk3 third.disks) (rest_same count2 count3 third.counts)
+                  back_on told Disk disk2 disk3 count2 count3 rest (rest_same disk2 disk3 third.disks) (rest_same count2 count3 third.counts)
                       second.back,
                 ));
             inside = λ name among. in_all name (sym (ap (λ ns. is_among ns name) names) ∙ among);

@@ -26,7 +26,7 @@ use Rattle.censors.specs.Admitting.{admission_of}
 use Rattle.desk_crew.specs.Crew.{first_refusal, seat_user, seat_kept, seat_standing, seat_history, seat_state, seat_disk, IsOpenedFrom}
 use Rattle.desk_crew.specs.Seats.{DeskSeat}
 
-module _ {D : Type 0} {g h : _} (schema : DatabaseSchema) (world : FactSet) (header : List ℕ) (told : Type 0) (Disk : DiskGhosts D) (desk : Desk D g)
+module _ {D : Type 0} {g h : _} (schema : DatabaseSchema) (world : FactSet) (header : List ℕ) (Disk : DiskGhosts D) (desk : Desk D g)
     (seat : DeskSeat D g h)
     (kept : seat_kept seat ≡ fixed_of desk) (entries : seat_history seat ≡ desk_history desk) (flies : flying (pairs_of_sole seat.desk) ≡ entry_in_flight desk)
     (first : first_pairs (counter_in seat.desk) ≡ pairs_of_sole seat.desk) (none_own : mine (pass_in seat.desk) ≡ [])
@@ -43,17 +43,17 @@ module _ {D : Type 0} {g h : _} (schema : DatabaseSchema) (world : FactSet) (hea
   -- it is a seat that was opened from its disk
   pub opened_seat : (disk : D) (before : Option DeskError) → desk_schema desk ≡ schema → desk_world desk ≡ world → desk_user desk ≡ profile_of (seat_user seat)
       → desk_header desk ≡ header → seat.admission ≡ admission_of schema world (profile_of (seat_user seat))
-      → IsStanding schema world (profile_of (seat_user seat)) told header (Disk.reads disk) (desk_history desk) (Disk.faults disk) (Disk.faults
+      → IsStanding schema world (profile_of (seat_user seat)) Disk.tells header (Disk.reads disk) (desk_history desk) (Disk.faults disk) (Disk.faults
       (desk_disk desk))
       (desk_standing desk)
-      → (told → (state : UserState) → Holds schema world (profile_of (seat_user seat)) header state (Disk.reads disk)
+      → (Disk.tells → (state : UserState) → Holds schema world (profile_of (seat_user seat)) header state (Disk.reads disk)
       → Restarts schema world (profile_of (seat_user seat)) (IsIn desk) state (Disk.faults disk) (Disk.faults (desk_disk desk)))
       → is_broken_desk desk ≡ false → opening_history desk ≡ desk_history desk → opening_disk desk ≡ desk_disk desk
       → seat.refusal ≡ first_refusal before (desk_standing desk)
-      → (told → is_sealed (desk_standing desk) ≡ false → (c : List ℕ) → Disk.image (desk_disk desk) c
+      → (Disk.tells → is_sealed (desk_standing desk) ≡ false → (c : List ℕ) → Disk.image (desk_disk desk) c
       → Holds (desk_schema desk) (desk_world desk) (desk_user desk) (desk_header desk) (state_of desk) c)
       → IsLegal (desk_schema desk) (desk_world desk) (desk_user desk) (desk_history desk)
-      → IsOpenedFrom schema world header told Disk disk before seat
+      → IsOpenedFrom schema world header Disk disk before seat
   opened_seat disk before schema_is world_is user_is header_is admission_is standing restarted whole opening opened refusal images legal =
       let disk_is : seat_disk seat ≡ desk_disk desk = ap (λ (f : Fixed D). f.disk) kept ∙ opened in
       record {
@@ -65,14 +65,14 @@ module _ {D : Type 0} {g h : _} (schema : DatabaseSchema) (world : FactSet) (hea
           admission_is = admission_is;
         };
         standing = subst (λ (s : Standing).
-            IsStanding schema world (profile_of (seat_user seat)) told header (Disk.reads disk) (seat_history seat) (Disk.faults disk) (Disk.faults
+            IsStanding schema world (profile_of (seat_user seat)) Disk.tells header (Disk.reads disk) (seat_history seat) (Disk.faults disk) (Disk.faults
             (seat_disk seat)) s)
             (sym standing_is)
-            (subst (λ d. IsStanding schema world (profile_of (seat_user seat)) told header (Disk.reads disk) (seat_history seat) (Disk.faults disk)
+            (subst (λ d. IsStanding schema world (profile_of (seat_user seat)) Disk.tells header (Disk.reads disk) (seat_history seat) (Disk.faults disk)
             (Disk.faults d)
             (desk_standing desk)) (sym disk_is)
             (subst (λ (e : History).
-            IsStanding schema world (profile_of (seat_user seat)) told header (Disk.reads disk) e (Disk.faults disk) (Disk.faults (desk_disk desk))
+            IsStanding schema world (profile_of (seat_user seat)) Disk.tells header (Disk.reads disk) e (Disk.faults disk) (Disk.faults (desk_disk desk))
             (desk_standing desk))
             (sym entries) standing));
         restarted = λ t state holds.

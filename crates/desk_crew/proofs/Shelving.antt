@@ -147,13 +147,7 @@ module _ {D : Type 0} {g h : _} where
   pub journals-append : (xs ys : List (DeskSeat D g h)) → journals (xs ++ ys) ≡ journals xs ++ journals ys
   journals-append xs ys = map-append seat_journal xs ys
 
-  module _ (told : Type 0) (Disk : DiskGhosts D) where
-    pub back-append : (disk : Text → Option D) (count : Text → ℕ) (xs ys : List (DeskSeat D g h)) → AreBack told Disk disk count xs
-        → AreBack told Disk disk count ys
-        → AreBack told Disk disk count (xs ++ ys)
-    back-append disk count [] ys first second = second
-    back-append disk count (x ∷ xs) ys first second = (first.0, back-append disk count xs ys first.1 second)
-
+  module _ (Disk : DiskGhosts D) where
     pub later-first : (count : Text → ℕ) (xs ys : List (DeskSeat D g h)) → AreLater Disk.faults count (xs ++ ys) → AreLater Disk.faults count xs
     later-first count [] ys are = tt
     later-first count (x ∷ xs) ys are = (are.0, later-first count xs ys are.1)
@@ -161,6 +155,21 @@ module _ {D : Type 0} {g h : _} where
     pub later-second : (count : Text → ℕ) (xs ys : List (DeskSeat D g h)) → AreLater Disk.faults count (xs ++ ys) → AreLater Disk.faults count ys
     later-second count [] ys are = are
     later-second count (x ∷ xs) ys are = later-second count xs ys are.1
+
+    pub later_on : (count count' : Text → ℕ) (seats : List (DeskSeat D g h))
+        → ((name : Text) → is_among (journals seats) name ≡ true → count' name ≡ count name) → AreLater Disk.faults count seats
+        → AreLater Disk.faults count' seats
+    later_on count count' [] counts later = tt
+    later_on count count' (seat ∷ seats) counts later =
+        let same = counts (seat_journal seat) (or_left _ _ (text_is (seat_journal seat))) in
+        (subst (λ n. n ≤ Disk.faults (seat_disk seat)) (sym same) later.0, later_on count count' seats (λ name is. counts name (or_right _ _ is)) later.1)
+
+  module _ (told : Type 0) (Disk : DiskGhosts D) where
+    pub back-append : (disk : Text → Option D) (count : Text → ℕ) (xs ys : List (DeskSeat D g h)) → AreBack told Disk disk count xs
+        → AreBack told Disk disk count ys
+        → AreBack told Disk disk count (xs ++ ys)
+    back-append disk count [] ys first second = second
+    back-append disk count (x ∷ xs) ys first second = (first.0, back-append disk count xs ys first.1 second)
 
     -- what is back stays so where its names have the same as before
     pub back_on : (disk disk' : Text → Option D) (count count' : Text → ℕ) (seats : List (DeskSeat D g h))
@@ -178,14 +187,6 @@ module _ {D : Type 0} {g h : _} where
           },
           back_on disk disk' count count' seats (λ name is. disks name (or_right _ _ is)) (λ name is. counts name (or_right _ _ is)) back.1,
         )
-
-    pub later_on : (count count' : Text → ℕ) (seats : List (DeskSeat D g h))
-        → ((name : Text) → is_among (journals seats) name ≡ true → count' name ≡ count name) → AreLater Disk.faults count seats
-        → AreLater Disk.faults count' seats
-    later_on count count' [] counts later = tt
-    later_on count count' (seat ∷ seats) counts later =
-        let same = counts (seat_journal seat) (or_left _ _ (text_is (seat_journal seat))) in
-        (subst (λ n. n ≤ Disk.faults (seat_disk seat)) (sym same) later.0, later_on count count' seats (λ name is. counts name (or_right _ _ is)) later.1)
 
     -- ---- disks that are given back one after the other
 
@@ -229,7 +230,7 @@ module _ {D : Type 0} {g h : _} where
               apart = or_first _ _ two.second;
               among = ap (λ ns. is_among ns (seat_journal seat)) names
                   ∙ among_second (journals seats) (seat_journal seat ∷ journals given) (seat_journal seat) (or_left _ _ (text_is (seat_journal seat)));
-              counted = (later-second count0 seats (seat ∷ given) (subst (AreLater Disk.faults count0) whole later)).0;
+              counted = (later-second Disk count0 seats (seat ∷ given) (subst (AreLater Disk.faults count0) whole later)).0;
             }
 
         -- the next disk is out, and its count didn't fall
@@ -248,7 +249,7 @@ module _ {D : Type 0} {g h : _} where
         -- one more is back
         pub given_more : (counts_now : (d : D) (t : ℕ) (c : List ℕ) → t ≤ Disk.moment d → Disk.image d c → Disk.image_since d t c)
             (only_now : (d : D) (c : List ℕ) → Disk.image_since d (Disk.moment d) c → Disk.image d c)
-            (seats before : List (DeskSeat D g h)) (seat : DeskSeat D g h) (now : D) (closed : IsClosed told Disk seat.desk now)
+            (seats before : List (DeskSeat D g h)) (seat : DeskSeat D g h) (now : D) (closed : IsClosed Disk seat.desk now)
             (disk disk' : Text → Option D) (is_out is_out' : Text → Bool) (count count' : Text → ℕ) (one : Text) → one ≡ seat_journal seat
             → before ≡ seats ++ seat ∷ [] → Given before disk is_out count
             → (told → disk' one ≡ Some now) → SameOthers one disk disk' → is_out' one ≡ false → SameOthers one is_out is_out' → count' one ≡ Disk.faults now

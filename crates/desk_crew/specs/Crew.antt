@@ -116,17 +116,17 @@ pub record IsLeft {D : Type 0} (Disk : DiskGhosts D)
   pub rests : (c : List ℕ) → Disk.image_since new (Disk.moment old) c → Disk.image old c
 
 -- a desk leaves this disk as it is closed
-abbrev pub IsClosed : {D : Type 0} {g h : _} → Type 0 → DiskGhosts D
+abbrev pub IsClosed : {D : Type 0} {g h : _} → DiskGhosts D
     → SoleOf (TicketedDesk D g) TurnItem (Fixed D) h → D → Type 0
-IsClosed told Disk desk disk =
-    counter.IsClosed told Disk (kept_in desk) (first_pairs (counter_in desk)) (mine (pass_in desk))
+IsClosed Disk desk disk =
+    counter.IsClosed Disk (kept_in desk) (first_pairs (counter_in desk)) (mine (pass_in desk))
     (pairs_of_sole desk) disk
 
 -- a desk was closed, and an opening left its disk as this one
-pub record IsLeftBy {D : Type 0} {g h : _} (told : Type 0) (Disk : DiskGhosts D)
+pub record IsLeftBy {D : Type 0} {g h : _} (Disk : DiskGhosts D)
     (desk : SoleOf (TicketedDesk D g) TurnItem (Fixed D) h) (now : D) : Type 0 where
   pub closed : D
-  pub is_closed : IsClosed told Disk desk closed
+  pub is_closed : IsClosed Disk desk closed
   pub left : IsLeft Disk closed now
 
 module _ (schema : DatabaseSchema) (world : FactSet) where
@@ -164,16 +164,16 @@ module _ (schema : DatabaseSchema) (world : FactSet) (header : List ℕ) where
     pub user_is : (seat_kept seat).user ≡ profile_of (seat_user seat)
     pub admission_is : seat.admission ≡ admission_of schema world (profile_of (seat_user seat))
 
-  module _ {D : Type 0} (told : Type 0) (Disk : DiskGhosts D) where
+  module _ {D : Type 0} (Disk : DiskGhosts D) where
     -- a seat was opened from this disk, behind an earlier refusal if there was one: its standing
     -- has its cause, and it is a restart of each state that the disk holds
     pub record IsOpenedFrom {g h : _} (disk : D) (before : Option DeskError)
         (seat : DeskSeat D g h) : Type 0 where
       pub served : IsSeatServed seat
-      pub standing : IsStanding schema world (profile_of (seat_user seat)) told header
-          (Disk.reads disk)
-          (seat_history seat) (Disk.faults disk) (Disk.faults (seat_disk seat)) (seat_standing seat)
-      pub restarted : told → (state : UserState)
+      pub standing : IsStanding schema world (profile_of (seat_user seat)) Disk.tells header
+          (Disk.reads disk) (seat_history seat) (Disk.faults disk) (Disk.faults (seat_disk seat))
+          (seat_standing seat)
+      pub restarted : Disk.tells → (state : UserState)
           → Holds schema world (profile_of (seat_user seat)) header state (Disk.reads disk)
           → Restarts schema world (profile_of (seat_user seat)) (IsSeatIn seat) state
           (Disk.faults disk)
@@ -188,7 +188,7 @@ module _ (schema : DatabaseSchema) (world : FactSet) (header : List ℕ) where
       pub mine_is : mine (pass_in seat.desk) ≡ []
       pub turns_are : turns (pass_in seat.desk) ≡ 65 * 2 ^ 57
       -- each image of its disk holds the state that its desk shows, unless its journal was refused
-      pub holds : told → is_sealed (seat_standing seat) ≡ false → (c : List ℕ)
+      pub holds : Disk.tells → is_sealed (seat_standing seat) ≡ false → (c : List ℕ)
           → Disk.image (seat_disk seat) c
           → Holds schema world (profile_of (seat_user seat)) header (seat_state seat) c
 
@@ -197,7 +197,7 @@ module _ (schema : DatabaseSchema) (world : FactSet) (header : List ℕ) where
       pub user_is : seat_user new ≡ seat_user old
       pub journal_is : seat_journal new ≡ seat_journal old
       pub closed : D
-      pub is_closed : IsClosed told Disk old.desk closed
+      pub is_closed : IsClosed Disk old.desk closed
       pub opened : IsOpenedFrom closed old.refusal new
       pub left : IsLeft Disk closed (seat_disk new)
 

@@ -14,8 +14,8 @@ use Rattle.desk_crew.specs.Seats.{DeskSeat}
 -- The journals of users by their names, in a call: the bytes that were read of each as the call
 -- began, none where there was no disk, and what a crash could leave then; the count of its disk's
 -- faults then, and as the call ended; the bytes that are read then, and what a crash may leave; the
--- moment at which the call began, by the clock of its disk, where there was one; and what a crash
--- could leave at the moments since one of that clock, as the call ended.
+-- moments at which the call began and ended, by the clock of its disk, where there was one; and
+-- what a crash could leave at the moments since one of that clock, as the call ended.
 pub record Journals : Type 1 where
   pub bytes : Text → List ℕ
   pub image_before : Text → List ℕ → Type 0
@@ -24,6 +24,7 @@ pub record Journals : Type 1 where
   pub reads : Text → List ℕ
   pub image : Text → List ℕ → Type 0
   pub began : Text → Option ℕ
+  pub ended : Text → Option ℕ
   pub since : Text → ℕ → List ℕ → Type 0
 
 -- what a crash could leave of a disk at the moments since one of its clock; without a disk there
@@ -45,6 +46,7 @@ journals_by reads image moment since directory disk disk' count count' = record 
   reads = λ name. bytes_on reads (disk' (journal_name directory name));
   image = λ name. image_on image (disk' (journal_name directory name));
   began = λ name. option_map moment (disk (journal_name directory name));
+  ended = λ name. option_map moment (disk' (journal_name directory name));
   since = λ name. since_on since (disk' (journal_name directory name));
 }
 
@@ -66,6 +68,19 @@ pub record StandsAllAlong (journals : Journals) (name : Text) (is_opened : Bool)
   pub behind : is_opened ≡ true → (c : List ℕ) → journals.since name opening c → stands c
   pub never : is_opened ≡ false → (c : List ℕ) → journals.since name opening c
       → journals.image_before name c
+
+-- The journal of this name was closed at a moment of its disk's clock, not before it was first
+-- opened, at this one, and not behind the call's end. Since it was first opened a crash leaves
+-- bytes of the first kind, or such as it could leave since the journal was closed; and these are
+-- all of the second kind.
+pub record ClosedBehind (journals : Journals) (name : Text) (opening : ℕ)
+    (up_to since_then : List ℕ → Type 0) : Type 0 where
+  pub closing : ℕ
+  pub later : opening ≤ closing
+  pub within : IfSome (journals.ended name) (λ ended. closing ≤ ended)
+  pub before : (c : List ℕ) → journals.since name opening c
+      → up_to c ⊎ journals.since name closing c
+  pub behind : (c : List ℕ) → journals.since name closing c → since_then c
 
 -- the journal of this name reads as it did, and no crash leaves anything new of it
 abbrev pub KeepsJournal : Journals → Text → Type 0
@@ -97,7 +112,7 @@ module _ {D : Type 0} (told : Type 0) (Disk : DiskGhosts D) where
   pub record IsBack {g h : _} (disk : Text → Option D) (count : Text → ℕ) (seat : DeskSeat D g h) :
       Type 0 where
     pub now : D
-    pub left : IsLeftBy told Disk seat.desk now
+    pub left : IsLeftBy Disk seat.desk now
     pub held : told → disk (seat_journal seat) ≡ Some now
     pub counted : count (seat_journal seat) ≡ Disk.faults now
 
@@ -106,8 +121,7 @@ module _ {D : Type 0} (told : Type 0) (Disk : DiskGhosts D) where
   AreBack disk count [] = Unit {0}
   AreBack disk count (seat ∷ seats) = IsBack disk count seat × AreBack disk count seats
 
-  module _ (disk_told : Type 0) (schema : DatabaseSchema) (world : FactSet)
-      (header directory : List ℕ) where
+  module _ (schema : DatabaseSchema) (world : FactSet) (header directory : List ℕ) where
     -- a user's journal was taken from the shelf and opened
     pub record IsSeatOf {g h : _} (disk : Text → Option D) (count : Text → ℕ) (user : User)
         (seat : DeskSeat D g h) : Type 0 where
@@ -116,7 +130,7 @@ module _ {D : Type 0} (told : Type 0) (Disk : DiskGhosts D) where
       pub taken : D
       pub from : told → IsTaken Disk.reads Disk.image (disk (seat_journal seat)) taken
       pub counted : Disk.faults taken ≡ count (seat_journal seat)
-      pub opened : IsOpenedFrom schema world header disk_told Disk taken None seat
+      pub opened : IsOpenedFrom schema world header Disk taken None seat
       pub left : IsLeft Disk taken (seat_disk seat)
 
     -- those of all users were

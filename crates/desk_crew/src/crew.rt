@@ -98,9 +98,7 @@ pub fn reopen_all<'w, F: Shelf>(
     requires later { AreLater F.D.faults (F.disk_faults shelf.old) seats.items }
     ensures reopened { IfSome result (λ reopened.
         AreReopened registry.now.schema.now registry.now.world.now
-        (header_bytes registry.now.header.now) F.D.tells F.D.Disk
-        seats.entry.items
-        reopened.items) }
+        (header_bytes registry.now.header.now) F.D.Disk seats.entry.items reopened.items) }
     ensures untouched { OnSome result (shelf.new ≡ shelf.old) }
     ensures back { IfNone result (AreBack F.tells F.D.Disk (F.disk shelf.new)
         (F.disk_faults shelf.new) seats.entry.items) }
@@ -149,9 +147,8 @@ fn open_seat<'w, F: Shelf>(
         (journal_name registry.now.directory.now (string_bytes user.now.name))
         ≡ false }
     ensures opened { IfOk result
-        (IsSeatOf F.tells F.D.Disk F.D.tells registry.now.schema.now
-        registry.now.world.now (header_bytes registry.now.header.now) registry.now.directory.now
-        (F.disk shelf.old)
+        (IsSeatOf F.tells F.D.Disk registry.now.schema.now registry.now.world.now
+        (header_bytes registry.now.header.now) registry.now.directory.now (F.disk shelf.old)
         (F.disk_faults shelf.old) user.now) }
     ensures out { OnOk result
         (F.is_out shelf.new (journal_name registry.now.directory.now (string_bytes user.now.name))
@@ -211,10 +208,9 @@ pub fn open_all<'w, F: Shelf>(
     requires distinct { HaveOwnNames registry.now.users.now }
     requires inside { NoneOut (F.is_out shelf.old) }
     ensures opened { IfOk result (λ seats.
-        AreSeatsOf F.tells F.D.Disk F.D.tells
-        registry.now.schema.now registry.now.world.now
-        (header_bytes registry.now.header.now) registry.now.directory.now
-        (F.disk shelf.old) (F.disk_faults shelf.old) registry.now.users.now seats.items) }
+        AreSeatsOf F.tells F.D.Disk registry.now.schema.now registry.now.world.now
+        (header_bytes registry.now.header.now) registry.now.directory.now (F.disk shelf.old)
+        (F.disk_faults shelf.old) registry.now.users.now seats.items) }
     ensures out { IfOk result (λ seats. AreOut (journals seats.items) (F.is_out shelf.new)) }
     ensures disks { SameBeside
         (registered_journals registry.now.directory.now registry.now.users.now) (F.disk shelf.old)

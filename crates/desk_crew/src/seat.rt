@@ -72,7 +72,7 @@ pub(crate) fn seat_at<'w, D: Disk>(
     requires admission { admission
         ≡ admission_of registry.now.schema.now registry.now.world.now (profile_of user.now) }
     ensures opened { IfOk result (IsOpenedFrom registry.now.schema.now registry.now.world.now
-        (header_bytes registry.now.header.now) D.tells D.Disk disk before) }
+        (header_bytes registry.now.header.now) D.Disk disk before) }
     ensures user { IfOk result (λ seat. seat_user seat ≡ user.now) }
     ensures journal { journal_seated result ≡ string_bytes journal }
     ensures left { IsLeft D.Disk disk (disk_seated result) }
@@ -128,7 +128,7 @@ pub(crate) fn settle_at<R: Wait, G: Gate, D: Disk>(
 
 /// Closes a desk: its disk, and whether an append to it failed.
 pub(crate) fn close_desk<D: Disk>(desk: SoleCounter<'_, D>) -> (D, bool)
-    ensures closed { IsClosed D.tells D.Disk desk.entry result.0 }
+    ensures closed { IsClosed D.Disk desk.entry result.0 }
     ensures broke { result.1 ≡ has_broke (pairs_of_sole desk.entry) }
 {
     let desk = desk.close();
@@ -146,9 +146,9 @@ pub(crate) fn reopen<'w, D: Disk>(
     requires served { IsSeatServed registry.now.schema.now registry.now.world.now
         (header_bytes registry.now.header.now) seat }
     ensures reopened { IfOk result (IsReopened registry.now.schema.now registry.now.world.now
-        (header_bytes registry.now.header.now) D.tells D.Disk seat.entry) }
+        (header_bytes registry.now.header.now) D.Disk seat.entry) }
     ensures journal { journal_seated result ≡ seat_journal seat.entry }
-    ensures left { IsLeftBy D.tells D.Disk seat.entry.desk (disk_seated result) }
+    ensures left { IsLeftBy D.Disk seat.entry.desk (disk_seated result) }
 {
     let (disk, _) = close_desk(seat.desk);
     seat_at(

@@ -86,16 +86,16 @@ open_admits schema world user T header bytes entries before now Open is serves =
 open_admits schema world user T header bytes entries before now (Closed admission) is serves = absurd cc
 open_admits schema world user T header bytes entries before now (Sealed why) is serves = absurd cc
 
-module _ (schema : DatabaseSchema) (world : FactSet) (header directory : List ℕ) {D : Type 0} {g h : _} (T S : Type 0) (t : T) (s : S) (Disk : DiskGhosts D)
-    (read_is_image : (d : D) → T → Disk.image d (Disk.reads d)) (disk disk' : Text → Option D) (count count' : Text → ℕ) where
+module _ (schema : DatabaseSchema) (world : FactSet) (header directory : List ℕ) {D : Type 0} {g h : _} (S : Type 0) (s : S) (Disk : DiskGhosts D)
+    (t : Disk.tells) (read_is_image : (d : D) → Disk.tells → Disk.image d (Disk.reads d)) (disk disk' : Text → Option D) (count count' : Text → ℕ) where
   abbrev Opened : User → DeskSeat D g h → Type 0
-  Opened user seat = IsSeatOf S Disk T schema world header directory disk count user seat
+  Opened user seat = IsSeatOf S Disk schema world header directory disk count user seat
 
   abbrev Back : DeskSeat D g h → Type 0
   Back seat = IsBack S Disk disk' count' seat
 
   -- a desk whose journal was refused, or at which nothing was appended, leaves the disk of its opening
-  left_alone : (seat : DeskSeat D g h) (after : D) → IsClosed S Disk seat.desk after → (is_sealed (seat_standing seat) ≡ true)
+  left_alone : (seat : DeskSeat D g h) (after : D) → IsClosed Disk seat.desk after → (is_sealed (seat_standing seat) ≡ true)
       ⊎ ((seat_history seat ≡ (seat_kept seat).opening) × (seat_broke seat ≡ false)) → after ≡ (seat_kept seat).disk
   left_alone seat after closed (inl sealed) = closed.shut sealed
   left_alone seat after closed (inr (same, unbroken)) =
@@ -126,17 +126,17 @@ module _ (schema : DatabaseSchema) (world : FactSet) (header directory : List �
       (subst (λ (f : Fixed D). Elapses (Disk.moment f.disk) (Disk.moment closed) (Disk.image_since f.disk) (Disk.image_since closed)) on.kept_is is.time)
       (subst (λ o. Elapses (Disk.moment closed) (Disk.moment back.now) (Disk.image_since closed) (since_on Disk.image_since o)) (sym held) back.left.left.time)
       (λ c here. back.left.left.rests c (subst (λ o. since_on Disk.image_since o (Disk.moment closed) c) held here))
-      (λ served c here. as_ours c (is.since s served c (subst (λ (f : Fixed D). Disk.image_since closed (Disk.moment f.disk) c) (sym on.kept_is) here)))
+      (λ served c here. as_ours c (is.since t served c (subst (λ (f : Fixed D). Disk.image_since closed (Disk.moment f.disk) c) (sym on.kept_is) here)))
       (λ served c here. as_ours c
       (holds_within (seat_kept new).schema (seat_kept new).world (seat_kept new).user (seat_kept new).header (seat_history new) (seat_state new).standing
-      (flying (pairs_of_sole new.desk)) (length (seat_kept new).opening) c more (is.holds s served c here)))
+      (flying (pairs_of_sole new.desk)) (length (seat_kept new).opening) c more (is.holds t served c here)))
       (λ sealed c here. opened.left.rests c (subst (λ d. Disk.image_since d (Disk.moment opened.taken) c) (same sealed) here))
       (λ sealed c here. opened.left.images c (subst (λ d. Disk.image d c) (same sealed) here))
     where
       closed : D
       closed = back.left.closed
 
-      is : IsClosed S Disk new.desk back.left.closed
+      is : IsClosed Disk new.desk back.left.closed
       is = back.left.is_closed
 
       held : disk' (journal_name directory (string_bytes user.name)) ≡ Some back.now
@@ -194,25 +194,25 @@ module _ (schema : DatabaseSchema) (world : FactSet) (header directory : List �
         λ served c here.
         subst (λ hd. Holds schema world (seat_kept new).user hd (seat_state new) c) header_is
         (subst (λ w. Holds schema w (seat_kept new).user (seat_kept new).header (seat_state new) c) world_is
-        (subst (λ d. Holds d (seat_kept new).world (seat_kept new).user (seat_kept new).header (seat_state new) c) schema_is (closed.holds s served c here))) in
+        (subst (λ d. Holds d (seat_kept new).world (seat_kept new).user (seat_kept new).header (seat_state new) c) schema_is (closed.holds t served c here))) in
         record {
           profile_is = user_is;
           standing = standing;
           standing_is = refl;
           refusal_is = is.refusal ∙ ap refusal_of standing_is;
-          cause = standing_wide schema world (seat_kept new).user header (bytes_on Disk.reads (disk name)) T t (seat_kept new).opening (count name)
+          cause = standing_wide schema world (seat_kept new).user header (bytes_on Disk.reads (disk name)) Disk.tells t (seat_kept new).opening (count name)
               (Disk.faults opened.taken) (Disk.faults (seat_disk old)) (count' name) (omega (arith, before)) (omega
               (arith, while, disks, ends, counted)) standing
               (subst (λ (st : Standing).
-              IsStanding schema world (seat_kept new).user T header (bytes_on Disk.reads (disk name)) (seat_kept new).opening (Disk.faults opened.taken)
-              (Disk.faults (seat_disk old)) st) standing_is
+              IsStanding schema world (seat_kept new).user Disk.tells header (bytes_on Disk.reads (disk name)) (seat_kept new).opening
+              (Disk.faults opened.taken) (Disk.faults (seat_disk old)) st) standing_is
               (subst (λ (e : History).
-              IsStanding schema world (seat_kept new).user T header (bytes_on Disk.reads (disk name)) e (Disk.faults opened.taken) (Disk.faults (seat_disk old))
-              (seat_standing old)) opening
-              (subst (λ b. IsStanding schema world (seat_kept new).user T header b (seat_history old) (Disk.faults opened.taken) (Disk.faults (seat_disk old))
-              (seat_standing old)) read_was
+              IsStanding schema world (seat_kept new).user Disk.tells header (bytes_on Disk.reads (disk name)) e (Disk.faults opened.taken)
+              (Disk.faults (seat_disk old)) (seat_standing old)) opening
+              (subst (λ b. IsStanding schema world (seat_kept new).user Disk.tells header b (seat_history old) (Disk.faults opened.taken)
+              (Disk.faults (seat_disk old)) (seat_standing old)) read_was
               (subst (λ (p : UserProfile).
-              IsStanding schema world p T header (Disk.reads opened.taken) (seat_history old) (Disk.faults opened.taken) (Disk.faults (seat_disk old))
+              IsStanding schema world p Disk.tells header (Disk.reads opened.taken) (seat_history old) (Disk.faults opened.taken) (Disk.faults (seat_disk old))
               (seat_standing old))
               (ap profile_of opened.user_is ∙ sym user_is) is.standing))));
           goes_on = (history_of on.on.0, goes_on);
@@ -225,7 +225,7 @@ module _ (schema : DatabaseSchema) (world : FactSet) (header directory : List �
               (holds served (Disk.reads back.now) (left.images (Disk.reads back.now) (read_is_image back.now t)));
           stands = λ served c here. holds served c (left.images c (subst (λ o. image_on Disk.image o c) held here));
           size = λ whole.
-              let grown = closed.size s whole in
+              let grown = closed.size t whole in
               let read_now = ap length (ap (bytes_on Disk.reads) held ∙ left.reads_same) in
               let read_first = ap length (ap (λ (f : Fixed D). Disk.reads f.disk) kept ∙ opened.left.reads_same ∙ read_was) in
               omega (arith, grown, read_now, read_first);
@@ -248,7 +248,7 @@ module _ (schema : DatabaseSchema) (world : FactSet) (header directory : List �
 
     -- all users
     pub have_served : (users : List User) (olds news : List (DeskSeat D g h)) → All (λ user. KeepsLimits schema (profile_of user)) users
-        → AreSeatsOf S Disk T schema world header directory disk count users olds → AreSeatsOn olds news
+        → AreSeatsOf S Disk schema world header directory disk count users olds → AreSeatsOn olds news
         → AreBack S Disk disk' count' news
         → HaveServed schema world header (journals_by Disk.reads Disk.image Disk.moment Disk.image_since directory disk disk' count count') users
         (map seat_member news)
@@ -313,7 +313,7 @@ module _ (schema : DatabaseSchema) (world : FactSet) (header directory : List �
 
     -- so behind each user's opening history there is what he was told
     pub all_told : (place : ℕ) (users : List User) (olds news : List (DeskSeat D g h))
-        → AreSeatsOf S Disk T schema world header directory disk count users olds → AreSeatsOn olds news
+        → AreSeatsOf S Disk schema world header directory disk count users olds → AreSeatsOn olds news
         → AreBack S Disk disk' count' news
         → OwnFrom place news → AreAllTold place (map seat_member news) told
     all_told place [] [] [] opened on back own = tt
@@ -332,7 +332,7 @@ module _ (schema : DatabaseSchema) (world : FactSet) (header directory : List �
 
   -- all desks are in the one world
   pub all_in_world : (users : List User) (olds news : List (DeskSeat D g h))
-      → AreSeatsOf S Disk T schema world header directory disk count users olds → AreSeatsOn olds news → AreAllIn schema world news
+      → AreSeatsOf S Disk schema world header directory disk count users olds → AreSeatsOn olds news → AreAllIn schema world news
   all_in_world [] [] [] opened on = tt
   all_in_world (user ∷ users) (old ∷ olds) (new ∷ news) opened on =
       let served = opened.0.opened.served in (
@@ -458,31 +458,31 @@ module _ (schema : DatabaseSchema) (world : FactSet) (header : List ℕ) (journa
   ends_at outcome.LinksFailed refusals is_broken serves limit has = inr (refusals.items, is_broken, serves)
   ends_at outcome.Memory refusals is_broken serves limit has = inr (refusals.items, is_broken, serves, has)
 
-module _ {D : Type 0} {g h : _} (told disk_told : Type 0) (Disk : DiskGhosts D) (schema : DatabaseSchema)
+module _ {D : Type 0} {g h : _} (told : Type 0) (Disk : DiskGhosts D) (schema : DatabaseSchema)
     (world : FactSet) (header directory : List ℕ) (disk : Text → Option D) (count : Text → ℕ) where
   -- what holds of each seat that was just opened holds of all
   each : (P : DeskSeat D g h → Type 0)
-      → ((user : User) (seat : DeskSeat D g h) → IsSeatOf told Disk disk_told schema world header directory disk count user seat → P seat)
+      → ((user : User) (seat : DeskSeat D g h) → IsSeatOf told Disk schema world header directory disk count user seat → P seat)
       → (users : List User) (seats : List (DeskSeat D g h))
-      → AreSeatsOf told Disk disk_told schema world header directory disk count users seats → AllByRecursion P seats
+      → AreSeatsOf told Disk schema world header directory disk count users seats → AllByRecursion P seats
   each P holds [] [] opened = tt
   each P holds (user ∷ users) (seat ∷ seats) opened = (holds user seat opened.0, each P holds users seats opened.1)
   each P holds [] (seat ∷ seats) opened = absurd opened
   each P holds (user ∷ users) [] opened = absurd opened
 
   seats_fresh : (users : List User) (seats : List (DeskSeat D g h))
-      → AreSeatsOf told Disk disk_told schema world header directory disk count users seats → All IsSeatAsOpened seats
+      → AreSeatsOf told Disk schema world header directory disk count users seats → All IsSeatAsOpened seats
   seats_fresh users seats opened = All-from_recursion IsSeatAsOpened seats (each IsSeatAsOpened (λ user seat is. is.opened.fresh) users seats opened)
 
   seats_turns : (users : List User) (seats : List (DeskSeat D g h))
-      → AreSeatsOf told Disk disk_told schema world header directory disk count users seats
+      → AreSeatsOf told Disk schema world header directory disk count users seats
       → All (λ (seat : DeskSeat D g h). turns (seat_pass seat) ≡ 65 * 2 ^ 57) seats
   seats_turns users seats opened =
       All-from_recursion (λ (seat : DeskSeat D g h). turns (seat_pass seat) ≡ 65 * 2 ^ 57) seats
       (each (λ (seat : DeskSeat D g h). turns (seat_pass seat) ≡ 65 * 2 ^ 57) (λ user seat is. is.opened.turns_are) users seats opened)
 
   seats_own : (users : List User) (seats : List (DeskSeat D g h))
-      → AreSeatsOf told Disk disk_told schema world header directory disk count users seats
+      → AreSeatsOf told Disk schema world header directory disk count users seats
       → All (λ (seat : DeskSeat D g h). mine (seat_pass seat) ≡ []) seats
   seats_own users seats opened =
       All-from_recursion (λ (seat : DeskSeat D g h). mine (seat_pass seat) ≡ []) seats
@@ -490,7 +490,7 @@ module _ {D : Type 0} {g h : _} (told disk_told : Type 0) (Disk : DiskGhosts D) 
 
   -- each seat's desk is that of the user at its place
   seats_desks : (users : List User) (seats : List (DeskSeat D g h))
-      → AreSeatsOf told Disk disk_told schema world header directory disk count users seats → AreDesksOf users (map seat_kept seats)
+      → AreSeatsOf told Disk schema world header directory disk count users seats → AreDesksOf users (map seat_kept seats)
   seats_desks [] [] opened = refl
   seats_desks (user ∷ users) (seat ∷ seats) opened =
       let this : (seat_kept seat).user ≡ profile_of user = opened.0.opened.served.user_is ∙ ap profile_of opened.0.user_is in
@@ -502,7 +502,7 @@ module _ {D : Type 0} {g h : _} (told disk_told : Type 0) (Disk : DiskGhosts D) 
   module _ (valid : is_valid_schema schema ≡ true) where
     -- what the pass of a seat that was just opened has seen is legal
     seat_legal : (user : User) (seat : DeskSeat D g h) → KeepsLimits schema (profile_of user)
-        → IsSeatOf told Disk disk_told schema world header directory disk count user seat → HasSeenLegal (seat_kept seat) (seat_pass seat)
+        → IsSeatOf told Disk schema world header directory disk count user seat → HasSeenLegal (seat_kept seat) (seat_pass seat)
     seat_legal user seat limits is =
         let kept = seat_kept seat in
         let served = is.opened.served in
@@ -512,7 +512,7 @@ module _ {D : Type 0} {g h : _} (told disk_told : Type 0) (Disk : DiskGhosts D) 
           user_of = ap (λ s. is_user_of s kept.user) served.schema_is ∙ ap (is_user_of schema) user_is ∙ limits.sentences;
           admits = λ serves. ap (λ s. admitted s kept.world kept.user) served.schema_is ∙ ap (λ w. admitted schema w kept.user) served.world_is
               ∙ ap (admitted schema world) served.user_is
-              ∙ open_admits schema world (profile_of (seat_user seat)) disk_told header (Disk.reads is.taken) (seat_history seat) (Disk.faults is.taken)
+              ∙ open_admits schema world (profile_of (seat_user seat)) Disk.tells header (Disk.reads is.taken) (seat_history seat) (Disk.faults is.taken)
               (Disk.faults (seat_disk seat)) kept.standing is.opened.standing serves;
           legal = subst (λ s. IsLegal s kept.world kept.user (seat_history seat)) (sym served.schema_is)
               (subst (λ w. IsLegal schema w kept.user (seat_history seat)) (sym served.world_is)
@@ -521,7 +521,7 @@ module _ {D : Type 0} {g h : _} (told disk_told : Type 0) (Disk : DiskGhosts D) 
         }
 
     seats_legal : (users : List User) (seats : List (DeskSeat D g h)) → All (λ user. KeepsLimits schema (profile_of user)) users
-        → AreSeatsOf told Disk disk_told schema world header directory disk count users seats
+        → AreSeatsOf told Disk schema world header directory disk count users seats
         → HaveSeenLegal (map seat_kept seats) (map seat_pass seats)
     seats_legal [] [] limits opened = tt
     seats_legal (user ∷ users) (seat ∷ seats) limits opened = (
@@ -539,16 +539,16 @@ pub record AreReady {D : Type 0} {g h : _} (users : List User) (seats : List (De
   pub turns_are : All (λ (seat : DeskSeat D g h). turns (seat_pass seat) ≡ 65 * 2 ^ 57) seats
   pub own : All (λ (seat : DeskSeat D g h). mine (seat_pass seat) ≡ []) seats
 
-module _ {directory : Text} {schema : DatabaseSchema} {world : FactSet} {header : List ℕ} {D : Type 0} {g h : _} {told disk_told : Type 0} {Disk : DiskGhosts D}
+module _ {directory : Text} {schema : DatabaseSchema} {world : FactSet} {header : List ℕ} {D : Type 0} {g h : _} {told : Type 0} {Disk : DiskGhosts D}
     {users : List User} {seats : List (DeskSeat D g h)} {disk disk' : Text → Option D} {is_out' : Text → Bool} {count count' : Text → ℕ}
-    (seated : AllSeated directory schema world header told disk_told Disk users seats disk disk' is_out' count count') where
+    (seated : AllSeated directory schema world header told Disk users seats disk disk' is_out' count count') where
   pub all_ready : is_valid_schema schema ≡ true → All (λ user. KeepsLimits schema (profile_of user)) users → AreReady users seats
   all_ready valid limits = record {
-    desks = seats_desks told disk_told Disk schema world header directory disk count users seats seated.are;
-    legal = seats_legal told disk_told Disk schema world header directory disk count valid users seats limits seated.are;
-    fresh = seats_fresh told disk_told Disk schema world header directory disk count users seats seated.are;
-    turns_are = seats_turns told disk_told Disk schema world header directory disk count users seats seated.are;
-    own = seats_own told disk_told Disk schema world header directory disk count users seats seated.are;
+    desks = seats_desks told Disk schema world header directory disk count users seats seated.are;
+    legal = seats_legal told Disk schema world header directory disk count valid users seats limits seated.are;
+    fresh = seats_fresh told Disk schema world header directory disk count users seats seated.are;
+    turns_are = seats_turns told Disk schema world header directory disk count users seats seated.are;
+    own = seats_own told Disk schema world header directory disk count users seats seated.are;
   }
 
   module _ (news : List (DeskSeat D g h)) (on : AreSeatsOn seats news) where

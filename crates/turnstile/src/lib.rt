@@ -9,6 +9,7 @@
 //! `specs/Rule.antt` is what holds between any two atomic steps, over any number of threads.
 #![tactic(auto)]
 
+mod bell;
 mod laws;
 mod pass;
 mod steps;

@@ -3,6 +3,7 @@ ghost use Rattle.std.specs.Prelude.{◌≡◌, ◌<◌, ◌≤◌, [], ◌∷◌
 ghost use Rattle.turnstile.specs.declared.view.Stage.TheVariants.{Inside};
 ghost use Rattle.turnstile.specs.History.{count_of};
 
+use crate::bell::Bell;
 use crate::pass::{Pass, PassError};
 use crate::steps::{Compare, Draw, Look, Meet, Next, Part, Recorded, Ticketed};
 use crate::view::View;
@@ -10,13 +11,22 @@ use atomic_table::{Refused, Seat, Table};
 use std::alloc::{AllocFailed, Global};
 use std::snapshot::Snapshot;
 use std::sync::Wait;
-use std::{mem, thread};
+use std::{array, mem, thread};
+
+/// A pass that waits looks so often whether its ticket is served, and then sleeps.
+const LOOKS: u32 = 20;
+
+/// The number of bells.
+const BELLS: u64 = 8;
 
 /// A value that moves from turn to turn. Word 0 is the ticket to be drawn next, word 1 the ticket
 /// that is served, and slot 0 has the value.
 #[derive(Drop)]
 pub struct Turnstile<V: Recorded> {
     table: Table<Option<V>, View<V::Item, V::Fixed>, Snapshot<V>, Ticketed, Global>,
+    /// The passes whose tickets leave the remainder k by 8 sleep at the bell k, which is rung as
+    /// such a ticket is served.
+    bells: [Bell; 8],
     ghost sized: { (table.shared.table_id.words ≡ 2) × (table.shared.table_id.slots ≡ 1) },
 }
 
@@ -81,7 +91,8 @@ impl<V: Recorded> Turnstile<V> {
                     badge: seat.into_badge(),
                     shares: 65,
                 };
-                Ok((Turnstile { table }, pass))
+                let bells = array::from_fn(|_| Bell::new());
+                Ok((Turnstile { table, bells }, pass))
             }
             Err(Refused { mut slots }) => {
                 let value = slots.pop().unwrap().unwrap();
@@ -179,7 +190,7 @@ impl<V: Recorded> Turnstile<V> {
             (view_of pass) }
     {
         let Pass { badge, shares: _ } = pass;
-        let Turnstile { table } = self;
+        let Turnstile { table, bells: _ } = self;
         let mut closed = table.close_with(badge.into_seat());
         let value = closed.take(0);
         closed.free();
@@ -225,9 +236,42 @@ impl<V: Recorded> Turnstile<V> {
                     seat,
                 };
             }
-            thread::yield_now();
+            self.await_turn(rt, ticket);
         }
         unreachable!()
+    }
+
+    /// Looks some times whether the ticket is served, and then sleeps until it is. No ring is
+    /// missed: a pass is counted as a sleeper and has heard the bell before the look that sends it
+    /// to sleep, and the bell is rung after the ticket is served. Until then it rings for tickets
+    /// of the other 64 passes alone, so the 32 bits that a sleep compares don't come round.
+    fn await_turn<R: Wait>(&self, rt: &R, ticket: u64) {
+        for _ in 0..LOOKS {
+            thread::yield_now();
+            if self.is_served(ticket) {
+                return;
+            }
+        }
+        let bell = self.bell(ticket);
+        for _ in rt.forever() {
+            let heard = bell.listen();
+            let served = self.is_served(ticket);
+            if !served {
+                bell.sleep(rt, heard);
+            }
+            bell.leave();
+            if served {
+                return;
+            }
+        }
+    }
+
+    fn is_served(&self, ticket: u64) -> bool {
+        self.table.shared.peek(1) == ticket
+    }
+
+    fn bell(&self, ticket: u64) -> &Bell {
+        &self.bells[(ticket % BELLS) as usize]
     }
 
     /// Gives the value back, and serves the next ticket. The pass has then seen the value's
@@ -247,13 +291,14 @@ impl<V: Recorded> Turnstile<V> {
     {
         let Turn {
             value,
-            ticket: _,
+            ticket,
             shares,
             mut seat,
         } = turn;
         let nothing = self.table.shared.exchange(&mut seat, 0, Some(value));
         let None = nothing else { unreachable!() };
         self.table.shared.fetch_add::<Next>(&mut seat, 1, 1);
+        self.bell(ticket.wrapping_add(1)).ring();
         *pass = Pass {
             badge: seat.into_badge(),
             shares,

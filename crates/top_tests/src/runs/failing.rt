@@ -144,8 +144,8 @@ fn a_script_that_is_not_read_touches_no_disk(rt: HostRuntime) -> Result<(), Fail
     Ok(())
 }
 
-// Each byte is written by a call of its own; a line has nine. The ask of the line that failed was
-// carried out, and none behind it.
+// Each byte is written by a call of its own; a line has nine. Whichever fails, all asks of the
+// stretch were carried out before its first line was written.
 #[test]
 fn what_was_asked_is_in_the_journals(rt: HostRuntime) -> Result<(), Fail> {
     let alloc = rt.alloc();
@@ -171,9 +171,7 @@ fn what_was_asked_is_in_the_journals(rt: HostRuntime) -> Result<(), Fail> {
         )?;
         let part = whole.as_str().get(..call as usize).unwrap_or("");
         run.check(&rt, 7, part, "cqe: write fault\n", "a write failed");
-        let asked = (call / 9).saturating_add(1);
-        let by_eve = told(alloc, asked.min(4))?;
-        let by_kim = told(alloc, asked.saturating_sub(4))?;
+        let (by_eve, by_kim) = (told(alloc, 4)?, told(alloc, 1)?);
         assert_eq!(rt;
             journal_bytes(&shelf, "d/eve.log"),
             by_eve.as_slice(),
@@ -185,6 +183,41 @@ fn what_was_asked_is_in_the_journals(rt: HostRuntime) -> Result<(), Fail> {
             "call {call}"
         );
         assert!(rt; are_empty(alloc, &shelf, &["d/ron.log", "d/max.log"])?);
+    }
+    Ok(())
+}
+
+// A stretch has a line of nine bytes and that of its restart, of twelve. Where a write fails, the
+// stretches up to the one whose line failed are in the journal, and none behind it.
+#[test]
+fn nothing_is_asked_behind_a_stretch_that_is_not_written(rt: HostRuntime) -> Result<(), Fail> {
+    let alloc = rt.alloc();
+    let script = lines(alloc, "eve 1 ask drug(ann)\n* restart\n", 3, "", 3)?;
+    let whole = lines(alloc, "eve 1 no\n* restarted\n", 3, "", 3)?;
+    for call in 0..64 {
+        let mut shelf = ward_by(alloc, Plan::Never)?;
+        let sink = MemorySink::with_plan(alloc, Pieces::UpTo(1), failing(alloc, call)?);
+        let run = run_over(
+            &rt,
+            alloc,
+            &BATCH,
+            &mut shelf,
+            MemorySource::new(joined(alloc, &[script.as_str()])?),
+            sink,
+            MemorySink::new(alloc),
+        )?;
+        if call < 63 {
+            let part = whole.as_str().get(..call as usize).unwrap_or("");
+            run.check(&rt, 7, part, "cqe: write fault\n", "a write failed");
+        } else {
+            run.check(&rt, 0, whole.as_str(), "", "no write failed");
+        }
+        let asked = told(alloc, (call / 21).saturating_add(1).min(3))?;
+        assert_eq!(rt;
+            journal_bytes(&shelf, "d/eve.log"),
+            asked.as_slice(),
+            "call {call}"
+        );
     }
     Ok(())
 }

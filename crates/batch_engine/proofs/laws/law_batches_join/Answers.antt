@@ -1,5 +1,6 @@
 use Rattle.desk_crew.specs.Shelved.{journals_on}
-use Rattle.batch_engine.proofs.Joining.{batches_are_calls, batches_are_spans, cut_batches_are_calls, batches_join, cut_batches_join}
+use Rattle.batch_engine.proofs.Joining.{batches_are_calls, batches_are_spans, cut_batches_are_calls, later_cuts_are_calls}
+use Rattle.batch_engine.proofs.Joining.{batches_join, cut_batches_join, late_batches_join}
 use Rattle.batch_engine.proofs.laws.law_batches_join.Goals as goal
 
 pub returns-clause-calls : goal.returns-clause-calls
@@ -11,6 +12,9 @@ returns-clause-spans g c = λ directory. batches_are_spans (journals_on g.F.Shel
 pub returns-clause-cut : goal.returns-clause-cut
 returns-clause-cut g c = λ directory. cut_batches_are_calls (journals_on g.F.Shelf g.F.D.Disk directory c.args.before.now c.args.behind.now)
 
+pub returns-clause-late : goal.returns-clause-late
+returns-clause-late g c = λ directory. later_cuts_are_calls (journals_on g.F.Shelf g.F.D.Disk directory c.args.before.now c.args.behind.now)
+
 pub returns-clause-joined : goal.returns-clause-joined
 returns-clause-joined g c = λ directory schema world header policy.
     batches_join schema world header policy (journals_on g.F.Shelf g.F.D.Disk directory c.args.before.now c.args.behind.now)
@@ -19,4 +23,9 @@ returns-clause-joined g c = λ directory schema world header policy.
 pub returns-clause-cut_joined : goal.returns-clause-cut_joined
 returns-clause-cut_joined g c = λ directory schema world header policy.
     cut_batches_join schema world header policy (journals_on g.F.Shelf g.F.D.Disk directory c.args.before.now c.args.behind.now)
+    (journals_on g.F.Shelf g.F.D.Disk directory c.args.later_before.now c.args.later_behind.now)
+
+pub returns-clause-late_joined : goal.returns-clause-late_joined
+returns-clause-late_joined g c = λ directory schema world header policy.
+    late_batches_join schema world header policy (journals_on g.F.Shelf g.F.D.Disk directory c.args.before.now c.args.behind.now)
     (journals_on g.F.Shelf g.F.D.Disk directory c.args.later_before.now c.args.later_behind.now)

@@ -26,27 +26,10 @@ pub loop-seat-preserved : goal.loop-seat-preserved
 loop-seat-preserved g c =
     let split = c.pop.ensures.items ∙ ap (λ o. c.pop.new.self.items ++ option_to_list o) c.in-Some.is in
     let given = c.give_disk.ensures in
-    let closed = c.close_desk-disk.ensures.closed in
     record {
       so_far = given_more _ g.F.D.Disk _ _ _ _ c.requires.distinct c.requires.out c.requires.later g.met.F.D.Disk.counts_now g.met.F.D.Disk.only_now
           c.pop.new.self.items c.loop-seat.seats.items c.in-Some.seat
-          c.close_desk-disk.result.0
-          (record {
-            holds = λ told. closed.holds (g.met.F.Shelf.tells_disks told);
-            legal = closed.legal;
-            added = closed.added;
-            items = closed.items;
-            idle = closed.idle;
-            later =
-                closed.later;
-            cause = closed.cause;
-            size = λ told. closed.size (g.met.F.Shelf.tells_disks told);
-            shut = closed.shut;
-            still =
-                closed.still;
-            since = λ told. closed.since (g.met.F.Shelf.tells_disks told);
-            time = closed.time;
-          }) _ _ _ _ _ _ c.as_str.result.now c.as_str.ensures.value split c.loop-seat.invariant.so_far
+          c.close_desk-disk.result.0 c.close_desk-disk.ensures.closed _ _ _ _ _ _ c.as_str.result.now c.as_str.ensures.value split c.loop-seat.invariant.so_far
           (λ told. given.held told) given.disks given.back given.others_out given.count given.other_counts;
       faults = given.faults ∙ c.loop-seat.invariant.faults;
       looked = given.looked ∙ c.loop-seat.invariant.looked;

@@ -16,7 +16,7 @@ use Rattle.desk_crew.proofs.crew.open_all.Goals.{After-give_back, In-Err}
 pub open_seat-requires-clause-inside : goal.open_seat-requires-clause-inside
 open_seat-requires-clause-inside g c =
     next_in c.args.registry.now.directory.now c.args.registry.now.schema.now c.args.registry.now.world.now
-    (header_bytes c.args.registry.now.header.now) g.F.Shelf.tells g.F.D.Disk.tells g.F.D.Disk
+    (header_bytes c.args.registry.now.header.now) g.F.Shelf.tells g.F.D.Disk
     (g.F.Shelf.disk c.args.shelf.now) (g.F.Shelf.disk_faults c.args.shelf.now) c.law_journals_differ.ensures
     c.args.registry.now.users.now c.requires.distinct c.loop-user.user-index c.user-item.result c.loop-user-test.true c.user-item.is c.loop-user.seats.items _ _
     _ c.loop-user.invariant.opened
@@ -83,7 +83,7 @@ returns-clause-disks g c = λ name none.
     so_far.disks name
     (ap (λ ns. is_among ns name)
     (seat_journals c.args.registry.now.directory.now c.args.registry.now.schema.now c.args.registry.now.world.now
-    (header_bytes c.args.registry.now.header.now) g.F.Shelf.tells g.F.D.Disk.tells g.F.D.Disk
+    (header_bytes c.args.registry.now.header.now) g.F.Shelf.tells g.F.D.Disk
     (g.F.Shelf.disk c.args.shelf.now) (g.F.Shelf.disk_faults c.args.shelf.now)
     (take c.loop-user.user-index c.args.registry.now.users.now) c.loop-user.seats.items so_far.are
     ∙ ap (λ us. map (journal_name c.args.registry.now.directory.now) (names us))
@@ -108,12 +108,12 @@ loop-user-preserved g c =
     record {
       opened = subst (λ l.
           Opened c.args.registry.now.directory.now c.args.registry.now.schema.now c.args.registry.now.world.now
-          (header_bytes c.args.registry.now.header.now) g.F.Shelf.tells g.F.D.Disk.tells g.F.D.Disk
+          (header_bytes c.args.registry.now.header.now) g.F.Shelf.tells g.F.D.Disk
           (g.F.Shelf.disk c.args.shelf.now) (g.F.Shelf.disk_faults c.args.shelf.now)
           c.args.registry.now.users.now (c.loop-user.user-index + 1) l (g.F.Shelf.disk c.open_seat.new.shelf) (g.F.Shelf.is_out c.open_seat.new.shelf)
           (g.F.Shelf.disk_faults c.open_seat.new.shelf)) (sym c.push_reserved.ensures.items)
           (opened_more c.args.registry.now.directory.now c.args.registry.now.schema.now c.args.registry.now.world.now
-          (header_bytes c.args.registry.now.header.now) g.F.Shelf.tells g.F.D.Disk.tells g.F.D.Disk
+          (header_bytes c.args.registry.now.header.now) g.F.Shelf.tells g.F.D.Disk
           (g.F.Shelf.disk c.args.shelf.now) (g.F.Shelf.disk_faults c.args.shelf.now) c.law_journals_differ.ensures
           c.args.registry.now.users.now c.requires.distinct c.loop-user.user-index c.user-item.result c.loop-user-test.true c.user-item.is
           c.loop-user.seats.items (g.F.Shelf.disk c.loop-user.shelf) (g.F.Shelf.is_out c.loop-user.shelf)
@@ -134,7 +134,7 @@ loop-user-init g c =
     let none = ap length c.in-Ok.ensures.empty in
     record {
       opened = opened_none c.args.registry.now.directory.now c.args.registry.now.schema.now c.args.registry.now.world.now
-          (header_bytes c.args.registry.now.header.now) g.F.Shelf.tells g.F.D.Disk.tells g.F.D.Disk
+          (header_bytes c.args.registry.now.header.now) g.F.Shelf.tells g.F.D.Disk
           (g.F.Shelf.disk c.args.shelf.now) (g.F.Shelf.disk_faults c.args.shelf.now) c.args.registry.now.users.now c.in-Ok.seats.items
           (g.F.Shelf.is_out c.args.shelf.now) c.in-Ok.ensures.empty c.requires.inside;
       room = c.in-Ok.ensures.room;

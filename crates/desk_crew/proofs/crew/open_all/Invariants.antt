@@ -9,7 +9,7 @@ use Rattle.desk_crew.proofs.crew.open_all.Given as goal
 abbrev pub invariant-loop-user : goal.invariant-loop-user
 invariant-loop-user g l = record {
   opened : Opened l.registry.directory.now l.registry.schema.now l.registry.world.now
-      (header_bytes l.registry.header.now) g.F.Shelf.tells g.F.D.Disk.tells g.F.D.Disk
+      (header_bytes l.registry.header.now) g.F.Shelf.tells g.F.D.Disk
       (g.F.Shelf.disk l.fn.shelf) (g.F.Shelf.disk_faults l.fn.shelf) l.registry.users.now l.user-index l.seats.items (g.F.Shelf.disk l.shelf)
       (g.F.Shelf.is_out l.shelf) (g.F.Shelf.disk_faults l.shelf);
   room : length l.registry.users.now ≤ vec_capacity l.seats;

@@ -42,9 +42,9 @@ loop-alloc-preserved g c =
     let grown = c.push_reserved.ensures.len in
     let space = c.push_reserved.ensures.capacity in
     record {
-      half = subst (Halfway _ _ _ g.F.D.Disk.tells g.F.Shelf.tells g.F.D.Disk c.args.seats.items c.remove-seat.new.self.items)
+      half = subst (Halfway _ _ _ g.F.D.Disk c.args.seats.items c.remove-seat.new.self.items)
           (sym c.push_reserved.ensures.items)
-          (halfway_more _ _ _ g.F.D.Disk.tells g.F.Shelf.tells g.F.D.Disk c.args.seats.items c.loop-alloc.seats.items c.remove-seat.new.self.items
+          (halfway_more _ _ _ g.F.D.Disk c.args.seats.items c.loop-alloc.seats.items c.remove-seat.new.self.items
           c.loop-alloc.reopened.items c.remove-seat.result c.in-Ok.seat (first g (goal.at.loop-alloc-preserved g c).After-remove-seat)
           c.loop-alloc.invariant.half c.in-Ok.ensures.reopened);
       same = c.loop-alloc.invariant.same;
@@ -98,7 +98,7 @@ rest : (g : Over) (c : After-give_back-arg-in-Err-1 g)
 rest g c =
     rest_can (first g (goal.at.give_back-requires-in-Err-clause-out g c).After-remove-seat) c.loop-alloc.invariant.half
     (can g (goal.at.give_back-requires-in-Err-clause-out g c).After-as_str) (named g (goal.at.give_back-requires-in-Err-clause-out g c).After-as_str)
-    g.met.F.Shelf.tells_disks c.in-Err.ensures.left (given g (goal.at.give_back-requires-in-Err-clause-out g c).After-give_disk)
+    c.in-Err.ensures.left (given g (goal.at.give_back-requires-in-Err-clause-out g c).After-give_disk)
 
 pub give_back-requires-in-Err-clause-distinct : goal.give_back-requires-in-Err-clause-distinct
 give_back-requires-in-Err-clause-distinct g c = (rest g c).distinct
@@ -123,7 +123,7 @@ done : (g : Over) (c : After-give_back-arg-in-Err-2-1 g)
 done g c =
     done_can (first g (goal.at.give_back-requires-in-Err-2-clause-out g c).After-remove-seat) c.loop-alloc.invariant.half
     (can g (goal.at.give_back-requires-in-Err-2-clause-out g c).After-as_str) (named g (goal.at.give_back-requires-in-Err-2-clause-out g c).After-as_str)
-    g.met.F.Shelf.tells_disks c.in-Err.ensures.left (given g (goal.at.give_back-requires-in-Err-2-clause-out g c).After-give_disk)
+    c.in-Err.ensures.left (given g (goal.at.give_back-requires-in-Err-2-clause-out g c).After-give_disk)
     (rest_given g (goal.at.give_back-requires-in-Err-2-clause-out g c).After-give_back-in-Err)
 
 pub give_back-requires-in-Err-2-clause-distinct : goal.give_back-requires-in-Err-2-clause-distinct
@@ -147,7 +147,7 @@ all_back g c =
     (g.F.Shelf.disk_faults c.give_back-in-Err-2.new.shelf)) c.loop-alloc.invariant.same
     (all_given (first g (goal.at.returns-in-Err-clause-back g c).After-remove-seat) c.loop-alloc.invariant.half
     (can g (goal.at.returns-in-Err-clause-back g c).After-as_str) (named g (goal.at.returns-in-Err-clause-back g c).After-as_str)
-    g.met.F.Shelf.tells_disks c.in-Err.ensures.left (given g (goal.at.returns-in-Err-clause-back g c).After-give_disk)
+    c.in-Err.ensures.left (given g (goal.at.returns-in-Err-clause-back g c).After-give_disk)
     (rest_given g (goal.at.returns-in-Err-clause-back g c).After-give_back-in-Err)
     (record {
       back = given_2.back;
@@ -174,5 +174,5 @@ returns-in-Err-clause-counts g c = (all_back g c).counts
 
 pub returns-clause-reopened : goal.returns-clause-reopened
 returns-clause-reopened g c =
-    halfway_all _ _ _ g.F.D.Disk.tells g.F.Shelf.tells g.F.D.Disk c.args.seats.items c.loop-alloc.seats.items c.loop-alloc.reopened.items
+    halfway_all _ _ _ g.F.D.Disk c.args.seats.items c.loop-alloc.seats.items c.loop-alloc.reopened.items
     (none_left c.loop-alloc.seats.items (ap (λ n. n == 0) (sym c.loop-alloc.seats.ok.0) ∙ sym c.loop-alloc-test.ensures)) c.loop-alloc.invariant.half

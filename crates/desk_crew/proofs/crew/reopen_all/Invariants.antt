@@ -8,7 +8,7 @@ use Rattle.desk_crew.proofs.crew.reopen_all.Given as goal
 abbrev pub invariant-loop-alloc : goal.invariant-loop-alloc
 invariant-loop-alloc g l = record {
   half : Halfway l.registry.schema.now l.registry.world.now
-      (header_bytes l.registry.header.now) g.F.D.Disk.tells g.F.Shelf.tells g.F.D.Disk l.fn.seats.items l.seats.items
+      (header_bytes l.registry.header.now) g.F.D.Disk l.fn.seats.items l.seats.items
       l.reopened.items;
   same : l.shelf ≡ l.fn.shelf;
   room : vec_len l.reopened + vec_len l.seats ≤ vec_capacity l.reopened;

@@ -9,7 +9,7 @@ returns-in-Ok-new-clause-opened g c =
     let at = c.in-Ok.ensures in
     let put = c.in-Ok-new.ensures in
     opened_seat c.args.registry.now.schema.now c.args.registry.now.world.now
-    (header_bytes c.args.registry.now.header.now) g.D.Disk.tells g.D.Disk c.in-Ok.desk _ put.kept put.history
+    (header_bytes c.args.registry.now.header.now) g.D.Disk c.in-Ok.desk _ put.kept put.history
     put.in_flight put.first put.mine put.turns c.args.disk c.args.before
     at.schema at.world at.user at.header c.requires.admission at.standing at.restarted at.whole at.opening.0 at.opening.1 (c.first_refusal-refusal.ensures
     ∙ ap (first_refusal c.args.before) c.standing.ensures) c.known.ensures.images c.known.ensures.legal

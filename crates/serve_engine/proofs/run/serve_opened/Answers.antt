@@ -19,11 +19,11 @@ use Rattle.serve_engine.proofs.run.serve_opened.Goals.{After-end_of, After-give_
 
 seated : (g : Over) (c : In-Ok-open_all g)
     → AllSeated c.args.registry.now.directory.now c.args.registry.now.schema.now c.args.registry.now.world.now (header_bytes c.args.registry.now.header.now)
-    g.F.Shelf.tells g.F.D.Disk.tells g.F.D.Disk c.args.registry.now.users.now c.in-Ok-open_all.seats.items (g.F.Shelf.disk c.args.shelf.now)
+    g.F.Shelf.tells g.F.D.Disk c.args.registry.now.users.now c.in-Ok-open_all.seats.items (g.F.Shelf.disk c.args.shelf.now)
     (g.F.Shelf.disk c.open_all.new.shelf) (g.F.Shelf.is_out c.open_all.new.shelf) (g.F.Shelf.disk_faults c.args.shelf.now)
     (g.F.Shelf.disk_faults c.open_all.new.shelf)
 seated g c =
-    all_seated _ _ _ _ _ _ _ _ _ _ _ _ _ _ c.law_journals_differ.ensures c.requires.names c.in-Ok-open_all.ensures.opened c.in-Ok-open_all.ensures.out
+    all_seated _ _ _ _ _ _ _ _ _ _ _ _ _ c.law_journals_differ.ensures c.requires.names c.in-Ok-open_all.ensures.opened c.in-Ok-open_all.ensures.out
     c.open_all.ensures.disks c.in-Ok-open_all.ensures.counts
 
 ready : (g : Over) (c : In-Ok-open_all g) → AreReady c.args.registry.now.users.now c.in-Ok-open_all.seats.items
@@ -90,7 +90,7 @@ returns-clause-ends g c shelf_told =
     let served = c.serve_seats-outcome.ensures.served in
     let refusals = c.refusals_of-refusals.ensures ∙ ap (map (λ x. x.refusal)) c.as_slice.ensures.value in
     let each = have_served c.args.registry.now.schema.now c.args.registry.now.world.now
-    (header_bytes c.args.registry.now.header.now) c.args.registry.now.directory.now g.F.D.Disk.tells g.F.Shelf.tells disk_told shelf_told g.F.D.Disk
+    (header_bytes c.args.registry.now.header.now) c.args.registry.now.directory.now g.F.Shelf.tells shelf_told g.F.D.Disk disk_told
     (g.met.F.D.Disk g.world.𝓛 g.world.𝓜 g.world.𝓡 ((λ s x. x), (λ x. x), (λ x. x), λ x. x)).read_is_image
     (g.F.Shelf.disk c.args.shelf.now) (g.F.Shelf.disk c.give_back-is_broken.new.shelf) (g.F.Shelf.disk_faults c.args.shelf.now)
     (g.F.Shelf.disk_faults c.give_back-is_broken.new.shelf) c.known.ensures c.law_hides.ensures c.args.registry.now.users.now
@@ -120,23 +120,21 @@ returns-clause-ends g c shelf_told =
           (λ visit marks is.
           is c.args.registry.now.schema.now c.args.registry.now.world.now
           (all_in_world c.args.registry.now.schema.now c.args.registry.now.world.now
-          (header_bytes c.args.registry.now.header.now) c.args.registry.now.directory.now g.F.D.Disk.tells g.F.Shelf.tells disk_told shelf_told
-          g.F.D.Disk
+          (header_bytes c.args.registry.now.header.now) c.args.registry.now.directory.now g.F.Shelf.tells shelf_told g.F.D.Disk disk_told
           (g.met.F.D.Disk g.world.𝓛 g.world.𝓜 g.world.𝓡 ((λ s x. x), (λ x. x), (λ x. x), λ x. x)).read_is_image
           (g.F.Shelf.disk c.args.shelf.now) (g.F.Shelf.disk c.give_back-is_broken.new.shelf) (g.F.Shelf.disk_faults c.args.shelf.now)
           (g.F.Shelf.disk_faults c.give_back-is_broken.new.shelf) c.args.registry.now.users.now c.in-Ok-open_all.seats.items
           c.serve_seats-outcome.result.1.items c.in-Ok-open_all.ensures.opened c.serve_seats-outcome.ensures.on)) served.0
           served.1 c.args.doors.items c.serve_seats-outcome.result.2.items served.2;
       all_told = λ t. all_told c.args.registry.now.schema.now c.args.registry.now.world.now
-          (header_bytes c.args.registry.now.header.now) c.args.registry.now.directory.now g.F.D.Disk.tells g.F.Shelf.tells disk_told shelf_told g.F.D.Disk
+          (header_bytes c.args.registry.now.header.now) c.args.registry.now.directory.now g.F.Shelf.tells shelf_told g.F.D.Disk disk_told
           (g.met.F.D.Disk g.world.𝓛 g.world.𝓜 g.world.𝓡 ((λ s x. x), (λ x. x), (λ x. x), λ x. x)).read_is_image
           (g.F.Shelf.disk c.args.shelf.now) (g.F.Shelf.disk c.give_back-is_broken.new.shelf) (g.F.Shelf.disk_faults c.args.shelf.now)
           (g.F.Shelf.disk_faults c.give_back-is_broken.new.shelf)
           (served.1 t) 0 c.args.registry.now.users.now c.in-Ok-open_all.seats.items c.serve_seats-outcome.result.1.items c.in-Ok-open_all.ensures.opened
           c.serve_seats-outcome.ensures.on c.give_back-is_broken.ensures.back
           (own_from c.args.registry.now.schema.now c.args.registry.now.world.now
-          (header_bytes c.args.registry.now.header.now) c.args.registry.now.directory.now g.F.D.Disk.tells g.F.Shelf.tells disk_told shelf_told
-          g.F.D.Disk
+          (header_bytes c.args.registry.now.header.now) c.args.registry.now.directory.now g.F.Shelf.tells shelf_told g.F.D.Disk disk_told
           (g.met.F.D.Disk g.world.𝓛 g.world.𝓜 g.world.𝓡 ((λ s x. x), (λ x. x), (λ x. x), λ x. x)).read_is_image (g.F.Shelf.disk c.args.shelf.now)
           (g.F.Shelf.disk c.give_back-is_broken.new.shelf) (g.F.Shelf.disk_faults c.args.shelf.now)
           (g.F.Shelf.disk_faults c.give_back-is_broken.new.shelf)

@@ -1,7 +1,5 @@
-use Rattle.std.proofs.Common.{ap, sym, ◌∙◌, subst, ◌≡◌, ◌≤◌, ℕ, List, ◌++◌, false, length}
-use Rattle.std.specs.Prelude.{option_to_list}
+use Rattle.std.proofs.Common.{ap, sym, ◌∙◌, subst, ◌≡◌, ◌≤◌}
 use Rattle.outside.specs.Disk.{Elapses}
-use Rattle.user_desk.specs.Causes.{OpensWithin}
 use Rattle.user_desk.specs.Standings.{is_sealed}
 use Rattle.user_desk.specs.declared.desk.Desk.{Desk}
 use Rattle.user_desk.specs.Desks.{desk_history, desk_disk, entry_in_flight}
@@ -40,7 +38,7 @@ returns-clause-sizes g c =
 pub returns-clause-whole : goal.returns-clause-whole
 returns-clause-whole g c =
     closed_whole c.into_desk-desk.result (kept_by c.args.self) (seen c.args.pass) (returns-clause-kept g c) (returns-clause-history g c)
-    (returns-clause-in_flight g c) g.D.Disk.tells (λ i. g.D.Disk.image (desk_disk c.into_desk-desk.result) i) c.known.ensures.whole
+    (returns-clause-in_flight g c) g.D.Disk c.known.ensures.whole
 
 pub returns-clause-closed : goal.returns-clause-closed
 returns-clause-closed g c =
@@ -52,22 +50,18 @@ returns-clause-closed g c =
     let flies = returns-clause-in_flight g c in
     let known = c.known.ensures in
     record {
-      holds = closed_images desk kept pairs same history flies g.D.Disk.tells (λ i. g.D.Disk.image (desk_disk desk) i) known.images;
+      holds = closed_images desk kept pairs same history flies g.D.Disk known.images;
       legal = closed_legal desk kept pairs same history flies known.legal;
       added = sym c.close.ensures.entries ∙ c.close.ensures.added;
       items = subst (λ ps. items_of ps ≡ items_with (history_of ps) (flying ps)) c.close.ensures.entries (items_in c.close.result);
       idle = closed_idle desk kept pairs same history flies known.none known.idle;
       later = subst (λ (f : Fixed g.row.D.Denot). g.D.Disk.faults f.disk ≤ g.D.Disk.faults (desk_disk desk)) same known.count;
-      cause = closed_cause desk kept pairs same history flies g.D.Disk.faults known.cause;
-      size = closed_size desk kept pairs same history flies g.D.Disk.tells (λ d. g.D.Disk.reads d) known.size;
+      cause = closed_cause desk kept pairs same history flies g.D.Disk known.cause;
+      size = closed_size desk kept pairs same history flies g.D.Disk known.size;
       shut = λ sealed.
           known.refused (ap (λ (f : Fixed g.row.D.Denot). is_sealed f.standing) same ∙ sealed) ∙ ap (λ (f : Fixed g.row.D.Denot). f.disk) same;
       still = λ opened. closed_still desk kept pairs same history flies known.begins known.still opened.count opened.none;
-      since = subst (λ (f : Fixed g.row.D.Denot).
-          g.D.Disk.tells → is_sealed kept.standing ≡ false → (i : List ℕ) → g.D.Disk.image_since (desk_disk desk) (g.D.Disk.moment f.disk) i
-          → OpensWithin kept.schema kept.world kept.user kept.header (length kept.opening) (history_of pairs ++ option_to_list (flying pairs)) i) same
-          (closed_since desk kept pairs same history flies g.D.Disk.tells
-          (λ i. g.D.Disk.image_since (desk_disk desk) (g.D.Disk.moment (fixed_of desk).disk) i) known.begins known.since);
+      since = closed_since desk kept pairs same history flies g.D.Disk known.begins known.since;
       time = subst (λ (f : Fixed g.row.D.Denot). Elapses (g.D.Disk.moment f.disk) (g.D.Disk.moment (desk_disk desk))
           (g.D.Disk.image_since f.disk) (g.D.Disk.image_since (desk_disk desk))) same known.time;
     }
