@@ -357,25 +357,27 @@ module _ (schema : DatabaseSchema) (world : FactSet) (users : List NamedUser) (h
           (clock_of Disk only_now directory disk) (bytes_of Disk.reads directory disk) (count_of directory count)
           (images_of Disk.image directory disk) found opened so_far.events (earlier ++ stretch) (length stretch) lines seats is_broken
           → AreBack S Disk disk' count' seats → new ≡ (old ++ output) ++ take n lines → all ≡ (earlier ++ stretch) ++ back → IsStretch stretch
-          → AppendsSome schema world header (journals_by Disk.reads Disk.image Disk.moment Disk.image_since directory disk disk' count count')
-          policy all old new
+          → (some : AppendsSome schema world header
+          (journals_by Disk.reads Disk.image Disk.moment Disk.image_since directory disk disk' count count') policy all old new) × (some.part ≡ n)
       answered_some earlier stretch back all n old output lines new mid seats was is_broken so_far adds is appended split one =
           let whole = transcript schema world users (with_opening found opened so_far.events) in
           let both = joined schema world users header directory Disk t read_is_image
           (clock_of Disk only_now directory disk) (bytes_of Disk.reads directory disk) (count_of directory count)
-          (images_of Disk.image directory disk) found opened earlier (earlier ++ stretch) output lines mid seats was is_broken (length stretch) so_far adds in
-          record {
-            earlier = earlier;
-            stretch = stretch;
-            back = back;
-            split = split;
-            one = one;
-            whole = whole;
-            last = adds.said;
-            each = adds.each;
-            part = n;
-            appended = appended ∙ append_assoc old output (take n lines) ∙ ap (λ o. old ++ (o ++ take n lines)) so_far.lines
-                ∙ ap (λ l. old ++ (line_bytes whole ++ take n l)) adds.lines_are;
-            answers = answers (earlier ++ stretch) (line_bytes (whole ++ adds.said)) seats is_broken both.so_far is;
-            lines = both.lines;
-          }
+          (images_of Disk.image directory disk) found opened earlier (earlier ++ stretch) output lines mid seats was is_broken (length stretch) so_far adds in (
+            record {
+              earlier = earlier;
+              stretch = stretch;
+              back = back;
+              split = split;
+              one = one;
+              whole = whole;
+              last = adds.said;
+              each = adds.each;
+              part = n;
+              appended = appended ∙ append_assoc old output (take n lines) ∙ ap (λ o. old ++ (o ++ take n lines)) so_far.lines
+                  ∙ ap (λ l. old ++ (line_bytes whole ++ take n l)) adds.lines_are;
+              answers = answers (earlier ++ stretch) (line_bytes (whole ++ adds.said)) seats is_broken both.so_far is;
+              lines = both.lines;
+            },
+            refl,
+          )

@@ -10,6 +10,7 @@ use cqe_base::text::ScriptError;
 use outside::{Sink, Source};
 use script_lines::{Reading, read_script};
 use std::alloc::Global;
+use std::thread::Threads;
 
 /// How a case ends.
 #[derive(Clone, Copy, Debug, PartialEq, Eq)]
@@ -28,7 +29,12 @@ pub enum CaseEnd {
 
 /// Reads the whole script of a case from the source, refuses it before the first ask, or answers
 /// its asks with one line each, which is written before the next is answered.
-pub fn run_case<S: Source, K: Sink>(alloc: Global, source: &mut S, sink: &mut K) -> CaseEnd
+pub fn run_case<R: Threads + Sync, S: Source, K: Sink>(
+    rt: &R,
+    alloc: Global,
+    source: &mut S,
+    sink: &mut K,
+) -> CaseEnd
     ensures ends { S.tells → K.tells
         → EndsCase result (S.left source.old) (S.left source.new) (K.written sink.old)
         (K.written sink.new) }
@@ -52,5 +58,5 @@ pub fn run_case<S: Source, K: Sink>(alloc: Global, source: &mut S, sink: &mut K)
     let Ok(parts) = script.into_parts(alloc) else {
         return CaseEnd::Memory;
     };
-    answer_all(alloc, &parts, sink)
+    answer_all(rt, alloc, &parts, sink)
 }

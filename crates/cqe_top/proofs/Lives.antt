@@ -55,9 +55,10 @@ said_once P policy policy' world world' header header' same is =
 -- ---- two batches
 
 answered_over : (words : List Text) (s : Scene) (complaints : Output) (status : ℕ) (files : FileNames) (users : Vec User Global) (engine_end : BatchEnd)
-    (one : Promise words s complaints status) → reading_of words ≡ Some (runs_batch files) → one.end ≡ end.Batch users engine_end → TellsAll s
+    (workers : ℕ) (one : Promise words s complaints status) → reading_of words ≡ Some (runs_batch files workers)
+    → one.end ≡ end.Batch users engine_end → TellsAll s
     → SayOn s.shelf files (λ policy world header. IsEndOf s files policy world header engine_end)
-answered_over words s complaints status files users engine_end one read ends tells =
+answered_over words s complaints status files users engine_end workers one read ends tells =
     let of_batch : OfBatch s files one.end = subst (λ r. OfReading s r one.end) read one.command in
     let runs : RunsBatch s.shelf s.input s.output files users engine_end =
     subst (λ (e : CommandEnd). BatchEnds s.shelf s.input s.output files e) ends of_batch.ends in
@@ -65,9 +66,10 @@ answered_over words s complaints status files users engine_end one read ends tel
     (over.0, over.1, over.2, over.3, over.4.answers tells.1 tells.2)
 
 pub calls_join : (s : Scene) (complaints : Output) (s' : Scene) (complaints' : Output) → BatchCallsJoin s complaints s' complaints'
-calls_join s complaints s' complaints' words words' status status' files users users' engine_end engine_end' one two read read' ends ends' tells tells' same =
-    let at = answered_over words s complaints status files users engine_end one read ends tells in
-    let at' = answered_over words' s' complaints' status' files users' engine_end' two read' ends' tells' in (
+calls_join s complaints s' complaints' words words' status status' files workers workers' users users' engine_end engine_end' one two read read' ends ends'
+    tells tells' same =
+    let at = answered_over words s complaints status files users engine_end workers one read ends tells in
+    let at' = answered_over words' s' complaints' status' files users' engine_end' workers' two read' ends' tells' in (
       at.0,
       at.1,
       at.2,
@@ -156,7 +158,7 @@ module _ (journals : Journals) (policy : PolicyValue) (world : FactSet) (header 
   batch_leaves batch_end.WriteFault (items, written, some) = batch_parts (some.earlier ++ some.stretch) _ some.answers
   batch_leaves batch_end.ShelfFault kept = inl kept
   batch_leaves batch_end.Memory (inl kept) = inl kept
-  batch_leaves batch_end.Memory (inr (items, written, to)) = batch_parts to.front _ to.answers
+  batch_leaves batch_end.Memory (inr (items, written, to)) = batch_parts (to.0.earlier ++ to.0.stretch) _ to.0.answers
 
   module _ (user : User) (member : Member) (refusal : Option DeskError)
       (served : HasServed policy.schema world header journals user member refusal) where
@@ -280,7 +282,7 @@ module _ {F D : Type 0} (Shelf : ShelfGhosts F D) (Disk : DiskGhosts D) (old new
     of_serve address workers limit (end.Selfrun run) runs = absurd runs
 
     of_reading : (r : Option Reading) (e : CommandEnd) → OfReading (scene_of shelf input output links) r e → UsesJournals files r → Parts
-    of_reading (Some (runs_batch its)) e of same =
+    of_reading (Some (runs_batch its workers)) e of same =
         of_batch e (subst (λ (f : FileNames). OfBatch (scene_of shelf input output links) f e) same of).ends
     of_reading (Some (runs_audit its user json)) e of same =
         of_audit user json e (subst (λ (f : FileNames). OfAudit (scene_of shelf input output links) f user json e) same of).ends

@@ -55,7 +55,7 @@ module _ (shelf : ShelfScene) (input : Input) (output : Output) (files : FileNam
       → (HasRisen shelf.faults → ⊥) → (HasRisen input.faults → ⊥) → (HasRisen output.faults → ⊥)
       → IsDoneUnlessMemory end
 
--- `batch` over the files of these names
+-- `batch` over the files of these names, with however many workers
 pub record OfBatch (s : Scene) (files : FileNames) (end : CommandEnd) : Type 0 where
   pub ends : BatchEnds s.shelf s.input s.output files end
   pub listens_nowhere : SameLinks s.links

@@ -28,7 +28,7 @@ abbrev pub OfReading : Scene → Option Reading → CommandEnd → Type 0
 OfReading s None end = OfUsage s end
 OfReading s (Some runs_case) end = OfCase s end
 OfReading s (Some (runs_init files)) end = OfInit s files end
-OfReading s (Some (runs_batch files)) end = OfBatch s files end
+OfReading s (Some (runs_batch files workers)) end = OfBatch s files end
 OfReading s (Some (runs_audit files user json)) end = OfAudit s files user json end
 OfReading s (Some (runs_selfrun seed users asks)) end = OfSelfrun s seed users asks end
 OfReading s (Some (runs_serve files address workers limit)) end =

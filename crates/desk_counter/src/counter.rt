@@ -8,12 +8,14 @@ ghost use Rattle.desk_counter.specs.Codes.{profile_code};
 
 use crate::item::{Fixed, TurnItem};
 use crate::ticketed_desk::{Owned, TicketedDesk};
+use censors::LentViews;
 use cqe_base::laws::law_logs;
 use cqe_base::user::User;
-use entailment::{GroundSentence, View};
+use entailment::GroundSentence;
 use outside::{Disk, Gate, Point};
 use std::alloc::Global;
 use std::sync::Wait;
+use std::thread::Threads;
 use turnstile::{Pass, PassError, Turnstile};
 use user_desk::Desk;
 use user_log::{Examined, Examiner, Reply};
@@ -144,12 +146,13 @@ impl<'w, D: Disk> CounterOf<'w, TicketedDesk<'w, D>> {
         self.turnstile.meet(pass, other);
     }
 
-    /// Asks a text, in two turns. In the first one it takes a view of the log. Between both it
-    /// examines the text after that view. In the second one it settles the text by the entries of
-    /// all asks before, with what was found where the log is still the same, and else with what it
-    /// finds then. A pass that has all shares makes the second turn alone, and so does an ask of
-    /// which nothing is to be examined. The gate is passed between both turns and after the second.
-    pub fn ask<R: Wait, G: Gate>(
+    /// Asks a text, in two turns. In the first one it takes views of the log. Between both it
+    /// examines the text after these, by as many threads as there are views. In the second one it
+    /// settles the text by the entries of all asks before, with what was found where the log is
+    /// still the same, and else with what it finds then. A pass that has all shares makes the
+    /// second turn alone, and so does an ask of which nothing is to be examined. The gate is passed
+    /// between both turns and after the second.
+    pub fn ask<R: Threads + Wait + Sync, G: Gate>(
         &self,
         rt: &R,
         alloc: Global,
@@ -198,7 +201,7 @@ impl<'w, D: Disk> CounterOf<'w, TicketedDesk<'w, D>> {
 
     /// What is found of a text after the log as it stands in a first turn. There is nothing where
     /// the pass has all shares, the text is no query that is to be examined, or memory is wanting.
-    fn examined<R: Wait>(
+    fn examined<R: Threads + Wait + Sync>(
         &self,
         rt: &R,
         alloc: Global,
@@ -219,11 +222,11 @@ impl<'w, D: Disk> CounterOf<'w, TicketedDesk<'w, D>> {
             return None;
         }
         let query = self.examiner.read(alloc, text)?;
-        let view = self.lend(rt, alloc, pass, text, &query)?;
-        self.examiner.examine(alloc, view, query)
+        let lent = self.lend(rt, alloc, pass, text, &query)?;
+        self.examiner.examine(rt, alloc, lent, query)
     }
 
-    /// A first turn: takes a view of the log, after which the query of a text is to be examined.
+    /// A first turn: takes views of the log, after which the query of a text is to be examined.
     fn lend<R: Wait>(
         &self,
         rt: &R,
@@ -231,7 +234,7 @@ impl<'w, D: Disk> CounterOf<'w, TicketedDesk<'w, D>> {
         pass: &mut DeskPass<D>,
         text: &str,
         query: &GroundSentence,
-    ) -> Option<View<'w>>
+    ) -> Option<LentViews<'w>>
         requires pass { IsPassOf pass.old self.now }
         requires turns { 1 ≤ turns pass.old }
         requires short { length text.now ≤ 4096 }
@@ -243,9 +246,9 @@ impl<'w, D: Disk> CounterOf<'w, TicketedDesk<'w, D>> {
             (history_of (seen pass.new)) (sentence_of query.now)) }
     {
         let mut turn = self.turnstile.enter(rt, pass);
-        let view = turn.value.lend(alloc, text, query);
+        let lent = turn.value.lend(alloc, text, query);
         self.turnstile.leave(pass, turn);
-        view
+        lent
     }
 
     /// Takes the desk out, with the pass that has all shares. Its entries have no tickets any more,

@@ -7,7 +7,8 @@ ghost use Rattle.desk_counter.specs.Items.{pairs_of};
 ghost use Rattle.desk_counter.specs.Desks.{fixed_of};
 
 use crate::item::{Fixed, TurnItem};
-use entailment::{GroundSentence, View};
+use censors::LentViews;
+use entailment::GroundSentence;
 use outside::Disk;
 use std::alloc::{AllocError, Global};
 use turnstile::Recorded;
@@ -115,14 +116,14 @@ impl<'w, D: Disk> TicketedDesk<'w, D> {
         self.desk.known();
     }
 
-    /// A view of the log, after which the query of a text can be examined outside of a turn. There
-    /// is none where a code answers the text, or memory is wanting.
+    /// Views of the log, after which the query of a text can be examined outside of a turn. There
+    /// are none where a code answers the text, or memory is wanting.
     pub(crate) fn lend(
         &mut self,
         alloc: Global,
         text: &str,
         query: &GroundSentence,
-    ) -> Option<View<'w>>
+    ) -> Option<LentViews<'w>>
         requires { length text.now ≤ 4096 }
         ensures fixed { fixed_in self.new ≡ fixed_in self.old }
         ensures pairs { pairs_in self.new ≡ pairs_in self.old }

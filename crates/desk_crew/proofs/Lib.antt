@@ -7,3 +7,4 @@ pub mod Seated
 pub mod Rising
 pub mod Lasting
 pub mod Giving
+pub mod Crossing

@@ -26,13 +26,14 @@ ghost use Rattle.desk_crew.specs.Registered.{AllKeepLimits, SeatsKeepLimits};
 ghost use Rattle.desk_crew.specs.Registered.{registered_journals, HaveOwnNames};
 
 use crate::registry::Registry;
-use crate::seat::{DeskSeat, close_desk, reopen, seat_at, settle_at};
+use crate::seat::{DeskSeat, ask_at, close_desk, reopen, seat_at};
 use censors::admit;
 use cqe_base::user::User;
 use log_journal::{journal_name, law_journals_differ};
 use outside::{Disk, Gate, Shelf, ShelfError};
 use std::alloc::{AllocError, Global};
 use std::sync::Wait;
+use std::thread::Threads;
 use user_desk::DeskError;
 use user_log::Reply;
 
@@ -255,7 +256,7 @@ fn place_of<D: Disk>(seats: &[DeskSeat<'_, D>], name: &str) -> Option<usize>
 }
 
 /// The reply to a text of the user who has this name, if one has.
-pub fn answer<R: Wait, G: Gate, D: Disk>(
+pub fn answer<R: Threads + Wait + Sync, G: Gate, D: Disk>(
     rt: &R,
     alloc: Global,
     seats: &mut Vec<DeskSeat<'_, D>>,
@@ -273,7 +274,7 @@ pub fn answer<R: Wait, G: Gate, D: Disk>(
 {
     let place = place_of(seats.as_slice(), name)?;
     let seat = &mut seats[place];
-    Some(settle_at(rt, alloc, seat, text, gate))
+    Some(ask_at(rt, alloc, seat, text, gate))
 }
 
 /// The first refusal of each seat, in a list with the room for them.

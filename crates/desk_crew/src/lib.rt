@@ -17,4 +17,4 @@ mod seat;
 
 pub use crew::{NotOpened, answer, give_back, open_all, refusals_of, reopen_all, room_for};
 pub use registry::Registry;
-pub use seat::{DeskSeat, Seat};
+pub use seat::{DeskSeat, Seat, ask_at};

@@ -19,6 +19,7 @@ use desk_counter::{Owned, SoleCounter, SoleOf, TicketedDesk};
 use outside::{Disk, Gate};
 use std::alloc::Global;
 use std::sync::Wait;
+use std::thread::Threads;
 use user_desk::{DeskError, Standing, open_desk};
 use user_log::Reply;
 
@@ -111,7 +112,7 @@ pub(crate) fn seat_at<'w, D: Disk>(
 }
 
 /// The reply to a text of the user of a seat.
-pub(crate) fn settle_at<R: Wait, G: Gate, D: Disk>(
+pub fn ask_at<R: Threads + Wait + Sync, G: Gate, D: Disk>(
     rt: &R,
     alloc: Global,
     seat: &mut DeskSeat<'_, D>,

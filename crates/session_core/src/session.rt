@@ -25,6 +25,7 @@ use line_protocol::{
 use outside::{Disk, Failed, Gate, Sink, Source};
 use std::alloc::Global;
 use std::sync::Wait;
+use std::thread::Threads;
 use user_log::line_reply;
 
 /// A session ends behind the reply to so many lines.
@@ -74,7 +75,7 @@ fn login_place(users: &[User], name: &str, phrase: &str) -> Option<usize>
 }
 
 /// Asks a text at the desk of the user at this place.
-fn ask_at<R: Wait, D: Disk, G: Gate>(
+fn ask_at<R: Threads + Wait + Sync, D: Disk, G: Gate>(
     rt: &R,
     alloc: Global,
     counters: &Counters<'_, D>,
@@ -98,7 +99,7 @@ fn ask_at<R: Wait, D: Disk, G: Gate>(
 }
 
 /// The reply to a request, and who is logged in behind it.
-fn reply_to<R: Wait, D: Disk, G: Gate>(
+fn reply_to<R: Threads + Wait + Sync, D: Disk, G: Gate>(
     rt: &R,
     alloc: Global,
     counters: &Counters<'_, D>,
@@ -147,7 +148,7 @@ fn is_quit(request: &Request<'_>) -> bool
 /// the user who logged in, at his own desk, and only his pass changes. What each pass has seen is
 /// legal, and hides where its user is admitted. It waits for other sessions of that user, and makes
 /// at most 2^26 turns.
-pub fn serve_session<R: Wait, D: Disk, S: Source, K: Sink, G: Gate>(
+pub fn serve_session<R: Threads + Wait + Sync, D: Disk, S: Source, K: Sink, G: Gate>(
     rt: &R,
     alloc: Global,
     counters: &Counters<'_, D>,

@@ -20,9 +20,10 @@ ghost use Rattle.user_desk.specs.Standings.{is_open, is_sealed};
 use crate::kinds::kind_of;
 use crate::standing::Standing;
 use crate::store::Store;
+use censors::LentViews;
 use cqe_base::sentence::Sentence;
 use cqe_base::user::{Entry, Mark, User};
-use entailment::{GroundSentence, View};
+use entailment::GroundSentence;
 use log_journal::Header;
 use outside::Disk;
 use std::alloc::{AllocError, Global};
@@ -168,9 +169,14 @@ impl<'w, D: Disk> Desk<'w, D> {
         self.store.known();
     }
 
-    /// A view of the log, after which the query of a text can be examined outside of the desk.
-    /// There is none where a code answers the text, or memory is wanting. The desk stays as it is.
-    pub fn lend(&mut self, alloc: Global, text: &str, query: &GroundSentence) -> Option<View<'w>>
+    /// Views of the log, after which the query of a text can be examined outside of the desk. There
+    /// are none where a code answers the text, or memory is wanting. The desk stays as it is.
+    pub fn lend(
+        &mut self,
+        alloc: Global,
+        text: &str,
+        query: &GroundSentence,
+    ) -> Option<LentViews<'w>>
         requires { length text.now ≤ 4096 }
         ensures same { IsOfSame self.old self.new }
         ensures opening { IsOfOneOpening self.old self.new }

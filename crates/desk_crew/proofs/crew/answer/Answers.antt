@@ -19,8 +19,8 @@ returns-in_err-place g c = record {
       (told_nobody schema world c.args.name.now c.args.text.now seats found);
 }
 
-pub settle_at-requires-clause-user : goal.settle_at-requires-clause-user
-settle_at-requires-clause-user g c =
+pub ask_at-requires-clause-user : goal.ask_at-requires-clause-user
+ask_at-requires-clause-user g c κs within =
     let seats = c.args.seats.now.items in
     let found : position (is_named c.args.name.now) seats ≡ Some c.in_ok-place.place =
     ap (position (is_named c.args.name.now)) (sym c.as_slice.ensures.value) ∙ sym c.in_ok-place.ensures.place in
@@ -36,7 +36,7 @@ returns g c = record {
       let seats = c.args.seats.now.items in
       let found : position (is_named c.args.name.now) seats ≡ Some c.in_ok-place.place =
       ap (position (is_named c.args.name.now)) (sym c.as_slice.ensures.value) ∙ sym c.in_ok-place.ensures.place in
-      told_seat schema world c.args.name.now c.args.text.now header seats c.in_ok-place.place c.index_mut-seat.result.now c.settle_at.new.seat
-      (reply_of c.settle_at.result)
-      found c.index_mut-seat.ensures.value served c.settle_at.ensures;
+      told_seat schema world c.args.name.now c.args.text.now header seats c.in_ok-place.place c.index_mut-seat.result.now c.ask_at.new.seat
+      (reply_of c.ask_at.result)
+      found c.index_mut-seat.ensures.value served c.ask_at.ensures;
 }

@@ -49,10 +49,11 @@ pub returns-in-ReadFault-clause-read_cause : goal.returns-in-ReadFault-clause-re
 returns-in-ReadFault-clause-read_cause g c = λ is. rose_since _ _ _ c.loop.invariant.source_later (c.in-ReadFault.ensures.cause refl)
 
 pub reply_to-next-requires-clause-turns : goal.reply_to-next-requires-clause-turns
-reply_to-next-requires-clause-turns g c = turns_left _ _ _ _ _ _ _ _ _ _ _ _ c.loop.invariant.so_far (omega (arith, c.loop-test.true)) c.requires.turns
+reply_to-next-requires-clause-turns g c κs within =
+    turns_left _ _ _ _ _ _ _ _ _ _ _ _ c.loop.invariant.so_far (omega (arith, c.loop-test.true)) c.requires.turns
 
 pub reply_to-next-requires-clause-short : goal.reply_to-next-requires-clause-short
-reply_to-next-requires-clause-short g c = subst IsShort (sym c.read_request-request.ensures) (short_request c.line.result.now c.line.ensures.short)
+reply_to-next-requires-clause-short g c κs within = subst IsShort (sym c.read_request-request.ensures) (short_request c.line.result.now c.line.ensures.short)
 
 pub returns-in-Err-clause-session : goal.returns-in-Err-clause-session
 returns-in-Err-clause-session g c =
