@@ -43,9 +43,13 @@ use outside::{Disk, Failed, Gate, Shelf, Sink, Source};
 use script_lines::{Reading, read_script};
 use std::alloc::{AllocError, Global};
 use std::sync::Wait;
+use std::thread::Threads;
 use user_desk::DeskError;
 use user_desk::laws::law_openings;
 use user_log::{Reply, line_reply};
+
+/// In so many threads at most journals are opened.
+const WORKERS: usize = 4;
 
 /// How a batch ends.
 #[derive(Debug, Drop)]
@@ -159,7 +163,8 @@ fn answer_stretch<R: Wait, G: Gate, D: Disk>(
 
 /// Ends a stretch: closes its counters and opens all journals again, and only then writes its lines
 /// and that of the restart. Where it doesn't go on, all disks are back.
-fn restart<'w, F: Shelf, K: Sink>(
+fn restart<'w, R: Threads + Sync, F: Shelf, K: Sink>(
+    rt: &R,
     alloc: Global,
     registry: &Registry<'w>,
     shelf: &mut F,
@@ -167,6 +172,8 @@ fn restart<'w, F: Shelf, K: Sink>(
     lines: &mut Vec<OutputLine>,
     sink: &mut K,
 ) -> Ended<'w, TicketedDesk<'w, F::D>>
+where
+    F::D: Send,
     requires limits { SeatsKeepLimits registry.now.schema.now seats.items }
     requires served { AllByRecursion (IsSeatServed registry.now.schema.now registry.now.world.now
         (header_bytes registry.now.header.now)) seats.items }
@@ -195,7 +202,7 @@ fn restart<'w, F: Shelf, K: Sink>(
     ensures sink_later { K.faults sink.old ≤ K.faults sink.new }
     ensures cause { IsCutOff result → Rose (K.faults sink.old) (K.faults sink.new) }
 {
-    let Some(seats) = reopen_all(alloc, registry, shelf, seats) else {
+    let Some(seats) = reopen_all(rt, alloc, registry, WORKERS, shelf, seats) else {
         return match write_behind(sink, lines.as_slice(), registry, shelf) {
             Ok(()) => Ended::NoMemory,
             Err(Failed) => Ended::CutOff,
@@ -215,7 +222,7 @@ fn restart<'w, F: Shelf, K: Sink>(
 
 /// Answers the items of a batch, stretch by stretch. The lines of a stretch are written once its
 /// counters are closed. All disks are given back.
-fn answer_all<'w, R: Wait, G: Gate, F: Shelf, K: Sink>(
+fn answer_all<'w, R: Threads + Wait + Sync, G: Gate, F: Shelf, K: Sink>(
     rt: &R,
     alloc: Global,
     registry: &Registry<'w>,
@@ -226,6 +233,8 @@ fn answer_all<'w, R: Wait, G: Gate, F: Shelf, K: Sink>(
     sink: &mut K,
     gate: &G,
 ) -> Answered
+where
+    F::D: Send,
     requires limits { SeatsKeepLimits registry.now.schema.now seats.items }
     requires served { AllByRecursion (IsSeatServed registry.now.schema.now registry.now.world.now
         (header_bytes registry.now.header.now)) seats.items }
@@ -260,7 +269,7 @@ fn answer_all<'w, R: Wait, G: Gate, F: Shelf, K: Sink>(
     for asks in batch.ended() {
         let says_broken = answer_stretch(rt, alloc, &mut seats, asks.as_slice(), &mut lines, gate);
         is_broken = is_broken || says_broken;
-        match restart(alloc, registry, shelf, seats, &mut lines, sink) {
+        match restart(rt, alloc, registry, shelf, seats, &mut lines, sink) {
             Ended::Again(next) => seats = next,
             Ended::CutOff => return Answered::Cut,
             Ended::NoMemory => return Answered::Memory,
@@ -293,7 +302,7 @@ fn room_for_lines(alloc: Global, batch: &Batch) -> Result<Vec<OutputLine>, Alloc
 /// as those of threads are, and passes the gate. At the end of a stretch all counters are closed,
 /// and only then its lines are written. A restart opens every desk again from its disk. All disks
 /// are given back on every path. It may wait, at the counters and at the gate.
-pub fn run_batch<R: Wait, F: Shelf, S: Source, K: Sink, G: Gate>(
+pub fn run_batch<R: Threads + Wait + Sync, F: Shelf, S: Source, K: Sink, G: Gate>(
     rt: &R,
     alloc: Global,
     registry: &Registry<'_>,
@@ -302,6 +311,8 @@ pub fn run_batch<R: Wait, F: Shelf, S: Source, K: Sink, G: Gate>(
     sink: &mut K,
     gate: &G,
 ) -> BatchEnd
+where
+    F::D: Send,
     requires limits { AllKeepLimits registry.now.schema.now registry.now.users.now }
     requires names { HaveOwnNames registry.now.users.now }
     requires inside { NoneOut (F.is_out shelf.old) }
@@ -360,7 +371,7 @@ pub fn run_batch<R: Wait, F: Shelf, S: Source, K: Sink, G: Gate>(
     let Ok(lines) = room_for_lines(alloc, &batch) else {
         return BatchEnd::Memory;
     };
-    let seats = match open_all(alloc, registry, shelf) {
+    let seats = match open_all(rt, alloc, registry, WORKERS, shelf) {
         Ok(seats) => seats,
         Err(NotOpened::Shelf) => return BatchEnd::ShelfFault,
         Err(NotOpened::Memory) => return BatchEnd::Memory,

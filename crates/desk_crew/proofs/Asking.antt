@@ -1,5 +1,5 @@
 -- One ask of a name among the users of a batch.
-use Rattle.std.proofs.Common.{◌≡◌, ℕ, zero, suc, ◌<◌, ◌+◌, Bool, true, false, not, cond, List, [], ◌∷◌, ◌++◌, length, get_or, refl, sym, ap, subst, ◌∙◌, arith}
+use Rattle.std.proofs.Common.{◌≡◌, ℕ, zero, suc, ◌<◌, ◌+◌, Bool, true, false, not, cond, List, [], ◌∷◌, length, get_or, refl, sym, ap, subst, ◌∙◌, arith}
 use Rattle.std.specs.Prelude.{Option, Some, None, position, slice_set, nat_lt}
 use Rattle.std.specs.List.{AllByRecursion, position_or_len}
 use Rattle.std.proofs.lemmas.List.Quantifiers.{position-Some}
@@ -79,14 +79,6 @@ module _ {X : Type 0} (p : X → Bool) where
       by : (b : Bool) → cond b (Some (position_or_len p xs)) None ≡ None → b ≡ false
       by false e = refl
       by true e = absurd cc
-
--- and of the first of the second part of a list
-pub all_second : {X : Type 0} (P : X → Type 0) (xs : List X) (x : X) (ys all : List X) → all ≡ xs ++ x ∷ ys → AllByRecursion P all → P x
-all_second P xs x ys all is holds = by xs (subst (AllByRecursion P) is holds)
-  where
-    by : (zs : List _) → AllByRecursion P (zs ++ x ∷ ys) → P x
-    by [] holds = holds.0
-    by (z ∷ zs) holds = by zs holds.1
 
 module _ {D : Type 0} {g h : _} (schema : DatabaseSchema) (world : FactSet) (name text : Text) where
   nobody_named : (seats : List (DeskSeat D g h)) → ((k : ℕ) (d : DeskSeat D g h) → k < length seats → is_named name (get_or seats k d) ≡ false)

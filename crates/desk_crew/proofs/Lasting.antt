@@ -1,7 +1,7 @@
 -- What a crash could leave of a journal at each moment of a call.
 use Rattle.std.proofs.Common.{◌≡◌, ◌⊎◌, inl, inr, ⊎_elim, ℕ, ◌≤◌, Bool, true, false, List, ◌++◌, length, refl, sym, ap, subst, arith}
 use Rattle.std.proofs.Common.{length-append}
-use Rattle.std.specs.Prelude.{Option, Some, None, option_map, option_to_list, IfSome, not}
+use Rattle.std.specs.Prelude.{Option, Some, None, option_map, option_to_list, IfSome, IfNone, not}
 use Rattle.std.proofs.lemmas.List.{take_all, take_at}
 use Rattle.outside.specs.Disk.{Elapses}
 use Rattle.outside.specs.Shelf.{IsTaken}
@@ -20,10 +20,15 @@ pub taken_moment : {D : Type 0} (reads : D → List ℕ) (image : D → List ℕ
 taken_moment reads image moment None taken is = tt
 taken_moment reads image moment (Some one) taken is = ap moment (sym is)
 
--- what is known of a number that may be there
-pub if_some_on : (number : Option ℕ) (P Q : ℕ → Type 0) → ((n : ℕ) → P n → Q n) → IfSome number P → IfSome number Q
+-- what is known of a value that may be there
+pub if_some_on : {X : Type 0} (value : Option X) (P Q : X → Type 0) → ((x : X) → P x → Q x) → IfSome value P → IfSome value Q
 if_some_on None P Q on is = tt
-if_some_on (Some n) P Q on is = on n is
+if_some_on (Some x) P Q on is = on x is
+
+-- and where there is none
+pub if_none_on : {X : Type 0} (value : Option X) (P Q : Type 0) → (P → Q) → IfNone value P → IfNone value Q
+if_none_on None P Q on is = on is
+if_none_on (Some x) P Q on is = tt
 
 -- bytes that hold a state open a desk with a beginning of its entries, with the one in flight
 pub holds_within : (schema : DatabaseSchema) (world : FactSet) (user : UserProfile) (header : List ℕ) (entries : History) (standing : Run.Standing)

@@ -1,6 +1,7 @@
 -- The disks of users on their shelf.
 use Rattle.std.specs.Prelude.{◌≡◌, ◌⊎◌, ℕ, ◌≤◌, Bool, true, false, List, [], ◌∷◌, Option, Some}
 use Rattle.std.specs.Prelude.{None, map, option_map, string_bytes, IfSome}
+use Rattle.std.specs.List.{AllByRecursion}
 use Rattle.outside.specs.declared.disk.Disk.{Ghosts as DiskGhosts}
 use Rattle.outside.specs.Shelf.{IsTaken, bytes_on, image_on, is_among}
 use Rattle.outside.specs.declared.shelf.Shelf.{Ghosts as ShelfGhosts}
@@ -103,9 +104,8 @@ journals seats = map seat_journal seats
 -- the count of faults under the name of each seat's journal is at most that of its disk as its desk
 -- was opened
 abbrev pub AreLater : {D : Type 0} {g h : _} → (D → ℕ) → (Text → ℕ) → List (DeskSeat D g h) → Type 0
-AreLater faults count [] = Unit {0}
-AreLater faults count (seat ∷ seats) =
-    (count (seat_journal seat) ≤ faults (seat_disk seat)) × AreLater faults count seats
+AreLater faults count seats =
+    AllByRecursion (λ seat. count (seat_journal seat) ≤ faults (seat_disk seat)) seats
 
 module _ {D : Type 0} (told : Type 0) (Disk : DiskGhosts D) where
   -- a seat's disk is back, as its desk left it or as one more opening did
@@ -118,8 +118,7 @@ module _ {D : Type 0} (told : Type 0) (Disk : DiskGhosts D) where
 
   -- all are
   abbrev pub AreBack : {g h : _} → (Text → Option D) → (Text → ℕ) → List (DeskSeat D g h) → Type 0
-  AreBack disk count [] = Unit {0}
-  AreBack disk count (seat ∷ seats) = IsBack disk count seat × AreBack disk count seats
+  AreBack disk count seats = AllByRecursion (IsBack disk count) seats
 
   module _ (schema : DatabaseSchema) (world : FactSet) (header directory : List ℕ) where
     -- a user's journal was taken from the shelf and opened

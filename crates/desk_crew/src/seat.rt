@@ -8,9 +8,9 @@ ghost use Rattle.log_journal.specs.Opening.{header_bytes};
 ghost use Rattle.user_log.specs.Replies.{reply_of};
 ghost use Rattle.desk_counter.specs.Items.{has_broke};
 ghost use Rattle.desk_counter.specs.Sole.{pairs_of_sole};
-ghost use Rattle.desk_crew.specs.Crew.{first_refusal, seat_user, seat_kept, seat_journal};
-ghost use Rattle.desk_crew.specs.Crew.{disk_seated, journal_seated, IsLeft, IsLeftBy, IsClosed};
-ghost use Rattle.desk_crew.specs.Crew.{IsSeatServed, IsToldAt, IsOpenedFrom, IsReopened};
+ghost use Rattle.desk_crew.specs.Crew.{first_refusal, seat_user, seat_kept};
+ghost use Rattle.desk_crew.specs.Crew.{disk_seated, journal_seated, IsLeft, IsClosed};
+ghost use Rattle.desk_crew.specs.Crew.{IsToldAt, IsOpenedFrom};
 
 use crate::registry::Registry;
 use censors::Admission;
@@ -39,9 +39,9 @@ pub struct Seat<'w, V: Owned> {
 /// A user at his desk.
 pub type DeskSeat<'w, D> = Seat<'w, TicketedDesk<'w, D>>;
 
-/// A disk that couldn't be opened for want of memory, with its name.
+/// The disk of a journal that isn't open, with its name.
 #[derive(Drop)]
-pub(crate) struct Returned<D: Disk> {
+pub(crate) struct Returned<D> {
     pub journal: String,
     pub disk: D,
 }
@@ -134,30 +134,4 @@ pub(crate) fn close_desk<D: Disk>(desk: SoleCounter<'_, D>) -> (D, bool)
     let desk = desk.close();
     let is_broken = desk.broken();
     (desk.close(), is_broken)
-}
-
-/// Closes a desk and opens it again from its disk.
-pub(crate) fn reopen<'w, D: Disk>(
-    alloc: Global,
-    registry: &Registry<'w>,
-    seat: DeskSeat<'w, D>,
-) -> Result<DeskSeat<'w, D>, Returned<D>>
-    requires limits { KeepsLimits registry.now.schema.now (profile_of (seat_user seat)) }
-    requires served { IsSeatServed registry.now.schema.now registry.now.world.now
-        (header_bytes registry.now.header.now) seat }
-    ensures reopened { IfOk result (IsReopened registry.now.schema.now registry.now.world.now
-        (header_bytes registry.now.header.now) D.Disk seat.entry) }
-    ensures journal { journal_seated result ≡ seat_journal seat.entry }
-    ensures left { IsLeftBy D.Disk seat.entry.desk (disk_seated result) }
-{
-    let (disk, _) = close_desk(seat.desk);
-    seat_at(
-        alloc,
-        registry,
-        seat.user,
-        seat.admission,
-        seat.journal,
-        seat.refusal,
-        disk,
-    )
 }

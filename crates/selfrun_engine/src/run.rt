@@ -32,6 +32,7 @@ use policy_files::{Policy, read_facts, read_policy};
 use sha2::{Digest, Sha256};
 use std::alloc::{AllocError, Global};
 use std::sync::Wait;
+use std::thread::Threads;
 use user_desk::DeskError;
 use workload::{Workload, make};
 
@@ -39,7 +40,7 @@ use workload::{Workload, make};
 /// memory, and writes the summary: eight lines with the seed, how many users and asks there are,
 /// how often each mark came, and how often another reply. Want of memory in one of the objects ends
 /// the run as any other want of memory does.
-pub fn run_selfrun<R: Wait, K: Sink>(
+pub fn run_selfrun<R: Threads + Wait + Sync, K: Sink>(
     rt: &R,
     alloc: Global,
     seed: u64,
@@ -69,7 +70,7 @@ pub fn run_selfrun<R: Wait, K: Sink>(
 }
 
 // Makes the workload, runs it, and counts the replies.
-fn run<R: Wait>(
+fn run<R: Threads + Wait + Sync>(
     rt: &R,
     alloc: Global,
     seed: u64,
@@ -102,7 +103,7 @@ const JOURNALS: &str = "journals";
 
 // The lines of a script over the users of a policy, whose journals are made on a shelf in memory.
 // Where a call of one of the objects in memory fails, memory was wanting.
-fn answers<R: Wait>(
+fn answers<R: Threads + Wait + Sync>(
     rt: &R,
     alloc: Global,
     policy: &Policy,

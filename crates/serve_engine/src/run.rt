@@ -203,7 +203,8 @@ where
     let Ok(room) = room_for(alloc, registry.users.len()) else {
         return (ServeEnd::Memory, doors);
     };
-    let seats = match open_all(alloc, registry, shelf) {
+    let workers = doors.len();
+    let seats = match open_all(rt, alloc, registry, workers, shelf) {
         Ok(seats) => seats,
         Err(NotOpened::Shelf) => return (ServeEnd::ShelfFault, doors),
         Err(NotOpened::Memory) => return (ServeEnd::Memory, doors),

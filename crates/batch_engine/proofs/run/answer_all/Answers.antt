@@ -84,27 +84,27 @@ stay g c =
     c.loop-asks.invariant.so_far.runs (runs g c))
 
 pub restart-requires-clause-limits : goal.restart-requires-clause-limits
-restart-requires-clause-limits g c = (stay g (goal.at.restart-requires-clause-limits g c).After-answer_stretch-says_broken).limits c.requires.limits
+restart-requires-clause-limits g c κs within = (stay g (goal.at.restart-requires-clause-limits g c).After-answer_stretch-says_broken).limits c.requires.limits
 
 pub restart-requires-clause-served : goal.restart-requires-clause-served
-restart-requires-clause-served g c = (stay g (goal.at.restart-requires-clause-served g c).After-answer_stretch-says_broken).served c.requires.served
+restart-requires-clause-served g c κs within = (stay g (goal.at.restart-requires-clause-served g c).After-answer_stretch-says_broken).served c.requires.served
 
 pub restart-requires-clause-registered : goal.restart-requires-clause-registered
-restart-requires-clause-registered g c =
+restart-requires-clause-registered g c κs within =
     (stay g (goal.at.restart-requires-clause-registered g c).After-answer_stretch-says_broken).names ∙ c.requires.registered
 
 pub restart-requires-clause-distinct : goal.restart-requires-clause-distinct
-restart-requires-clause-distinct g c =
+restart-requires-clause-distinct g c κs within =
     ap has_duplicate (stay g (goal.at.restart-requires-clause-distinct g c).After-answer_stretch-says_broken).names ∙ c.requires.distinct
 
 pub restart-requires-clause-out : goal.restart-requires-clause-out
-restart-requires-clause-out g c =
+restart-requires-clause-out g c κs within =
     subst (λ s. AllOut (journals c.answer_stretch-says_broken.new.seats.items) (g.F.Shelf.is_out s)) (sym c.loop-asks.invariant.same)
     (subst (λ ns. AllOut ns (g.F.Shelf.is_out c.args.shelf.now))
     (sym (stay g (goal.at.restart-requires-clause-out g c).After-answer_stretch-says_broken).names) c.requires.out)
 
 pub restart-requires-clause-later : goal.restart-requires-clause-later
-restart-requires-clause-later g c =
+restart-requires-clause-later g c κs within =
     (stay g (goal.at.restart-requires-clause-later g c).After-answer_stretch-says_broken).later (g.F.Shelf.disk_faults c.loop-asks.shelf)
     (subst (λ s. AreLater g.F.D.Disk.faults (g.F.Shelf.disk_faults s) c.args.seats.items) (sym c.loop-asks.invariant.same) c.requires.later)
 

@@ -41,7 +41,9 @@ ending : (g : Over) (c : In-Ok-open_all g) (told : g.F.Shelf.tells) (after : _)
     (map named_user c.args.registry.now.users.now) c.in-Ok-open_all.seats.items (g.F.Shelf.disk after) (g.F.Shelf.disk_faults after)
 ending g c told after =
     finishes c.args.registry.now.schema.now c.args.registry.now.world.now (header_bytes c.args.registry.now.header.now) c.args.registry.now.directory.now
-    g.F.Shelf.tells told g.F.D.Disk (g.met.F.Shelf.tells_disks told) g.met.F.D.Disk.read_is_image g.met.F.D.Disk.only_now
+    g.F.Shelf.tells told g.F.D.Disk (g.met.F.Shelf.tells_disks told)
+    (g.met.F.D.Disk g.world.𝓛 g.world.𝓜 g.world.𝓡 ((λ s x. x), (λ x. x), (λ x. x), λ x. x)).read_is_image
+    (g.met.F.D.Disk g.world.𝓛 g.world.𝓜 g.world.𝓡 ((λ s x. x), (λ x. x), (λ x. x), λ x. x)).only_now
     (g.F.Shelf.disk c.args.shelf.now) (g.F.Shelf.disk after) (g.F.Shelf.disk_faults c.args.shelf.now) (g.F.Shelf.disk_faults after)
     (λ (user : UserProfile) entries bytes why. c.law_openings.ensures.unrefused c.args.registry.now.schema.now c.args.registry.now.world.now user
     c.args.registry.now.header.now bytes entries why)
@@ -51,26 +53,26 @@ ending g c told after =
     c.requires.limits c.requires.names c.in-Ok-open_all.seats.items c.in-Ok-open_all.ensures.opened
 
 pub answer_all-requires-clause-limits : goal.answer_all-requires-clause-limits
-answer_all-requires-clause-limits g c =
+answer_all-requires-clause-limits g c κs within =
     seats_limits c.args.registry.now.directory.now c.args.registry.now.schema.now c.args.registry.now.world.now
     (header_bytes c.args.registry.now.header.now) g.F.Shelf.tells g.F.D.Disk (g.F.Shelf.disk c.args.shelf.now)
     (g.F.Shelf.disk_faults c.args.shelf.now) c.args.registry.now.users.now c.in-Ok-open_all.seats.items c.in-Ok-open_all.ensures.opened
     (all_of _ c.args.registry.now.users.now c.requires.limits)
 
 pub answer_all-requires-clause-served : goal.answer_all-requires-clause-served
-answer_all-requires-clause-served g c = (seated g (goal.at.answer_all-requires-clause-served g c).In-Ok-open_all).served
+answer_all-requires-clause-served g c κs within = (seated g (goal.at.answer_all-requires-clause-served g c).In-Ok-open_all).served
 
 pub answer_all-requires-clause-registered : goal.answer_all-requires-clause-registered
-answer_all-requires-clause-registered g c = (seated g (goal.at.answer_all-requires-clause-registered g c).In-Ok-open_all).journals_are
+answer_all-requires-clause-registered g c κs within = (seated g (goal.at.answer_all-requires-clause-registered g c).In-Ok-open_all).journals_are
 
 pub answer_all-requires-clause-distinct : goal.answer_all-requires-clause-distinct
-answer_all-requires-clause-distinct g c = (seated g (goal.at.answer_all-requires-clause-distinct g c).In-Ok-open_all).distinct
+answer_all-requires-clause-distinct g c κs within = (seated g (goal.at.answer_all-requires-clause-distinct g c).In-Ok-open_all).distinct
 
 pub answer_all-requires-clause-later : goal.answer_all-requires-clause-later
-answer_all-requires-clause-later g c = (seated g (goal.at.answer_all-requires-clause-later g c).In-Ok-open_all).later
+answer_all-requires-clause-later g c κs within = (seated g (goal.at.answer_all-requires-clause-later g c).In-Ok-open_all).later
 
 pub answer_all-requires-clause-refusals : goal.answer_all-requires-clause-refusals
-answer_all-requires-clause-refusals g c =
+answer_all-requires-clause-refusals g c κs within =
     let room = c.in-Ok.ensures.room in
     let count = (seated g (goal.at.answer_all-requires-clause-refusals g c).In-Ok-open_all).many in
     omega (arith, room, count)

@@ -15,25 +15,25 @@ bounds_of files (Audit user json) keeps = tt
 bounds_of files (Serve listening) keeps = keeps
 
 pub run_selfrun-end-requires-clause-some_user : goal.run_selfrun-end-requires-clause-some_user
-run_selfrun-end-requires-clause-some_user g c =
+run_selfrun-end-requires-clause-some_user g c κs within =
     let run = c.in-Selfrun.words in
     (kept (map string_bytes c.args.words.now) (runs_selfrun run.seed run.users run.asks)
     (sym c.in-Ok-Some.ensures ∙ ap (option_map reading_in) c.in-Ok-Some.field-0-is ∙ ap Some (sym c.in-Selfrun.ensures))).some_user
 
 pub run_selfrun-end-requires-clause-few_users : goal.run_selfrun-end-requires-clause-few_users
-run_selfrun-end-requires-clause-few_users g c =
+run_selfrun-end-requires-clause-few_users g c κs within =
     let run = c.in-Selfrun.words in
     (kept (map string_bytes c.args.words.now) (runs_selfrun run.seed run.users run.asks)
     (sym c.in-Ok-Some.ensures ∙ ap (option_map reading_in) c.in-Ok-Some.field-0-is ∙ ap Some (sym c.in-Selfrun.ensures))).few_users
 
 pub run_selfrun-end-requires-clause-some_ask : goal.run_selfrun-end-requires-clause-some_ask
-run_selfrun-end-requires-clause-some_ask g c =
+run_selfrun-end-requires-clause-some_ask g c κs within =
     let run = c.in-Selfrun.words in
     (kept (map string_bytes c.args.words.now) (runs_selfrun run.seed run.users run.asks)
     (sym c.in-Ok-Some.ensures ∙ ap (option_map reading_in) c.in-Ok-Some.field-0-is ∙ ap Some (sym c.in-Selfrun.ensures))).some_ask
 
 pub run_selfrun-end-requires-clause-few_asks : goal.run_selfrun-end-requires-clause-few_asks
-run_selfrun-end-requires-clause-few_asks g c =
+run_selfrun-end-requires-clause-few_asks g c κs within =
     let run = c.in-Selfrun.words in
     (kept (map string_bytes c.args.words.now) (runs_selfrun run.seed run.users run.asks)
     (sym c.in-Ok-Some.ensures ∙ ap (option_map reading_in) c.in-Ok-Some.field-0-is ∙ ap Some (sym c.in-Selfrun.ensures))).few_asks

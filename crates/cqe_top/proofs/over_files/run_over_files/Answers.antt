@@ -31,7 +31,7 @@ use Rattle.cqe_top.proofs.over_files.run_over_files.Goals.{After-drop-inputs-5, 
 use Rattle.cqe_top.proofs.over_files.run_over_files.Goals.{After-drop-inputs-in-Init-3, After-drop-inputs-in_default-5, In-Err}
 
 pub run_batch-end-requires-clause-names : goal.run_batch-end-requires-clause-names
-run_batch-end-requires-clause-names g c =
+run_batch-end-requires-clause-names g c κs within =
     ap has_duplicate (ap (λ users. map (λ user. user.name) (map named_user users)) c.as_slice.ensures.value ∙ batch_names_are c.in-Ok.inputs.policy.users.items)
     ∙ c.in-Ok.ensures.names
 

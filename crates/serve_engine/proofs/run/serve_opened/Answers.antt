@@ -15,6 +15,13 @@ use Rattle.serve_engine.proofs.run.serve_opened.Given.{Over}
 use Rattle.serve_engine.proofs.run.serve_opened.Goals as goal
 use Rattle.serve_engine.proofs.run.serve_opened.Goals.{After-end_of, After-give_back-arg-1, In-Ok-open_all}
 
+pub open_all-requires-clause-some : goal.open_all-requires-clause-some
+open_all-requires-clause-some g c κs within =
+    let some = c.requires.some in
+    let items = c.args.doors.ok.0 in
+    let count = c.len-workers.ensures in
+    omega (arith, some, items, count)
+
 -- ---- what follows from the opening of all journals
 
 seated : (g : Over) (c : In-Ok-open_all g)
