@@ -2,6 +2,7 @@ use Rattle.std.proofs.Common.{◌≡◌, ◌+◌, length, take, map, refl, sym, 
 use Rattle.std.specs.Prelude.{Err}
 use Rattle.std.proofs.lemmas.List.{take_all}
 use Rattle.outside.proofs.Rises.{rose_wide}
+use Rattle.outside.proofs.Taken.{same_moments}
 use Rattle.outside.specs.Shelf.{is_among}
 use Rattle.log_journal.specs.Opening.{header_bytes}
 use Rattle.log_journal.specs.Names.{journal_name}
@@ -30,6 +31,7 @@ refused g c = record {
   out = c.in-Err.ensures.refused_out;
   bytes = c.in-Err.ensures.refused_bytes;
   images = c.in-Err.ensures.refused_images;
+  moments = c.in-Err.ensures.refused_moments;
   disks = c.open_seat.ensures.disks;
   fell = c.in-Err.ensures.fell;
   counts = c.in-Err.ensures.other_counts;
@@ -71,8 +73,18 @@ returns-in-Err-clause-refused_bytes g c = λ told name. ((left g c).same told na
 pub returns-in-Err-clause-refused_images : goal.returns-in-Err-clause-refused_images
 returns-in-Err-clause-refused_images g c = λ told name. ((left g c).same told name).1
 
+pub returns-in_default-clause-refused_moments : goal.returns-in_default-clause-refused_moments
+returns-in_default-clause-refused_moments g c = λ told.
+    same_moments g.F.D.Disk g.met.F.D.Disk.only_now (g.F.Shelf.disk c.args.shelf.now) (g.F.Shelf.disk c.args.shelf.now) (λ name. refl)
+
+pub returns-in-Err-clause-refused_moments : goal.returns-in-Err-clause-refused_moments
+returns-in-Err-clause-refused_moments g c = λ told name. ((left g c).same told name).2
+
 pub returns-in-Err-clause-disks : goal.returns-in-Err-clause-disks
 returns-in-Err-clause-disks g c = (left g c).disks
+
+pub returns-in-Err-clause-other_counts : goal.returns-in-Err-clause-other_counts
+returns-in-Err-clause-other_counts g c = (left g c).other_counts
 
 pub returns-in-Err-clause-fell : goal.returns-in-Err-clause-fell
 returns-in-Err-clause-fell g c = (left g c).counts
@@ -88,6 +100,9 @@ returns-clause-disks g c = λ name none.
     (take c.loop-user.user-index c.args.registry.now.users.now) c.loop-user.seats.items so_far.are
     ∙ ap (λ us. map (journal_name c.args.registry.now.directory.now) (names us))
     (take_all c.loop-user.user-index c.args.registry.now.users.now (omega (arith, c.loop-user-test.false)))) ∙ none)
+
+pub returns-clause-other_counts : goal.returns-clause-other_counts
+returns-clause-other_counts g c = λ name none. c.loop-user.invariant.opened.counts name
 
 pub returns-in-Err-clause-cause : goal.returns-in-Err-clause-cause
 returns-in-Err-clause-cause g c = λ is.
