@@ -11,7 +11,7 @@ use Rattle.cqe_base.specs.Schema.{Text, DatabaseSchema}
 use Rattle.cqe_base.specs.Facts.{FactSet}
 use Rattle.cqe_base.specs.History.{UserProfile, AnsweredQuery, History}
 use Rattle.cqe_base.specs.Run
-use Rattle.cqe_base.specs.Run.{want, kept, failed, Event, ask, stop, restart, UserState, opening, entry_at, after_event, after_events}
+use Rattle.cqe_base.specs.Run.{want, kept, failed, Event, call, stop, restart, UserState, opening, entry_at, after_event, after_events}
 use Rattle.user_desk.specs.Causes.{Opens, OpensWithin}
 use Rattle.user_desk.specs.Lives.{Holds, HoldsFrom, HoldsAmid, IsState}
 use Rattle.user_desk.specs.Standings.{is_sealed}
@@ -97,10 +97,10 @@ module _ (schema : DatabaseSchema) (world : FactSet) (user : UserProfile) where
   nothing_flown state (Some entry) = sym (append-nil state.entries)
 
   adds_one : (state : UserState) (event : Event) → AddsOne state event
-  adds_one state (ask text want) = record { added = None; are = sym (append-nil state.entries) }
-  adds_one state (ask text kept) = record { added = entry_at schema world user state text; are = refl }
-  adds_one state (ask text failed) = record { added = None; are = nothing_flown state (entry_at schema world user state text) }
-  adds_one state (stop text) = record { added = None; are = nothing_flown state (entry_at schema world user state text) }
+  adds_one state (call purpose text want) = record { added = None; are = sym (append-nil state.entries) }
+  adds_one state (call purpose text kept) = record { added = entry_at schema world user state purpose text; are = refl }
+  adds_one state (call purpose text failed) = record { added = None; are = nothing_flown state (entry_at schema world user state purpose text) }
+  adds_one state (stop purpose text) = record { added = None; are = nothing_flown state (entry_at schema world user state purpose text) }
   adds_one state (restart true true) = record { added = state.pending; are = refl }
   adds_one state (restart false true) = record { added = None; are = sym (append-nil state.entries) }
   adds_one state (restart found false) = record { added = None; are = sym (append-nil state.entries) }

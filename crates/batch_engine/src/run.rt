@@ -7,7 +7,7 @@ ghost use Rattle.outside.specs.Faults.{Rose};
 ghost use Rattle.outside.specs.Shelf.{SameNames};
 ghost use Rattle.cqe_base.specs.Schema.{DatabaseSchema, has_duplicate};
 ghost use Rattle.cqe_base.specs.Facts.{FactSet};
-ghost use Rattle.cqe_base.specs.Transcript.{reply_line, line_text};
+ghost use Rattle.cqe_base.specs.Transcript.{by_session, reply_line, line_text};
 ghost use Rattle.log_journal.specs.Opening.{header_bytes};
 ghost use Rattle.user_log.specs.Replies.{reply_of};
 ghost use Rattle.batch_engine.specs.Said.{is_short_ask};
@@ -102,8 +102,8 @@ fn answer_text(reply: Option<Reply>) -> LineText
 /// The line of an ask and its reply.
 fn line_of(ask: &BatchAsk, reply: Option<Reply>) -> LineText
     requires { is_short_ask (ask_in ask.now) ≡ true }
-    ensures { result ≡ line_text (reply_line (ask_in ask.now).name (ask_in ask.now).session
-        (option_map reply_of reply)) ++ 10 ∷ [] }
+    ensures { result ≡ line_text (reply_line (ask_in ask.now).name
+        (by_session (ask_in ask.now).session) (option_map reply_of reply)) ++ 10 ∷ [] }
 {
     let text = answer_text(reply);
     let mut line = LineText::new(ask.name.as_str());

@@ -3,3 +3,4 @@ pub mod Found
 pub mod Objections
 pub mod Costs
 pub mod Crossing
+pub mod Adding

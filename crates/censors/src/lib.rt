@@ -1,14 +1,16 @@
-//! The three censors: what the probes of a query find, which mark answers it, and who is admitted.
+//! The three censors: what the probes of a query find, which mark answers it, who is admitted, and
+//! which secret can be added.
 //!
 //! They follow Biskup and Bonatti (2004): uniform refusal and uniform lying for known potential
 //! secrets, and the combined censor. `Guards` is what the user's method guards from him, made once
 //! for all of his queries. `examine` makes every probe of a query and looks at no world; its
 //! findings say what the log entails over all worlds. `decide` gives the mark from them and the
 //! query's truth, by the rule of the user's method. `admit` says whether a user can be served in a
-//! world, and else which test fails first. Read `guards`, then `examination`, `marks` and
-//! `admittance`.
+//! world, and else which test fails first. `safe_with` says whether he can be given one more
+//! secret. Read `guards`, then `examination`, `marks`, `admittance` and `additions`.
 #![tactic(auto)]
 
+mod additions;
 mod admittance;
 mod examination;
 mod guards;
@@ -16,6 +18,7 @@ mod laws;
 mod marks;
 mod secrets;
 
+pub use additions::safe_with;
 pub use admittance::{ADMISSION_BUDGET, Admission, admit};
 pub use examination::{Findings, examine};
 pub use guards::Guards;

@@ -8,15 +8,14 @@ ghost use Rattle.desk_counter.specs.Codes.{profile_code};
 
 use crate::item::{Fixed, TurnItem};
 use crate::ticketed_desk::{Owned, TicketedDesk};
-use cqe_base::laws::law_logs;
 use cqe_base::user::User;
-use entailment::{GroundSentence, View};
+use entailment::GroundSentence;
 use outside::{Disk, Gate, Point};
 use std::alloc::Global;
 use std::sync::Wait;
 use turnstile::{Pass, PassError, Turnstile};
 use user_desk::Desk;
-use user_log::{Examined, Examiner, Reply};
+use user_log::{Examined, Examiner, Lent, Reply};
 
 /// A turnstile has so many shares.
 const ALL_SHARES: u64 = 65;
@@ -47,6 +46,7 @@ impl<'w, D: Disk> CounterOf<'w, TicketedDesk<'w, D>> {
     ghost use Rattle.cqe_base.specs.Limits.{KeepsSizes};
     ghost use Rattle.entailment.specs.GroundSentences.{sentence_of};
     ghost use Rattle.user_log.specs.Examining.{IsLent};
+    ghost use Rattle.cqe_base.specs.declared.user.Purpose.TheVariants.{Asking};
     ghost use Rattle.turnstile.specs.declared.pass.PassError.TheVariants.{TooMany};
     ghost use Rattle.turnstile.specs.History.{IsPrefix, IsOpening, Interleaves, IsRising};
     ghost use Rattle.turnstile.specs.History.{entries_with, turn_entries, count_of};
@@ -145,9 +145,9 @@ impl<'w, D: Disk> CounterOf<'w, TicketedDesk<'w, D>> {
     }
 
     /// Asks a text, in two turns. In the first one it takes a view of the log. Between both it
-    /// examines the text after that view. In the second one it settles the text by the entries of
-    /// all asks before, with what was found where the log is still the same, and else with what it
-    /// finds then. A pass that has all shares makes the second turn alone, and so does an ask of
+    /// examines the text after that view. In the second one it settles the text by the items of all
+    /// calls before, with what was found where these are as many as they were, and else with what
+    /// it finds then. A pass that has all shares makes the second turn alone, and so does an ask of
     /// which nothing is to be examined. The gate is passed between both turns and after the second.
     pub fn ask<R: Wait, G: Gate>(
         &self,
@@ -164,11 +164,11 @@ impl<'w, D: Disk> CounterOf<'w, TicketedDesk<'w, D>> {
         ensures used { (shares pass.new ≡ shares pass.old) × (turns pass.old ≤ turns pass.new + 2) }
 
         // What the ask found, what it added, and what it answered.
-        ensures asked { Asked (kept_by self.now) pass.old pass.new text.now result }
+        ensures asked { Asked (kept_by self.now) pass.old pass.new Asking text.now result }
 
         // The reply is that of the rule for what was seen, without the last pair where it is a
         // mark; Broken is answered exactly where an append failed.
-        ensures reply { IsReply (kept_by self.now) text.now (seen pass.new) result }
+        ensures reply { IsReply (kept_by self.now) Asking text.now (seen pass.new) result }
         ensures broken { (result ≡ Reply.Broken) ↔ IsTrue (has_broke (seen pass.new)) }
 
         // A mark's entry is the last that was seen and the one that the pass has more of its own;
@@ -214,13 +214,12 @@ impl<'w, D: Disk> CounterOf<'w, TicketedDesk<'w, D>> {
         ensures examined { IfSome result
             (IsExaminedBehind (kept_by self.now) (seen pass.new) text.now) }
     {
-        law_logs();
         if pass.shares() == ALL_SHARES {
             return None;
         }
         let query = self.examiner.read(alloc, text)?;
-        let view = self.lend(rt, alloc, pass, text, &query)?;
-        self.examiner.examine(alloc, view, query)
+        let lent = self.lend(rt, alloc, pass, text, &query)?;
+        self.examiner.examine(alloc, lent, query)
     }
 
     /// A first turn: takes a view of the log, after which the query of a text is to be examined.
@@ -231,7 +230,7 @@ impl<'w, D: Disk> CounterOf<'w, TicketedDesk<'w, D>> {
         pass: &mut DeskPass<D>,
         text: &str,
         query: &GroundSentence,
-    ) -> Option<View<'w>>
+    ) -> Option<Lent<'w>>
         requires pass { IsPassOf pass.old self.now }
         requires turns { 1 ≤ turns pass.old }
         requires short { length text.now ≤ 4096 }
@@ -243,9 +242,9 @@ impl<'w, D: Disk> CounterOf<'w, TicketedDesk<'w, D>> {
             (history_of (seen pass.new)) (sentence_of query.now)) }
     {
         let mut turn = self.turnstile.enter(rt, pass);
-        let view = turn.value.lend(alloc, text, query);
+        let lent = turn.value.lend(alloc, text, query);
         self.turnstile.leave(pass, turn);
-        view
+        lent
     }
 
     /// Takes the desk out, with the pass that has all shares. Its entries have no tickets any more,
@@ -265,8 +264,6 @@ impl<'w, D: Disk> CounterOf<'w, TicketedDesk<'w, D>> {
         ensures closed { IsClosed D.Disk (kept_by self.entry) (first_pairs self.entry) (mine pass)
             (seen pass) (desk_disk result) }
         ensures drew { DrewEachOnce (view_of pass) }
-        ensures sizes { KeepsSizes (kept_by self.entry).schema (kept_by self.entry).user
-            (history_of (seen pass)) }
 
         // Where no append failed, each crash leaves just that history.
         ensures whole { D.tells → is_sealed (kept_by self.entry).standing ≡ false

@@ -7,12 +7,12 @@ ghost use Rattle.desk_counter.specs.Items.{pairs_of};
 ghost use Rattle.desk_counter.specs.Desks.{fixed_of};
 
 use crate::item::{Fixed, TurnItem};
-use entailment::{GroundSentence, View};
+use entailment::GroundSentence;
 use outside::Disk;
 use std::alloc::{AllocError, Global};
 use turnstile::Recorded;
 use user_desk::Desk;
-use user_log::{Examined, Examiner, Reply};
+use user_log::{Examined, Examiner, Lent, Reply};
 
 /// A value under a turnstile that belongs to a user.
 pub trait Owned: Recorded {
@@ -57,6 +57,7 @@ impl<'w, D: Disk> TicketedDesk<'w, D> {
     ghost use Rattle.entailment.specs.GroundSentences.{sentence_of};
     ghost use Rattle.user_log.specs.Examiners.{examiner_schema, examiner_user};
     ghost use Rattle.user_log.specs.Examining.{IsExamined, IsLent};
+    ghost use Rattle.cqe_base.specs.declared.user.Purpose.TheVariants.{Asking};
     ghost use Rattle.cqe_base.specs.Censor.{IsLegal};
     ghost use Rattle.cqe_base.specs.Limits.{KeepsSizes};
     ghost use Rattle.turnstile.specs.History.{IsOpening};
@@ -116,13 +117,13 @@ impl<'w, D: Disk> TicketedDesk<'w, D> {
     }
 
     /// A view of the log, after which the query of a text can be examined outside of a turn. There
-    /// is none where a code answers the text, or memory is wanting.
+    /// is none where a code answers the text, where a secret was added, or where memory is wanting.
     pub(crate) fn lend(
         &mut self,
         alloc: Global,
         text: &str,
         query: &GroundSentence,
-    ) -> Option<View<'w>>
+    ) -> Option<Lent<'w>>
         requires { length text.now ≤ 4096 }
         ensures fixed { fixed_in self.new ≡ fixed_in self.old }
         ensures pairs { pairs_in self.new ≡ pairs_in self.old }
@@ -147,7 +148,7 @@ impl<'w, D: Disk> TicketedDesk<'w, D> {
             (IsExamined (fixed_in self.old).schema (fixed_in self.old).user
             (history_of (pairs_in self.old)) text.now) }
         ensures fixed { fixed_in self.new ≡ fixed_in self.old }
-        ensures adds { Adds (fixed_in self.old) ticket text.now (pairs_in self.old)
+        ensures adds { Adds (fixed_in self.old) ticket Asking text.now (pairs_in self.old)
             (pairs_in self.new) result }
         ensures broken { (result ≡ Reply.Broken) ↔ IsTrue (has_broke (pairs_in self.new)) }
     {

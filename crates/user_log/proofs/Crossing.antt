@@ -15,8 +15,11 @@ use Rattle.user_log.specs.contracts.examiner.Examiner as Examiner
 pub user_sync : IsSync User.the_row
 user_sync = search (sendable, crosses, sentence_sync) depth 60
 
+user_send : IsSend User.the_row
+user_send = search (sendable, crosses, sentence_send) depth 60
+
 pub log_send : (w : NamedLft) → IsSend (UserLog.the_field w).row
-log_send w = search (sendable, crosses, views_send, guards_send, sentence_send, user_sync, schema.the_sync, world.the_sync) depth 60
+log_send w = search (sendable, crosses, views_send, guards_send, sentence_send, user_sync, user_send, schema.the_sync, world.the_sync) depth 60
 
 pub examiner_sync : (w : NamedLft) → IsSync (Examiner.the_field w).row
 examiner_sync w = search (sendable, crosses, guards_sync, user_sync, schema.the_sync) depth 60

@@ -1,27 +1,41 @@
 -- What is found of a text before it is weighed.
-use Rattle.std.specs.Prelude.{◌≡◌, ◌≤◌, ◌+◌, Ok}
+use Rattle.std.specs.Prelude.{◌≡◌, ◌≤◌, ◌+◌, ◌++◌, Ok, length}
 use Rattle.cqe_base.specs.Schema.{DatabaseSchema, Text}
 use Rattle.cqe_base.specs.Formula.{Formula, nodes}
 use Rattle.cqe_base.specs.Reading.{reading}
-use Rattle.cqe_base.specs.History.{UserProfile, History, log}
+use Rattle.cqe_base.specs.History.{UserProfile, History, log, user_at}
 use Rattle.entailment.specs.Logs.{log_nodes}
 use Rattle.entailment.specs.Views.{LogView, schema_of, log_of, IsViewWithin}
 use Rattle.entailment.specs.GroundSentences.{sentence_of, IsGroundOver}
 use Rattle.censors.specs.Found.{HasFindings}
+use Rattle.user_log.specs.declared.examiner.Lent.{Lent}
 use Rattle.user_log.specs.declared.examiner.Examined.{Examined}
 
--- a view has the whole log of a history, and the log fits the probes of the query
+-- a history is a first part of another
+abbrev pub IsFirstPart : (first whole : History) → Type 0
+IsFirstPart first whole = (more : History) × (whole ≡ first ++ more)
+
+-- the view that is lent
+abbrev pub lent_view : Lent → LogView
+lent_view lent = lent.view
+
+-- the view has the whole log of a history that adds no secret, the items are counted, and the log
+-- fits the probes of the query
 pub record IsLent (schema : DatabaseSchema) (user : UserProfile) (entries : History)
-    (query : Formula) (view : LogView) : Type 0 where
-  pub schema_is : schema_of view ≡ schema
-  pub log_is : log_of view ≡ log user entries
+    (query : Formula) (lent : Lent) : Type 0 where
+  pub schema_is : schema_of (lent_view lent) ≡ schema
+  pub log_is : log_of (lent_view lent) ≡ log user entries
+  pub items_are : lent.items ≡ length entries
+  pub adds_none : user_at user entries ≡ user
   pub fits : log_nodes schema (log user entries) + nodes schema query ≤ 60000
 
--- a text is the query that was examined, after a beginning of the log of a history
+-- a text is the query that was examined, after the log of a first part of a history; where that has
+-- as many items, the findings are of the user at the end of the history and after its whole log
 pub record IsExamined (schema : DatabaseSchema) (user : UserProfile) (entries : History)
     (text : Text) (examined : Examined) : Type 0 where
   pub read : reading schema text ≡ Ok (sentence_of examined.query)
   pub grounded : IsGroundOver schema examined.query
   pub within : IsViewWithin schema (log user entries) examined.view
-  pub findings : HasFindings schema user (log_of examined.view) (sentence_of examined.query)
+  pub findings : examined.items ≡ length entries
+      → HasFindings schema (user_at user entries) (log user entries) (sentence_of examined.query)
       examined.findings

@@ -4,21 +4,31 @@ ghost use Rattle.std.specs.Prelude.{◌≡◌, ◌≤◌, ◌+◌, true, length,
 ghost use Rattle.cqe_base.specs.Schema.{Text};
 ghost use Rattle.cqe_base.specs.Formula.{nodes, is_sentence_of};
 ghost use Rattle.cqe_base.specs.Reading.{reading};
-ghost use Rattle.cqe_base.specs.History.{History, profile_of, log};
+ghost use Rattle.cqe_base.specs.History.{History, profile_of};
 ghost use Rattle.cqe_base.specs.Limits.{KeepsLimits};
 ghost use Rattle.entailment.specs.Logs.{log_nodes};
-ghost use Rattle.entailment.specs.Views.{schema_of, log_of, IsLogBeginning};
+ghost use Rattle.entailment.specs.Views.{schema_of, log_of};
 ghost use Rattle.entailment.specs.GroundSentences.{sentence_of, IsGroundOver};
 ghost use Rattle.user_log.specs.Kept.{KeepsLimits-prop, AreGuardsOf, AreGuardsOf-prop};
 
 use crate::log::QUERY_NODES;
 use censors::{Findings, Guards, examine};
+use cqe_base::laws::{law_limits, law_logs};
 use cqe_base::schema::Schema;
 use cqe_base::sentence::nodes;
 use cqe_base::user::User;
 use entailment::{GroundSentence, View};
 use sentence_text::read_sentence;
 use std::alloc::{AllocError, Global};
+
+/// A view of a log that is lent, so that a query can be examined after it.
+#[derive(Drop)]
+pub struct Lent<'w> {
+    pub(crate) view: View<'w>,
+    /// How many items the log was made of. The log alone doesn't tell: an item that adds a secret
+    /// tells nothing.
+    pub(crate) items: usize,
+}
 
 /// A text that was examined after a view of a log, and not yet weighed.
 #[derive(Drop)]
@@ -27,12 +37,14 @@ pub struct Examined<'w> {
     pub(crate) query: GroundSentence,
     /// The view, to be put back.
     pub(crate) view: View<'w>,
+    /// How many items the view's log was made of.
+    pub(crate) items: usize,
     /// What the probes found after the view's log.
     pub(crate) findings: Findings,
 }
 
-/// What examines the texts of a user. It looks at no log but the views that it is lent, and at no
-/// world.
+/// What examines the texts of a user to whom no secret was added. It looks at no log but the views
+/// that it is lent, and at no world.
 #[derive(Drop)]
 pub struct Examiner<'w> {
     schema: &'w Schema,
@@ -45,7 +57,7 @@ pub struct Examiner<'w> {
 
 impl<'w> Examiner<'w> {
     ghost use Rattle.user_log.specs.Examiners.{examiner_schema, examiner_user};
-    ghost use Rattle.user_log.specs.Examining.{IsExamined};
+    ghost use Rattle.user_log.specs.Examining.{lent_view, IsFirstPart, IsLent, IsExamined};
 
     /// The examiner of a user.
     pub fn new(
@@ -57,6 +69,7 @@ impl<'w> Examiner<'w> {
         ensures schema { IfOk result (λ examiner. examiner_schema examiner ≡ schema.now) }
         ensures user { IfOk result (λ examiner. examiner_user examiner ≡ profile_of user.now) }
     {
+        law_limits();
         let guards = Guards::new(alloc, schema, user)?;
         Ok(Examiner {
             schema,
@@ -94,31 +107,38 @@ impl<'w> Examiner<'w> {
         }
     }
 
-    /// Makes every probe of a query after the log of a view. Where memory is wanting the view is
-    /// dropped.
+    /// Makes every probe of a query after the log of a view that was lent. Where memory is wanting
+    /// the view is dropped.
     pub fn examine(
         &self,
         alloc: Global,
-        view: View<'w>,
+        lent: Lent<'w>,
         query: GroundSentence,
     ) -> Option<Examined<'w>>
-        requires schema { schema_of view ≡ examiner_schema self.now }
+        requires schema { schema_of (lent_view lent) ≡ examiner_schema self.now }
         requires sentence { is_sentence_of (examiner_schema self.now) (sentence_of query) ≡ true }
         requires grounded { IsGroundOver (examiner_schema self.now) query }
-        requires fits { log_nodes (examiner_schema self.now) (log_of view)
+        requires fits { log_nodes (examiner_schema self.now) (log_of (lent_view lent))
             + nodes (examiner_schema self.now) (sentence_of query) ≤ 60000 }
-        // It has examined each text that is the query, for each history whose log begins so.
-        ensures { (entries : History) (text : Text)
+        // It has examined each text that is the query, for each history that begins with one of
+        // which this was lent.
+        ensures { (before entries : History) (text : Text)
             → reading (examiner_schema self.now) text ≡ Ok (sentence_of query)
-            → IsLogBeginning (log_of view.entry) (log (examiner_user self.now) entries)
+            → IsLent (examiner_schema self.now) (examiner_user self.now) before (sentence_of query)
+            lent.entry
+            → IsFirstPart before entries
             → IfSome result
             (IsExamined (examiner_schema self.now) (examiner_user self.now) entries text) }
     {
+        law_limits();
+        law_logs();
+        let Lent { view, items } = lent;
         let mut view = view;
         match examine(alloc, &mut view, &self.guards, self.user, &query) {
             Ok(findings) => Some(Examined {
                 query,
                 view,
+                items,
                 findings,
             }),
             Err(_) => None,

@@ -1,4 +1,6 @@
-use Rattle.std.proofs.Common.{true, ◌∙◌}
+use Rattle.std.proofs.Common.{true, sym, ◌∙◌}
+use Rattle.std.proofs.lemmas.List.{length-map}
+use Rattle.cqe_base.specs.History.{answered_query_of}
 use Rattle.entailment.specs.GroundSentences.{sentence_of}
 use Rattle.user_log.specs.UserLogs.{kept_schema, kept_user, kept_history}
 use Rattle.user_log.proofs.SameLogs.{kept_with, same_log}
@@ -7,7 +9,7 @@ use Rattle.user_log.proofs.log.UserLog.lend.Goals as goal
 pub invariant_of-self : goal.invariant_of-self
 invariant_of-self c = record {
   kept = kept_with c.args.self.now c.lend.new.self c.lend.ensures.same;
-  guarding = c.args.self.now.guarding;
+  amended = c.args.self.now.amended;
 }
 
 pub returns-in-Ok-clause-same : goal.returns-in-Ok-clause-same
@@ -21,6 +23,8 @@ returns-in-Ok-clause-lent c =
     record {
       schema_is = c.in-Ok.ensures.schema ∙ self.kept.schema_is;
       log_is = c.in-Ok.ensures.log ∙ self.kept.log_is;
+      items_are = c.len-items.ensures ∙ self.entries.ok.0 ∙ sym (length-map self.entries.items answered_query_of);
+      adds_none = c.has_more_secrets.ensures c.if-has_more_secrets.false;
       fits = fits.log_nodes true;
     }
 
