@@ -176,6 +176,7 @@ impl<'w, D: Disk> Desk<'w, D> {
         ensures opening { IsOfOneOpening self.old self.new }
         ensures history { desk_history self.new ≡ desk_history self.old }
         ensures in_flight { entry_in_flight self.new ≡ entry_in_flight self.old }
+        ensures disk { desk_disk self.new ≡ desk_disk self.old }
         ensures lent { IfSome result
             (IsLent (desk_schema self.old) (desk_user self.old) (desk_history self.old)
             (sentence_of query.now)) }
@@ -189,6 +190,7 @@ impl<'w, D: Disk> Desk<'w, D> {
     /// The reply to a text by the entries so far, with what was found of it before, if that was
     /// done. A mark comes once its entry is on the disk, and adds it; want of memory and a code
     /// change nothing, and from the first write on the answer is a mark or that the append failed.
+    /// Once one had failed before, the disk stays as it is.
     pub fn settle(&mut self, alloc: Global, text: &str, examined: Option<Examined<'w>>) -> Reply
         requires short { length text.now ≤ 4096 }
         requires examined { IfSome examined (IsExamined (desk_schema self.old) (desk_user self.old)
@@ -203,6 +205,8 @@ impl<'w, D: Disk> Desk<'w, D> {
             (reply_of result) (D.faults (desk_disk self.old)) (D.faults (desk_disk self.new)) }
         ensures broken { (result ≡ Reply.Broken) ↔ IsTrue (is_broken_desk self.new) }
         ensures untouched { HasNoWrite result → desk_disk self.new ≡ desk_disk self.old }
+        ensures still_broken { is_broken_desk self.old ≡ true
+            → desk_disk self.new ≡ desk_disk self.old }
         ensures count { D.faults (desk_disk self.old) ≤ D.faults (desk_disk self.new) }
 
         // At every moment of the call each image stands for what a crash of this ask leaves.
