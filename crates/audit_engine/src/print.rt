@@ -37,6 +37,7 @@ pub(crate) fn audit_disk<'w, D: Disk, K: Sink>(
     ensures reads { D.reads result.0 ≡ D.reads disk }
     ensures images { (c : List ℕ) → D.image result.0 c → D.image disk c }
     ensures count { D.faults disk ≤ D.faults result.0 }
+    ensures silent { result.1 ≡ AuditEnd.Memory → sink.new ≡ sink.old }
     ensures later { K.faults sink.old ≤ K.faults sink.new }
     ensures cause { result.1 ≡ AuditEnd.WriteFault → Rose (K.faults sink.old) (K.faults sink.new) }
     ensures shelf { result.1 ≡ AuditEnd.ShelfFault → ⊥ }
@@ -77,6 +78,7 @@ fn print_desk<D: Disk, K: Sink>(
         → IsPrinted schema.now (string_bytes user.now.name) (profile_of user.now)
         (desk_standing desk.now) (desk_history desk.now) json result (K.written sink.old)
         (K.written sink.new) }
+    ensures silent { result ≡ AuditEnd.Memory → sink.new ≡ sink.old }
     ensures later { K.faults sink.old ≤ K.faults sink.new }
     ensures cause { result ≡ AuditEnd.WriteFault → Rose (K.faults sink.old) (K.faults sink.new) }
     ensures shelf { result ≡ AuditEnd.ShelfFault → ⊥ }

@@ -41,6 +41,8 @@ pub fn run_audit<'w, F: Shelf, K: Sink>(
         (F.disk_faults shelf.new
         (journal_name registry.now.directory.now (string_bytes user.now.name)))
         json result (K.written sink.old) (K.written sink.new) }
+    ensures silent_fault { result ≡ AuditEnd.ShelfFault → sink.new ≡ sink.old }
+    ensures silent_memory { result ≡ AuditEnd.Memory → sink.new ≡ sink.old }
     ensures disks { SameOthers
         (journal_name registry.now.directory.now (string_bytes user.now.name)) (F.disk shelf.old)
         (F.disk shelf.new) }
@@ -80,6 +82,8 @@ fn audit_journal<'w, F: Shelf, K: Sink>(
         (bytes_on F.D.reads (F.disk shelf.old journal.now)) (F.disk_faults shelf.old journal.now)
         (F.disk_faults shelf.new journal.now)
         json result (K.written sink.old) (K.written sink.new) }
+    ensures silent_fault { result ≡ AuditEnd.ShelfFault → sink.new ≡ sink.old }
+    ensures silent_memory { result ≡ AuditEnd.Memory → sink.new ≡ sink.old }
     ensures disks { SameOthers journal.now (F.disk shelf.old) (F.disk shelf.new) }
     ensures bytes { F.tells → bytes_on F.D.reads (F.disk shelf.new journal.now)
         ≡ bytes_on F.D.reads (F.disk shelf.old journal.now) }

@@ -254,6 +254,15 @@ IsUnopened WriteFault = ⊥
 IsUnopened ShelfFault = ⊥
 IsUnopened Memory = ⊥
 
+-- the end of a batch of which nothing was written; want of memory may come behind a restart
+abbrev pub IsSilent : BatchEnd → Type 0
+IsSilent (Done refusals is_broken) = ⊥
+IsSilent (Refused refusal) = Unit {0}
+IsSilent ReadFault = Unit {0}
+IsSilent WriteFault = ⊥
+IsSilent ShelfFault = Unit {0}
+IsSilent Memory = ⊥
+
 -- the end of a batch in which some ask was answered that an append failed
 abbrev pub IsBroken : BatchEnd → Type 0
 IsBroken (Done refusals is_broken) = is_broken ≡ true

@@ -23,7 +23,8 @@ ghost use Rattle.batch_engine.specs.AnswerTexts.{answer_text};
 ghost use Rattle.batch_engine.specs.Outputs.{output_bytes};
 ghost use Rattle.batch_engine.specs.Steps.{Runs, is_broken_reply, IsAnswered, IsEnded, GoesOn};
 ghost use Rattle.batch_engine.specs.Steps.{IsCutOff};
-ghost use Rattle.batch_engine.specs.Batch.{EndsBatch, LeavesJournals, IsUnopened, IsBroken};
+ghost use Rattle.batch_engine.specs.Batch.{EndsBatch, LeavesJournals, IsUnopened, IsSilent};
+ghost use Rattle.batch_engine.specs.Batch.{IsBroken};
 ghost use Rattle.batch_engine.specs.declared.run.Answered.{Answered};
 ghost use Rattle.batch_engine.specs.declared.run.BatchEnd.{BatchEnd};
 
@@ -328,6 +329,7 @@ pub fn run_batch<R: Wait, F: Shelf, S: Source, K: Sink, G: Gate>(
     ensures looked { F.looked shelf.new ≡ F.looked shelf.old }
     ensures counts { NoneFell (F.disk_faults shelf.old) (F.disk_faults shelf.new) }
     ensures unopened { IsUnopened result → shelf.new ≡ shelf.old }
+    ensures silent { IsSilent result → sink.new ≡ sink.old }
     ensures held { S.held source.new ≡ S.held source.old }
     ensures shelf_later { F.faults shelf.old ≤ F.faults shelf.new }
     ensures source_later { S.faults source.old ≤ S.faults source.new }

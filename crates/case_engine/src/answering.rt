@@ -12,6 +12,7 @@ ghost use Rattle.cqe_base.specs.Censor.{admitted};
 ghost use Rattle.cqe_base.specs.Limits.{KeepsLimits};
 ghost use Rattle.case_engine.specs.Sound.{is_short};
 ghost use Rattle.case_engine.specs.Answering.{IsTold};
+ghost use Rattle.case_engine.specs.Case.{IsSilent};
 ghost use Rattle.case_engine.specs.Written.{IsAnswered};
 
 use crate::case::CaseEnd;
@@ -67,6 +68,7 @@ pub fn answer_all<K: Sink>(alloc: Global, parts: &Parts, sink: &mut K) -> CaseEn
         → IsAnswered parts.now.schema parts.now.facts (profile_of parts.now.user)
         (map string_bytes parts.now.asks.items)
         (K.written sink.old) (K.written sink.new) result }
+    ensures silent { IsSilent result → sink.new ≡ sink.old }
     ensures no_read { result ≡ CaseEnd.ReadFault → ⊥ }
     ensures later { K.faults sink.old ≤ K.faults sink.new }
     ensures cause { result ≡ CaseEnd.WriteFault → Rose (K.faults sink.old) (K.faults sink.new) }

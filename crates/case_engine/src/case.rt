@@ -2,7 +2,7 @@
 
 ghost use Rattle.std.specs.Prelude.{◌≡◌, ◌≤◌};
 ghost use Rattle.outside.specs.Faults.{Rose};
-ghost use Rattle.case_engine.specs.Case.{EndsCase};
+ghost use Rattle.case_engine.specs.Case.{EndsCase, IsSilent};
 
 use crate::answering::answer_all;
 use crate::script::Script;
@@ -32,6 +32,7 @@ pub fn run_case<S: Source, K: Sink>(alloc: Global, source: &mut S, sink: &mut K)
     ensures ends { S.tells → K.tells
         → EndsCase result (S.left source.old) (S.left source.new) (K.written sink.old)
         (K.written sink.new) }
+    ensures silent { IsSilent result → sink.new ≡ sink.old }
     ensures held { S.held source.new ≡ S.held source.old }
     ensures source_later { S.faults source.old ≤ S.faults source.new }
     ensures sink_later { K.faults sink.old ≤ K.faults sink.new }

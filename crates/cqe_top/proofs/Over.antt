@@ -1,5 +1,5 @@
 -- What an engine did over a shelf whose files were read before it, the call did.
-use Rattle.std.proofs.Common.{◌≡◌, ℕ, zero, suc, ◌≤◌, ◌<◌, List, [], ◌∷◌, length, map, sym, ap, subst, ◌∙◌, arith}
+use Rattle.std.proofs.Common.{◌≡◌, ℕ, zero, suc, ◌≤◌, ◌<◌, List, [], ◌∷◌, length, map, refl, sym, ap, subst, ◌∙◌, arith}
 use Rattle.std.specs.Prelude.{Some, None, slice_get}
 use Rattle.outside.proofs.Rises.{rose_since}
 use Rattle.outside.specs.Faults.{Rose}
@@ -10,6 +10,9 @@ use Rattle.outside.specs.declared.shelf.Shelf.{Ghosts as ShelfGhosts}
 use Rattle.cqe_base.specs.Facts.{FactSet}
 use Rattle.cqe_base.specs.Schema.{Text}
 use Rattle.cqe_base.specs.declared.user.User.{User}
+use Rattle.audit_engine.specs.Ends.{IsSilent}
+use Rattle.audit_engine.specs.declared.end.AuditEnd.{AuditEnd}
+use Rattle.audit_engine.specs.declared.end.AuditEnd.TheVariants as audit_end
 use Rattle.batch_engine.specs.Batch as batch
 use Rattle.batch_engine.specs.declared.run.BatchEnd.{BatchEnd}
 use Rattle.command_words.specs.Readings.{FileNames}
@@ -103,6 +106,14 @@ module _ {F D : Type 0} (Shelf : ShelfGhosts F D) (Disk : DiskGhosts D) (old mid
 
   pub images_over : NoNewImages Disk.image (Shelf.disk mid) (Shelf.disk new) → NoNewImages Disk.image (Shelf.disk old) (Shelf.disk new)
   images_over images other c left = subst (λ d. image_on Disk.image d c) (disks other) (images other c left)
+
+-- what holds behind a fault of the shelf and where memory was wanting holds of each audit of which nothing was written
+pub silent_end : {S : Type 0} (end : AuditEnd) → (end ≡ audit_end.ShelfFault → S) → (end ≡ audit_end.Memory → S) → IsSilent end → S
+silent_end audit_end.Done fault wanted silent = absurd silent
+silent_end (audit_end.Refused why) fault wanted silent = absurd silent
+silent_end audit_end.WriteFault fault wanted silent = absurd silent
+silent_end audit_end.ShelfFault fault wanted silent = fault refl
+silent_end audit_end.Memory fault wanted silent = wanted refl
 
 -- the end of a batch over other journals that are the same, and over the users of the policy
 pub batch_over : (policy : Policy) (world : FactSet) (header : List ℕ) (users : List User) (journals journals' : Journals) (end : BatchEnd)

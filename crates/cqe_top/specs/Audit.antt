@@ -2,7 +2,7 @@
 -- Ends: Audit, Nobody, Files, Memory.
 use Rattle.std.specs.Prelude.{◌≡◌, ℕ, Bool, List, find, bytes_eq, Option, Some, None}
 use Rattle.outside.specs.Shelf.{SameOthers, SameBytes, NoNewImages}
-use Rattle.audit_engine.specs.Ends.{EndsAudit}
+use Rattle.audit_engine.specs.Ends.{EndsAudit, IsSilent}
 use Rattle.audit_engine.specs.declared.end.AuditEnd.{AuditEnd}
 use Rattle.cqe_base.specs.Facts.{FactSet}
 use Rattle.cqe_base.specs.Schema.{Text}
@@ -45,6 +45,7 @@ module _ (shelf : ShelfScene) (output : Output) (files : FileNames) (user : Text
 
     -- It ran over files that were read. It looks at his journal alone: the other disks are
     -- untouched, and all have the bytes that they had and may be left by a crash only as before.
+    -- Behind a fault of the shelf and where memory was wanting the output is as it was.
     pub record RunsAudit (name : Text) (end : AuditEnd) : Type 0 where
       pub name_is : name ≡ user
       pub over_files : shelf.tells → SayOn shelf files (AuditsOverFiles end)
@@ -53,6 +54,7 @@ module _ (shelf : ShelfScene) (output : Output) (files : FileNames) (user : Text
           → SameOthers (journal_name files.directory user) shelf.disk shelf.disk'
       pub bytes : shelf.tells → SameBytes shelf.Disk.reads shelf.disk shelf.disk'
       pub images : shelf.tells → NoNewImages shelf.Disk.image shelf.disk shelf.disk'
+      pub silent : IsSilent end → SameOutput output
 
     -- the policy has no user of the name, and no disk was touched
     pub record FindsNobody : Type 0 where

@@ -53,6 +53,7 @@ pub fn run_selfrun<R: Wait, K: Sink>(
     requires few_asks { asks ≤ 10000 }
     ensures ends { K.tells
         → EndsSelfrun seed users asks result (K.written sink.old) (K.written sink.new) }
+    ensures silent { result ≡ SelfrunEnd.Memory → sink.new ≡ sink.old }
     ensures later { K.faults sink.old ≤ K.faults sink.new }
     ensures cause { result ≡ SelfrunEnd.WriteFault → Rose (K.faults sink.old) (K.faults sink.new) }
 {
