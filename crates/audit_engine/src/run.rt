@@ -52,6 +52,9 @@ pub fn run_audit<'w, F: Shelf, K: Sink>(
     ensures files { SameNames (F.file shelf.old) (F.file shelf.new) }
     ensures looked { F.looked shelf.new ≡ F.looked shelf.old }
     ensures counts { NoneFell (F.disk_faults shelf.old) (F.disk_faults shelf.new) }
+    ensures other_counts { SameOthers
+        (journal_name registry.now.directory.now (string_bytes user.now.name))
+        (F.disk_faults shelf.old) (F.disk_faults shelf.new) }
     ensures shelf_later { F.faults shelf.old ≤ F.faults shelf.new }
     ensures sink_later { K.faults sink.old ≤ K.faults sink.new }
     ensures write_cause { result ≡ AuditEnd.WriteFault
@@ -93,6 +96,8 @@ fn audit_journal<'w, F: Shelf, K: Sink>(
     ensures files { SameNames (F.file shelf.old) (F.file shelf.new) }
     ensures looked { F.looked shelf.new ≡ F.looked shelf.old }
     ensures counts { NoneFell (F.disk_faults shelf.old) (F.disk_faults shelf.new) }
+    ensures other_counts { SameOthers journal.now (F.disk_faults shelf.old)
+        (F.disk_faults shelf.new) }
     ensures shelf_later { F.faults shelf.old ≤ F.faults shelf.new }
     ensures sink_later { K.faults sink.old ≤ K.faults sink.new }
     ensures write_cause { result ≡ AuditEnd.WriteFault

@@ -328,6 +328,9 @@ pub fn run_batch<R: Wait, F: Shelf, S: Source, K: Sink, G: Gate>(
     ensures files { SameNames (F.file shelf.old) (F.file shelf.new) }
     ensures looked { F.looked shelf.new ≡ F.looked shelf.old }
     ensures counts { NoneFell (F.disk_faults shelf.old) (F.disk_faults shelf.new) }
+    ensures other_counts { SameBeside
+        (registered_journals registry.now.directory.now registry.now.users.now)
+        (F.disk_faults shelf.old) (F.disk_faults shelf.new) }
     ensures unopened { IsUnopened result → shelf.new ≡ shelf.old }
     ensures silent { IsSilent result → sink.new ≡ sink.old }
     ensures held { S.held source.new ≡ S.held source.old }

@@ -28,7 +28,7 @@ use Rattle.policy_files.specs.Users.{names_of}
 use Rattle.policy_files.specs.declared.policy.Policy.{Policy}
 use Rattle.serve_engine.specs.Serving as serving
 use Rattle.serve_engine.specs.declared.run.ServeEnd.{ServeEnd}
-use Rattle.cqe_top.specs.Files.{TouchesOnlyJournals, journals_of, new_users}
+use Rattle.cqe_top.specs.Files.{TouchesOnlyJournals, CountsOnlyJournals, journals_of, new_users}
 use Rattle.cqe_top.specs.Init.{change_on, NamesOneOf}
 use Rattle.cqe_top.specs.Scene.{shelf_of}
 use Rattle.cqe_top.proofs.Users.{names_are, batch_names_are, new_users_are}
@@ -50,14 +50,26 @@ module _ {F D : Type 0} (Shelf : ShelfGhosts F D) (Disk : DiskGhosts D) (old mid
         λ i. journals_by Disk.reads Disk.image Disk.moment Disk.image_since files.directory (λ name. disks name i) (Shelf.disk new) (λ name. counts name i)
         (Shelf.disk_faults new)
 
-    -- no disk but the journals of the policy's users was touched
+    -- no disk but the journals of the policy's users was touched, and no other count changed
     pub touches_over : (policy : Policy) (users : List User) → users ≡ policy.users.items
         → SameBeside (map (journal_name files.directory) (map (λ user. user.name) (map named_user users))) (Shelf.disk mid) (Shelf.disk new)
+        → SameBeside (map (journal_name files.directory) (map (λ user. user.name) (map named_user users))) (Shelf.disk_faults mid) (Shelf.disk_faults new)
         → TouchesOnlyJournals (shelf_of Shelf Disk old new) files (policy_value_of policy)
-    touches_over policy users are touched name none = touched name (ap (λ ns. is_among (map (journal_name files.directory) ns) name) names ∙ none) ∙ disks name
+    touches_over policy users are touched counted = (
+      λ name none. touched name (ap (λ ns. is_among (map (journal_name files.directory) ns) name) names ∙ none) ∙ disks name,
+      λ name none. counted name (ap (λ ns. is_among (map (journal_name files.directory) ns) name) names ∙ none) ∙ counts name,
+    )
       where
         names : map (λ user. user.name) (map named_user users) ≡ names_of (policy_value_of policy).users
         names = ap (λ us. map (λ user. user.name) (map named_user us)) are ∙ batch_names_are policy.users.items ∙ names_are policy.users.items
+
+    -- the same of the counts where journals were made
+    pub counts_over : (policy : Policy) (users : List User) → users ≡ policy.users.items
+        → SameBeside (map (journal_name files.directory) (init.user_names users)) (Shelf.disk_faults mid) (Shelf.disk_faults new)
+        → CountsOnlyJournals (shelf_of Shelf Disk old new) files (policy_value_of policy)
+    counts_over policy users are counted name none =
+        counted name (ap (λ ns. is_among (map (journal_name files.directory) ns) name) (ap init.user_names are ∙ names_are policy.users.items) ∙ none)
+        ∙ counts name
 
     -- the making of journals ended so, by the disks and the counts of a change
     abbrev Ended : List ℕ → Policy → Change D → InitEnd → Type 0
@@ -100,6 +112,12 @@ module _ {F D : Type 0} (Shelf : ShelfGhosts F D) (Disk : DiskGhosts D) (old mid
       → SameOthers (journal_name directory name) (Shelf.disk old) (Shelf.disk new)
   others_over directory name owner same others other apart =
       subst (λ n. SameOthers (journal_name directory n) (Shelf.disk mid) (Shelf.disk new)) same others other apart ∙ disks other
+
+  pub counted_over : (directory name owner : Text) → owner ≡ name
+      → SameOthers (journal_name directory owner) (Shelf.disk_faults mid) (Shelf.disk_faults new)
+      → SameOthers (journal_name directory name) (Shelf.disk_faults old) (Shelf.disk_faults new)
+  counted_over directory name owner same others other apart =
+      subst (λ n. SameOthers (journal_name directory n) (Shelf.disk_faults mid) (Shelf.disk_faults new)) same others other apart ∙ counts other
 
   pub bytes_over : SameBytes Disk.reads (Shelf.disk mid) (Shelf.disk new) → SameBytes Disk.reads (Shelf.disk old) (Shelf.disk new)
   bytes_over bytes other = bytes other ∙ ap (bytes_on Disk.reads) (disks other)

@@ -52,6 +52,8 @@ module _ (shelf : ShelfScene) (output : Output) (files : FileNames) (user : Text
       pub looks : shelf.tells → LooksAtBoth shelf files
       pub others : shelf.tells
           → SameOthers (journal_name files.directory user) shelf.disk shelf.disk'
+      pub other_counts : SameOthers (journal_name files.directory user) shelf.disk_faults
+          shelf.disk_faults'
       pub bytes : shelf.tells → SameBytes shelf.Disk.reads shelf.disk shelf.disk'
       pub images : shelf.tells → NoNewImages shelf.Disk.image shelf.disk shelf.disk'
       pub silent : IsSilent end → SameOutput output

@@ -54,9 +54,11 @@ pub record AreUnopened {D : Type 0} (told : Type 0) (Disk : DiskGhosts D) (names
   pub same : told → (name : Text) → Same Disk.reads Disk.image disk disk' name
   pub disks : SameBeside names disk disk'
   pub counts : NoneFell count count'
+  pub other_counts : SameBeside names count count'
 
 -- behind a run no disk but these was touched, and all are back
 pub record AllReturned {D : Type 0} (names : List Text) (disk disk' : Text → Option D) (is_out' : Text → Bool) (count count' : Text → ℕ) : Type 0 where
   pub disks : SameBeside names disk disk'
   pub inside : NoneOut is_out'
   pub counts : NoneFell count count'
+  pub other_counts : SameBeside names count count'

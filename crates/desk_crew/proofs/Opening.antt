@@ -355,6 +355,10 @@ module _ {directory : Text} {schema : DatabaseSchema} {world : FactSet} {header 
         let third = none_fell directory schema world header told Disk disk0 count0 count' count'' seats refused_can.later disk'' given.back
         given.counts name in
         omega (arith, first, second, third);
+    other_counts = λ name none.
+        let apart = no_journal directory schema world header told Disk disk0 count0 differ users distinct i user low is seats disk is_out count
+        so_far name none in
+        given.counts name apart.0 ∙ refused.counts name apart.1 ∙ so_far.counts name;
   }
 
 -- ---- the seats of all users
@@ -414,4 +418,6 @@ module _ {directory : Text} {schema : DatabaseSchema} {world : FactSet} {header 
         (subst (λ ns. AreOut ns is_out') (sym same) seated.out) given.inside given.others_out;
     counts = λ name. subst (λ n. n ≤ count'' name) (seated.counts name)
         (none_fell directory schema world header told Disk disk count count' count'' news later disk'' given.back given.counts name);
+    other_counts = λ name none.
+        given.counts name (ap (λ ns. is_among ns name) (same ∙ seated.journals_are) ∙ none) ∙ seated.counts name;
   }

@@ -216,6 +216,9 @@ pub fn open_all<'w, F: Shelf>(
         (registered_journals registry.now.directory.now registry.now.users.now) (F.disk shelf.old)
         (F.disk shelf.new) }
     ensures counts { OnOk result (SameNames (F.disk_faults shelf.old) (F.disk_faults shelf.new)) }
+    ensures other_counts { SameBeside
+        (registered_journals registry.now.directory.now registry.now.users.now)
+        (F.disk_faults shelf.old) (F.disk_faults shelf.new) }
     ensures refused_out { OnErr result (NoneOut (F.is_out shelf.new)) }
     ensures refused_bytes { F.tells
         → OnErr result (SameBytes F.D.reads (F.disk shelf.old) (F.disk shelf.new)) }

@@ -40,6 +40,8 @@ pub(crate) fn serve<F: Shelf>(
         (F.disk shelf.new) }
     ensures out { SameNames (F.is_out shelf.old) (F.is_out shelf.new) }
     ensures counts { NoneFell (F.disk_faults shelf.old) (F.disk_faults shelf.new) }
+    ensures other_counts { SameOthers (journal_name directory.now name.now)
+        (F.disk_faults shelf.old) (F.disk_faults shelf.new) }
     ensures files { SameNames (F.file shelf.old) (F.file shelf.new) }
     ensures looked { F.looked shelf.new ≡ F.looked shelf.old }
     ensures later { F.faults shelf.old ≤ F.faults shelf.new }
@@ -70,6 +72,8 @@ fn serve_disk<F: Shelf>(
     ensures disks { SameOthers journal.now (F.disk shelf.old) (F.disk shelf.new) }
     ensures out { SameNames (F.is_out shelf.old) (F.is_out shelf.new) }
     ensures counts { NoneFell (F.disk_faults shelf.old) (F.disk_faults shelf.new) }
+    ensures other_counts { SameOthers journal.now (F.disk_faults shelf.old)
+        (F.disk_faults shelf.new) }
     ensures files { SameNames (F.file shelf.old) (F.file shelf.new) }
     ensures looked { F.looked shelf.new ≡ F.looked shelf.old }
     ensures later { F.faults shelf.old ≤ F.faults shelf.new }

@@ -118,6 +118,12 @@ returns-in-All-clause-counts g c =
     let all = c.in-All.ensures.answered in
     (given g at.After-answer_all (seated g at.In-Ok-open_all) all.0 (stay_run _ _ _ _ _ _ _ _ _ all.1.runs) all.2).counts
 
+pub returns-in-All-clause-other_counts : goal.returns-in-All-clause-other_counts
+returns-in-All-clause-other_counts g c =
+    let at = goal.at.returns-in-All-clause-other_counts g c in
+    let all = c.in-All.ensures.answered in
+    (given g at.After-answer_all (seated g at.In-Ok-open_all) all.0 (stay_run _ _ _ _ _ _ _ _ _ all.1.runs) all.2).other_counts
+
 pub returns-in-All-clause-disks : goal.returns-in-All-clause-disks
 returns-in-All-clause-disks g c =
     let at = goal.at.returns-in-All-clause-disks g c in
@@ -178,6 +184,13 @@ returns-in-Cut-clause-counts g c =
     (given g at.After-answer_all (seated g at.In-Ok-open_all) some.0
     (stay_run _ _ _ _ _ _ _ _ _ (runs_then _ _ _ _ _ _ _ _ _ _ _ _ _ some.1.first some.1.last)) some.2).counts
 
+pub returns-in-Cut-clause-other_counts : goal.returns-in-Cut-clause-other_counts
+returns-in-Cut-clause-other_counts g c =
+    let at = goal.at.returns-in-Cut-clause-other_counts g c in
+    let some = c.in-Cut.ensures.answered in
+    (given g at.After-answer_all (seated g at.In-Ok-open_all) some.0
+    (stay_run _ _ _ _ _ _ _ _ _ (runs_then _ _ _ _ _ _ _ _ _ _ _ _ _ some.1.first some.1.last)) some.2).other_counts
+
 pub returns-in-Cut-clause-disks : goal.returns-in-Cut-clause-disks
 returns-in-Cut-clause-disks g c =
     let at = goal.at.returns-in-Cut-clause-disks g c in
@@ -228,6 +241,12 @@ returns-clause-counts g c =
     let at = goal.at.returns-clause-counts g c in
     let left = c.in-Memory-answer_all.ensures.answered in
     (given g at.After-answer_all (seated g at.In-Ok-open_all) left.0 (stay_run _ _ _ _ _ _ _ _ _ left.1.all.runs) left.2).counts
+
+pub returns-clause-other_counts : goal.returns-clause-other_counts
+returns-clause-other_counts g c =
+    let at = goal.at.returns-clause-other_counts g c in
+    let left = c.in-Memory-answer_all.ensures.answered in
+    (given g at.After-answer_all (seated g at.In-Ok-open_all) left.0 (stay_run _ _ _ _ _ _ _ _ _ left.1.all.runs) left.2).other_counts
 
 pub returns-clause-journals : goal.returns-clause-journals
 returns-clause-journals g c = λ shelf_told.

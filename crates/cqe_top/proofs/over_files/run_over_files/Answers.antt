@@ -22,7 +22,7 @@ use Rattle.cqe_top.proofs.Causes.{files_cause, init_cause, batch_cause, audit_ca
 use Rattle.cqe_top.proofs.Finding.{is_named, one_named, named_at, nobody_named}
 use Rattle.cqe_top.proofs.Good.{unread, init_succeeds, batch_succeeds, audit_succeeds, nobody_succeeds}
 use Rattle.cqe_top.proofs.Over.{serve_over, init_caused, some_rose, same_journals, touches_over, init_over, others_over, bytes_over, images_over, batch_over}
-use Rattle.cqe_top.proofs.Over.{batch_left, serve_left, one_of, silent_end}
+use Rattle.cqe_top.proofs.Over.{batch_left, serve_left, one_of, silent_end, counts_over, counted_over}
 use Rattle.cqe_top.proofs.Serving.{serve_succeeds, served_out}
 use Rattle.cqe_top.proofs.Users.{batch_names_are}
 use Rattle.cqe_top.proofs.over_files.run_over_files.Given.{Over}
@@ -97,6 +97,8 @@ returns-in-Init-clause-command g c =
         record {
           of_policy = refl;
           makes = made;
+          counts = counts_over g.F.Shelf g.F.D.Disk c.args.shelf.now c.read_files.new.shelf c.run_init-end.new.shelf read.disks read.counts files
+              inputs.policy c.as_slice.result.now c.as_slice.ensures.value ran.other_counts;
         },
       );
       looks = λ told. ran.looked ∙ read.both told;
@@ -146,7 +148,7 @@ returns-in-Batch-clause-command g c =
           of_policy = refl;
           touches = touches_over g.F.Shelf g.F.D.Disk c.args.shelf.now c.read_files.new.shelf c.run_batch-end.new.shelf read.disks read.counts files
               inputs.policy c.as_slice.result.now
-              c.as_slice.ensures.value ran.disks;
+              c.as_slice.ensures.value ran.disks ran.other_counts;
           journals = batch_left inputs.policy inputs.world (header_bytes inputs.header) c.as_slice.result.now _ _ c.run_batch-end.result
               (same_journals g.F.Shelf g.F.D.Disk c.args.shelf.now c.read_files.new.shelf c.run_batch-end.new.shelf read.disks read.counts files)
               c.as_slice.ensures.value
@@ -255,6 +257,9 @@ returns-in-Audit-clause-command g c =
       others = λ told.
           others_over g.F.Shelf g.F.D.Disk c.args.shelf.now c.read_files.new.shelf c.run_audit.new.shelf read.disks read.counts files.directory name
           (string_bytes user.name) is ran.disks;
+      other_counts =
+          counted_over g.F.Shelf g.F.D.Disk c.args.shelf.now c.read_files.new.shelf c.run_audit.new.shelf read.disks read.counts files.directory name
+          (string_bytes user.name) is ran.other_counts;
       bytes = λ told. bytes_over g.F.Shelf g.F.D.Disk c.args.shelf.now c.read_files.new.shelf c.run_audit.new.shelf read.disks read.counts (ran.bytes told);
       images = λ told. images_over g.F.Shelf g.F.D.Disk c.args.shelf.now c.read_files.new.shelf c.run_audit.new.shelf read.disks read.counts (ran.images told);
       silent = silent_end c.run_audit.result ran.silent_fault ran.silent_memory;
@@ -302,7 +307,7 @@ returns-clause-command g c =
           of_policy = refl;
           touches = touches_over g.F.Shelf g.F.D.Disk c.args.shelf.now c.read_files.new.shelf c.run_serve-end.new.shelf read.disks read.counts files
               inputs.policy c.as_slice.result.now
-              c.as_slice.ensures.value ran.disks;
+              c.as_slice.ensures.value ran.disks ran.other_counts;
           journals = serve_left inputs.policy inputs.world (header_bytes inputs.header) c.as_slice.result.now _ _ c.run_serve-end.result
               (same_journals g.F.Shelf g.F.D.Disk c.args.shelf.now c.read_files.new.shelf c.run_serve-end.new.shelf read.disks read.counts files)
               c.as_slice.ensures.value

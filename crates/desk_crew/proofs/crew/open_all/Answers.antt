@@ -74,6 +74,9 @@ returns-in-Err-clause-refused_images g c = λ told name. ((left g c).same told n
 pub returns-in-Err-clause-disks : goal.returns-in-Err-clause-disks
 returns-in-Err-clause-disks g c = (left g c).disks
 
+pub returns-in-Err-clause-other_counts : goal.returns-in-Err-clause-other_counts
+returns-in-Err-clause-other_counts g c = (left g c).other_counts
+
 pub returns-in-Err-clause-fell : goal.returns-in-Err-clause-fell
 returns-in-Err-clause-fell g c = (left g c).counts
 
@@ -88,6 +91,9 @@ returns-clause-disks g c = λ name none.
     (take c.loop-user.user-index c.args.registry.now.users.now) c.loop-user.seats.items so_far.are
     ∙ ap (λ us. map (journal_name c.args.registry.now.directory.now) (names us))
     (take_all c.loop-user.user-index c.args.registry.now.users.now (omega (arith, c.loop-user-test.false)))) ∙ none)
+
+pub returns-clause-other_counts : goal.returns-clause-other_counts
+returns-clause-other_counts g c = λ name none. c.loop-user.invariant.opened.counts name
 
 pub returns-in-Err-clause-cause : goal.returns-in-Err-clause-cause
 returns-in-Err-clause-cause g c = λ is.

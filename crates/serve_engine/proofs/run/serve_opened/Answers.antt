@@ -83,6 +83,9 @@ returns-clause-inside g c = (returned g c).inside
 pub returns-clause-counts : goal.returns-clause-counts
 returns-clause-counts g c = (returned g c).counts
 
+pub returns-clause-other_counts : goal.returns-clause-other_counts
+returns-clause-other_counts g c = (returned g c).other_counts
+
 pub returns-clause-ends : goal.returns-clause-ends
 returns-clause-ends g c shelf_told =
     let disk_told = g.met.F.Shelf.tells_disks shelf_told in
