@@ -4,7 +4,7 @@ use Rattle.std.proofs.Common.{append-nil}
 use Rattle.std.specs.Prelude.{length, Option, Some, find, bytes_eq, All, if◌then◌else◌, option_map, IfSome, ◌⊎◌, ◌&&◌}
 use Rattle.std.specs.List.{list_any, AllByRecursion}
 use Rattle.std.proofs.lemmas.List.Elements.{All-head, All-tail}
-use Rattle.outside.specs.Shelf.{bytes_on, image_on}
+use Rattle.outside.specs.Shelf.{bytes_on, image_on, since_on}
 use Rattle.outside.specs.declared.disk.Disk.{Ghosts as DiskGhosts}
 use Rattle.cqe_base.specs.Schema.{Text, DatabaseSchema, is_valid_schema, has_duplicate}
 use Rattle.cqe_base.specs.Facts.{FactSet}
@@ -26,7 +26,7 @@ use Rattle.batch_engine.specs.Batch.{StandsAmid, StandsBehind, ServesUser, Answe
 use Rattle.batch_engine.specs.Batch.{line_bytes, unopened, with_opening}
 use Rattle.desk_crew.specs.Crew.{named_user, seat_standing, seat_state, IsLeft}
 use Rattle.cqe_base.specs.Run.{Event}
-use Rattle.desk_crew.specs.Shelved.{Journals, since_on, journals_by, StandsAllAlong, ClosedBehind, IsBack, AreBack}
+use Rattle.desk_crew.specs.Shelved.{Journals, journals_by, StandsAllAlong, ClosedBehind, IsBack, AreBack}
 use Rattle.batch_engine.proofs.Along.{Clock, IsAlongClosed, IsClosedBehind, BeginsLife, at_end, along_still}
 use Rattle.desk_crew.proofs.Lasting.{if_some_on}
 use Rattle.desk_crew.specs.Seats.{DeskSeat}

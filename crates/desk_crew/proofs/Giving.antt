@@ -2,6 +2,7 @@
 use Rattle.std.proofs.Common.{◌≡◌, ℕ, Bool, false, List}
 use Rattle.std.specs.Prelude.{Option, Some}
 use Rattle.outside.specs.Shelf.{SameNames, SameOthers, SameBeside, AllOut, AllIn, NoneOut, NoneFell, SameBytes, NoNewImages, bytes_on, image_on}
+use Rattle.outside.specs.Shelf.{NoNewSince, NoNewMoments}
 use Rattle.outside.specs.declared.disk.Disk.{Ghosts as DiskGhosts}
 use Rattle.cqe_base.specs.Schema.{Text, has_duplicate}
 use Rattle.desk_crew.specs.Seats.{DeskSeat}
@@ -32,10 +33,11 @@ pub record AreGiven {D : Type 0} {g h : _} (told : Type 0) (Disk : DiskGhosts D)
   pub disks : SameBeside (journals seats) disk disk'
   pub counts : SameBeside (journals seats) count count'
 
--- what stands under a name reads as before, and no crash leaves anything new of it
-abbrev pub Same : {D : Type 0} → (D → List ℕ) → (D → List ℕ → Type 0) → (Text → Option D) → (Text → Option D) → Text → Type 0
-Same reads image old new name =
-    (bytes_on reads (new name) ≡ bytes_on reads (old name)) × ((c : List ℕ) → image_on image (new name) c → image_on image (old name) c)
+-- what stands under a name reads as before, and no crash leaves anything new of it, at no moment either
+abbrev pub Same : {D : Type 0} → DiskGhosts D → (Text → Option D) → (Text → Option D) → Text → Type 0
+Same Disk old new name =
+    (bytes_on Disk.reads (new name) ≡ bytes_on Disk.reads (old name)) × ((c : List ℕ) → image_on Disk.image (new name) c → image_on Disk.image (old name) c)
+    × NoNewSince Disk.moment Disk.image_since Disk.image (old name) (new name)
 
 -- the journal of this name was refused
 pub record IsRefused {D : Type 0} (told : Type 0) (Disk : DiskGhosts D) (one : Text) (disk disk' : Text → Option D) (is_out is_out' : Text → Bool)
@@ -43,6 +45,7 @@ pub record IsRefused {D : Type 0} (told : Type 0) (Disk : DiskGhosts D) (one : T
   pub out : SameNames is_out is_out'
   pub bytes : told → SameBytes Disk.reads disk disk'
   pub images : told → NoNewImages Disk.image disk disk'
+  pub moments : told → NoNewMoments Disk.moment Disk.image_since Disk.image disk disk'
   pub disks : SameOthers one disk disk'
   pub fell : NoneFell count count'
   pub counts : SameOthers one count count'
@@ -51,7 +54,7 @@ pub record IsRefused {D : Type 0} (told : Type 0) (Disk : DiskGhosts D) (one : T
 pub record AreUnopened {D : Type 0} (told : Type 0) (Disk : DiskGhosts D) (names : List Text) (disk disk' : Text → Option D) (is_out' : Text → Bool)
     (count count' : Text → ℕ) : Type 0 where
   pub inside : NoneOut is_out'
-  pub same : told → (name : Text) → Same Disk.reads Disk.image disk disk' name
+  pub same : told → (name : Text) → Same Disk disk disk' name
   pub disks : SameBeside names disk disk'
   pub counts : NoneFell count count'
   pub other_counts : SameBeside names count count'

@@ -5,7 +5,7 @@ use Rattle.std.specs.Prelude.{Option, ◌||◌, bytes_eq, string_bytes}
 use Rattle.std.specs.List.{AllByRecursion}
 use Rattle.std.specs.Cmp.Lexicographic.{same_text}
 use Rattle.std.proofs.lemmas.List.{take_more, take-append-drop, map-append}
-use Rattle.outside.proofs.Taken.{taken_reads, taken_images}
+use Rattle.outside.proofs.Taken.{taken_reads, taken_images, Rests, taken_rests}
 use Rattle.outside.specs.Shelf.{IsTaken, SameNames, SameOthers, bytes_on, image_on, is_among, SameBeside, AllOut, AllIn, NoneOut, NoneFell, AreOut}
 use Rattle.outside.specs.declared.disk.Disk.{Ghosts as DiskGhosts}
 use Rattle.cqe_base.specs.Schema.{Text, DatabaseSchema, has_duplicate}
@@ -15,13 +15,13 @@ use Rattle.cqe_base.specs.Limits.{KeepsLimits}
 use Rattle.cqe_base.specs.declared.user.User.{User}
 use Rattle.cqe_base.proofs.Truths.{or_first, or_second}
 use Rattle.log_journal.specs.Names.{journal_name, JournalsDiffer}
-use Rattle.desk_crew.specs.Crew.{named_user, seat_user, seat_journal, seat_disk, IsSeatServed}
+use Rattle.desk_crew.specs.Crew.{named_user, seat_user, seat_journal, seat_disk, IsLeft, IsSeatServed}
 use Rattle.desk_crew.specs.Shelved.{journals, IsBack, AreBack, AreLater, IsSeatOf, AreSeatsOf}
 use Rattle.desk_crew.specs.Seats.{DeskSeat}
 use Rattle.cqe_base.proofs.Lists.{text_is}
 use Rattle.desk_crew.specs.Registered.{HaveOwnNames, registered_journals}
 use Rattle.desk_crew.proofs.Giving.{CanGive, AreGiven, Same, IsRefused, AreUnopened, AllReturned}
-use Rattle.desk_crew.proofs.Shelving.{Parts, parts, among-append, among_none_first, among_none_second, journals-append, later_on, beside_one}
+use Rattle.desk_crew.proofs.Shelving.{Parts, parts, among-append, among_none_first, among_none_second, journals-append, later_on, left_on, beside_one}
 
 abbrev pub names : List User → List Text
 names users = map (λ user. user.name) (map named_user users)
@@ -271,11 +271,11 @@ module _ (directory : Text) where
 
     by_same : told → (disk' : Text → Option D) (count' : Text → ℕ) (name : Text) (u : User) (s : DeskSeat D g h)
         → IsSeatOf told Disk schema world header directory disk0 count0 u s → IsBack told Disk disk' count' s
-        → (b : Bool) → bytes_eq name (seat_journal s) ≡ b → (bytes_eq name (seat_journal s) ≡ false → Same Disk.reads Disk.image disk0 disk' name)
-        → Same Disk.reads Disk.image disk0 disk' name
+        → (b : Bool) → bytes_eq name (seat_journal s) ≡ b → (bytes_eq name (seat_journal s) ≡ false → Same Disk disk0 disk' name)
+        → Same Disk disk0 disk' name
     by_same t disk' count' name u s are back true same more =
         let at : name ≡ seat_journal s = same_text name (seat_journal s) (sym same) in
-        subst (Same Disk.reads Disk.image disk0 disk') (sym at) (reads_same, images)
+        subst (Same Disk disk0 disk') (sym at) (reads_same, images, moments)
       where
         still : back.left.closed ≡ seat_disk s
         still = back.left.is_closed.still are.opened.fresh
@@ -288,10 +288,14 @@ module _ (directory : Text) where
         images c left =
             let closed = back.left.left.images c (subst (λ o. image_on Disk.image o c) (back.held t) left) in
             taken_images Disk.reads Disk.image (disk0 (seat_journal s)) are.taken c (are.from t) (are.left.images c (subst (λ d. Disk.image d c) still closed))
+
+        moments : Rests Disk (disk0 (seat_journal s)) (disk' (seat_journal s))
+        moments = taken_rests Disk (disk0 (seat_journal s)) (disk' (seat_journal s)) are.taken back.now (are.from t)
+            (left_on Disk are.taken (seat_disk s) back.now are.left (subst (λ d. IsLeft Disk d back.now) still back.left.left)).rests (back.held t)
     by_same t disk' count' name u s are back false differs more = more differs
 
     among_same : told → (disk' : Text → Option D) (count' : Text → ℕ) (name : Text) (us : List User) (ss : List (DeskSeat D g h)) → Seats us ss
-        → AreBack told Disk disk' count' ss → is_among (journals ss) name ≡ true → Same Disk.reads Disk.image disk0 disk' name
+        → AreBack told Disk disk' count' ss → is_among (journals ss) name ≡ true → Same Disk disk0 disk' name
     among_same t disk' count' name [] [] are back among = absurd cc
     among_same t disk' count' name [] (s ∷ ss) are back among = absurd are
     among_same t disk' count' name (u ∷ us) [] are back among = absurd cc
@@ -302,11 +306,11 @@ module _ (directory : Text) where
     -- all disks are as at the beginning, where those under other names are
     pub all_same : told → (users : List User) (seats : List (DeskSeat D g h)) → Seats users seats → (disk' : Text → Option D) (count' : Text → ℕ)
         → AreBack told Disk disk' count' seats
-        → ((name : Text) → is_among (journals seats) name ≡ false → Same Disk.reads Disk.image disk0 disk' name) → (name : Text)
-        → Same Disk.reads Disk.image disk0 disk' name
+        → ((name : Text) → is_among (journals seats) name ≡ false → Same Disk disk0 disk' name) → (name : Text)
+        → Same Disk disk0 disk' name
     all_same t users seats are disk' count' back others name = by (is_among (journals seats) name) refl
       where
-        by : (b : Bool) → is_among (journals seats) name ≡ b → Same Disk.reads Disk.image disk0 disk' name
+        by : (b : Bool) → is_among (journals seats) name ≡ b → Same Disk disk0 disk' name
         by true among = among_same t disk' count' name users seats are back among
         by false none = others name none
 
@@ -344,6 +348,8 @@ module _ {directory : Text} {schema : DatabaseSchema} {world : FactSet} {header 
           ap (bytes_on Disk.reads) (given.disks name none) ∙ refused.bytes t name ∙ ap (bytes_on Disk.reads) (so_far.disks name none),
           λ crash left. subst (λ d. image_on Disk.image d crash) (so_far.disks name none)
               (refused.images t name crash (subst (λ d. image_on Disk.image d crash) (given.disks name none) left)),
+          subst (λ o. Rests Disk o (disk'' name)) (so_far.disks name none)
+              (subst (λ n. Rests Disk (disk name) n) (sym (given.disks name none)) (refused.moments t name)),
         ));
     disks = λ name none.
         let apart = no_journal directory schema world header told Disk disk0 count0 differ users distinct i user low is seats disk is_out count

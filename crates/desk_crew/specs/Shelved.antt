@@ -2,7 +2,7 @@
 use Rattle.std.specs.Prelude.{◌≡◌, ◌⊎◌, ℕ, ◌≤◌, Bool, true, false, List, [], ◌∷◌, Option, Some}
 use Rattle.std.specs.Prelude.{None, map, option_map, string_bytes, IfSome}
 use Rattle.outside.specs.declared.disk.Disk.{Ghosts as DiskGhosts}
-use Rattle.outside.specs.Shelf.{IsTaken, bytes_on, image_on, is_among}
+use Rattle.outside.specs.Shelf.{IsTaken, bytes_on, image_on, since_on, is_among}
 use Rattle.outside.specs.declared.shelf.Shelf.{Ghosts as ShelfGhosts}
 use Rattle.cqe_base.specs.Schema.{Text, DatabaseSchema}
 use Rattle.cqe_base.specs.Facts.{FactSet}
@@ -26,12 +26,6 @@ pub record Journals : Type 1 where
   pub began : Text → Option ℕ
   pub ended : Text → Option ℕ
   pub since : Text → ℕ → List ℕ → Type 0
-
--- what a crash could leave of a disk at the moments since one of its clock; without a disk there
--- are no bytes
-abbrev pub since_on : {D : Type 0} → (D → ℕ → List ℕ → Type 0) → Option D → ℕ → List ℕ → Type 0
-since_on since None moment bytes = bytes ≡ []
-since_on since (Some disk) moment bytes = since disk moment bytes
 
 -- the journals of users in a directory, by the disks and the counts under their names as a call
 -- began and as it ended

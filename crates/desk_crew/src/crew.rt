@@ -18,7 +18,7 @@ ghost use Rattle.user_log.specs.Replies.{reply_of};
 ghost use Rattle.desk_crew.specs.Crew.{seat_user, seat_kept, seat_broke, is_named};
 ghost use Rattle.desk_crew.specs.Crew.{IsSeatServed, Tells, AreReopened};
 ghost use Rattle.outside.specs.Shelf.{SameBeside, AllOut, AllIn, NoneOut, NoneFell, AreOut};
-ghost use Rattle.outside.specs.Shelf.{SameBytes, NoNewImages};
+ghost use Rattle.outside.specs.Shelf.{SameBytes, NoNewImages, NoNewMoments};
 ghost use Rattle.desk_crew.specs.Shelved.{journals};
 ghost use Rattle.desk_crew.specs.Shelved.{AreLater, AreBack, IsSeatOf, AreSeatsOf};
 ghost use Rattle.desk_crew.specs.declared.crew.NotOpened.{NotOpened};
@@ -135,7 +135,7 @@ pub fn reopen_all<'w, F: Shelf>(
 }
 
 /// Takes the journal of a user from the shelf and opens it. A refusal leaves the disk on the shelf,
-/// with the same bytes, and a crash leaves nothing new of it.
+/// with the same bytes, and a crash leaves nothing new of it, at no moment of the call either.
 fn open_seat<'w, F: Shelf>(
     alloc: Global,
     registry: &Registry<'w>,
@@ -165,6 +165,8 @@ fn open_seat<'w, F: Shelf>(
         → OnErr result (SameBytes F.D.reads (F.disk shelf.old) (F.disk shelf.new)) }
     ensures refused_images { F.tells
         → OnErr result (NoNewImages F.D.image (F.disk shelf.old) (F.disk shelf.new)) }
+    ensures refused_moments { F.tells → OnErr result
+        (NoNewMoments F.D.moment F.D.image_since F.D.image (F.disk shelf.old) (F.disk shelf.new)) }
     ensures fell { NoneFell (F.disk_faults shelf.old) (F.disk_faults shelf.new) }
     ensures other_counts { SameOthers
         (journal_name registry.now.directory.now (string_bytes user.now.name))
@@ -198,7 +200,7 @@ fn open_seat<'w, F: Shelf>(
 }
 
 /// Takes the journals of all users and opens them. A refusal leaves all disks on the shelf, with
-/// the same bytes, and a crash leaves nothing new of them.
+/// the same bytes, and a crash leaves nothing new of them, at no moment of the call either.
 pub fn open_all<'w, F: Shelf>(
     alloc: Global,
     registry: &Registry<'w>,
@@ -224,6 +226,8 @@ pub fn open_all<'w, F: Shelf>(
         → OnErr result (SameBytes F.D.reads (F.disk shelf.old) (F.disk shelf.new)) }
     ensures refused_images { F.tells
         → OnErr result (NoNewImages F.D.image (F.disk shelf.old) (F.disk shelf.new)) }
+    ensures refused_moments { F.tells → OnErr result
+        (NoNewMoments F.D.moment F.D.image_since F.D.image (F.disk shelf.old) (F.disk shelf.new)) }
     ensures fell { NoneFell (F.disk_faults shelf.old) (F.disk_faults shelf.new) }
     ensures later { F.faults shelf.old ≤ F.faults shelf.new }
     ensures files { SameNames (F.file shelf.old) (F.file shelf.new) }

@@ -8,7 +8,7 @@ use Rattle.std.proofs.lemmas.List.Sums.{sum_by-append}
 use Rattle.std.proofs.lemmas.List.Elements.{All-head, All-tail, All-from_recursion}
 use Rattle.outside.proofs.Rises.{rose_wide}
 use Rattle.outside.proofs.Taken.{taken_reads, taken_images}
-use Rattle.outside.specs.Shelf.{bytes_on, image_on}
+use Rattle.outside.specs.Shelf.{bytes_on, image_on, since_on}
 use Rattle.outside.specs.Disk.{Elapses}
 use Rattle.outside.specs.declared.disk.Disk.{Ghosts as DiskGhosts}
 use Rattle.outside.specs.Visits.{Visit, one_if_any}
@@ -39,7 +39,7 @@ use Rattle.desk_counter.specs.Counters.{first_pairs}
 use Rattle.desk_crew.specs.Crew.{IsSeatAsOpened, IsClosed, refusal_of, seat_user, seat_journal, seat_kept, seat_standing, seat_history, seat_disk, seat_broke}
 use Rattle.desk_crew.specs.Crew.{seat_state}
 use Rattle.desk_crew.specs.Seats.{DeskSeat}
-use Rattle.desk_crew.specs.Shelved.{Journals, journals, since_on, journals_by, StandsAllAlong, AreLater, IsSeatOf, AreSeatsOf, IsBack, AreBack}
+use Rattle.desk_crew.specs.Shelved.{Journals, journals, journals_by, StandsAllAlong, AreLater, IsSeatOf, AreSeatsOf, IsBack, AreBack}
 use Rattle.desk_crew.specs.Registered.{registered_journals}
 use Rattle.desk_crew.proofs.Giving.{CanGive, AreGiven, AllReturned}
 use Rattle.desk_crew.proofs.Opening.{AllSeated, seats_can, all_returned}

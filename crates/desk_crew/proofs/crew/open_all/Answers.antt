@@ -2,6 +2,7 @@ use Rattle.std.proofs.Common.{◌≡◌, ◌+◌, length, take, map, refl, sym, 
 use Rattle.std.specs.Prelude.{Err}
 use Rattle.std.proofs.lemmas.List.{take_all}
 use Rattle.outside.proofs.Rises.{rose_wide}
+use Rattle.outside.proofs.Taken.{same_moments}
 use Rattle.outside.specs.Shelf.{is_among}
 use Rattle.log_journal.specs.Opening.{header_bytes}
 use Rattle.log_journal.specs.Names.{journal_name}
@@ -30,6 +31,7 @@ refused g c = record {
   out = c.in-Err.ensures.refused_out;
   bytes = c.in-Err.ensures.refused_bytes;
   images = c.in-Err.ensures.refused_images;
+  moments = c.in-Err.ensures.refused_moments;
   disks = c.open_seat.ensures.disks;
   fell = c.in-Err.ensures.fell;
   counts = c.in-Err.ensures.other_counts;
@@ -70,6 +72,13 @@ returns-in-Err-clause-refused_bytes g c = λ told name. ((left g c).same told na
 
 pub returns-in-Err-clause-refused_images : goal.returns-in-Err-clause-refused_images
 returns-in-Err-clause-refused_images g c = λ told name. ((left g c).same told name).1
+
+pub returns-in_default-clause-refused_moments : goal.returns-in_default-clause-refused_moments
+returns-in_default-clause-refused_moments g c = λ told.
+    same_moments g.F.D.Disk g.met.F.D.Disk.only_now (g.F.Shelf.disk c.args.shelf.now) (g.F.Shelf.disk c.args.shelf.now) (λ name. refl)
+
+pub returns-in-Err-clause-refused_moments : goal.returns-in-Err-clause-refused_moments
+returns-in-Err-clause-refused_moments g c = λ told name. ((left g c).same told name).2
 
 pub returns-in-Err-clause-disks : goal.returns-in-Err-clause-disks
 returns-in-Err-clause-disks g c = (left g c).disks
