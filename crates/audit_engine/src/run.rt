@@ -6,7 +6,7 @@ ghost use Rattle.cqe_base.specs.History.{profile_of};
 ghost use Rattle.cqe_base.specs.Limits.{KeepsLimits};
 ghost use Rattle.log_journal.specs.Names.{journal_name};
 ghost use Rattle.log_journal.specs.Opening.{header_bytes};
-ghost use Rattle.outside.specs.Shelf.{NoneOut, NoneFell, SameBytes, NoNewImages};
+ghost use Rattle.outside.specs.Shelf.{NoneOut, NoneFell, SameBytes, NoNewImages, NoNewMoments};
 ghost use Rattle.audit_engine.specs.Ends.{EndsAudit};
 ghost use Rattle.audit_engine.specs.declared.end.AuditEnd.{AuditEnd};
 
@@ -48,6 +48,8 @@ pub fn run_audit<'w, F: Shelf, K: Sink>(
         (F.disk shelf.new) }
     ensures bytes { F.tells → SameBytes F.D.reads (F.disk shelf.old) (F.disk shelf.new) }
     ensures images { F.tells → NoNewImages F.D.image (F.disk shelf.old) (F.disk shelf.new) }
+    ensures moments { F.tells → NoNewMoments F.D.moment F.D.image_since F.D.image
+        (F.disk shelf.old) (F.disk shelf.new) }
     ensures inside { NoneOut (F.is_out shelf.new) }
     ensures files { SameNames (F.file shelf.old) (F.file shelf.new) }
     ensures looked { F.looked shelf.new ≡ F.looked shelf.old }
@@ -92,6 +94,8 @@ fn audit_journal<'w, F: Shelf, K: Sink>(
         ≡ bytes_on F.D.reads (F.disk shelf.old journal.now) }
     ensures images { F.tells → (c : List ℕ) → image_on F.D.image (F.disk shelf.new journal.now) c
         → image_on F.D.image (F.disk shelf.old journal.now) c }
+    ensures moments { F.tells → NoNewMoments F.D.moment F.D.image_since F.D.image
+        (F.disk shelf.old) (F.disk shelf.new) }
     ensures inside { NoneOut (F.is_out shelf.new) }
     ensures files { SameNames (F.file shelf.old) (F.file shelf.new) }
     ensures looked { F.looked shelf.new ≡ F.looked shelf.old }

@@ -3,7 +3,6 @@ use Rattle.std.proofs.Common.{◌≡◌, ◌⊎◌, inl, inr, ℕ, ◌≤◌, Bo
 use Rattle.std.specs.Prelude.{Option, Some, None, IfSome, Vec, string_bytes}
 use Rattle.std.specs.List.{list_any, AllByRecursion}
 use Rattle.std.specs.declared.alloc.Global.{Global}
-use Rattle.outside.specs.Shelf.{bytes_on, image_on}
 use Rattle.outside.specs.declared.disk.Disk.{Ghosts as DiskGhosts}
 use Rattle.outside.specs.declared.shelf.Shelf.{Ghosts as ShelfGhosts}
 use Rattle.cqe_base.specs.Facts.{FactSet}
@@ -23,7 +22,7 @@ use Rattle.batch_engine.specs.declared.run.BatchEnd.{BatchEnd}
 use Rattle.batch_engine.specs.declared.run.BatchEnd.TheVariants as batch_end
 use Rattle.batch_engine.proofs.Joining.{batches_are_spans, cut_batches_are_calls, batches_join, cut_batches_join, late_batches_join}
 use Rattle.command_words.specs.Readings.{Reading, FileNames, reading_of, runs_case, runs_init, runs_batch, runs_audit, runs_selfrun, runs_serve}
-use Rattle.log_journal.specs.Names.{journal_name}
+use Rattle.desk_crew.proofs.Lasting.{keeps_same, keeps_all}
 use Rattle.policy_files.specs.Memory.{policy_user_of}
 use Rattle.policy_files.specs.Policies.{PolicyUser, PolicyValue}
 use Rattle.serve_engine.specs.Joining as serve
@@ -214,15 +213,9 @@ module _ (journals : Journals) (policy : PolicyValue) (world : FactSet) (header 
   serving_leaves users serve_end.Memory same (inl kept) = inl kept
   serving_leaves users serve_end.Memory same (inr (refusals, is_broken, leaves)) = serving_parts users refusals is_broken same leaves
 
--- where no disk was touched, all journals are kept
-kept_disks : (shelf : ShelfScene) (files : FileNames) → SameDisks shelf → KeepsJournals (journals_of shelf files)
-kept_disks shelf files same name = (
-  ap (bytes_on shelf.Disk.reads) (same.0 (journal_name files.directory name)),
-  λ c at. subst (λ d. image_on shelf.Disk.image d c) (same.0 (journal_name files.directory name)) at,
-)
-
 module _ {F D : Type 0} (Shelf : ShelfGhosts F D) (Disk : DiskGhosts D) (old new : F) (input : Input) (output : Output) (links : LinksScene)
-    (files : FileNames) (policy : PolicyValue) (world : FactSet) (header : List ℕ) where
+    (only_now : (d : D) (c : List ℕ) → Disk.image_since d (Disk.moment d) c → Disk.image d c) (files : FileNames) (policy : PolicyValue) (world : FactSet)
+    (header : List ℕ) where
   abbrev shelf : ShelfScene
   shelf = shelf_of Shelf Disk old new
 
@@ -232,6 +225,11 @@ module _ {F D : Type 0} (Shelf : ShelfGhosts F D) (Disk : DiskGhosts D) (old new
   same_disks : new ≡ old → SameDisks shelf
   same_disks same = (λ name. ap (λ f. Shelf.disk f name) same, λ name. ap (λ f. Shelf.disk_faults f name) same)
 
+  -- where no disk was touched, all journals are kept
+  kept_disks : SameDisks shelf → KeepsJournals (journals_of shelf files)
+  kept_disks same =
+      keeps_same Disk files.directory (Shelf.disk old) (Shelf.disk new) (Shelf.disk_faults old) (Shelf.disk_faults new) only_now same.0
+
   module _ (tells : shelf.tells) (said : said_on shelf files ≡ both policy world header) where
     of_batch : (e : CommandEnd) → BatchEnds shelf input output files e → Parts
     of_batch (end.Batch users engine_end) runs =
@@ -239,8 +237,8 @@ module _ {F D : Type 0} (Shelf : ShelfGhosts F D) (Disk : DiskGhosts D) (old new
         let answers : AnswersOverFiles shelf input output files users engine_end policy world header =
         said_once (AnswersOverFiles shelf input output files users engine_end) policy over.0 world over.1 header over.2 (sym over.3 ∙ said) over.4 in
         batch_leaves (journals_of shelf files) policy world header engine_end answers.journals
-    of_batch (end.Files why) runs = inl (kept_disks shelf files runs.0.disks)
-    of_batch end.Memory runs = inl (kept_disks shelf files (same_disks runs.0))
+    of_batch (end.Files why) runs = inl (kept_disks runs.0.disks)
+    of_batch end.Memory runs = inl (kept_disks (same_disks runs.0))
     of_batch end.Usage runs = absurd runs
     of_batch (end.Case case) runs = absurd runs
     of_batch (end.Init users init) runs = absurd runs
@@ -251,10 +249,11 @@ module _ {F D : Type 0} (Shelf : ShelfGhosts F D) (Disk : DiskGhosts D) (old new
 
     of_audit : (user : Text) (json : Bool) (e : CommandEnd) → AuditEnds shelf output files user json e → Parts
     of_audit user json (end.Audit name engine_end) runs =
-        inl (λ name. (runs.bytes tells (journal_name files.directory name), λ c. runs.images tells (journal_name files.directory name) c))
-    of_audit user json end.Nobody finds = inl (kept_disks shelf files finds.disks)
-    of_audit user json (end.Files why) runs = inl (kept_disks shelf files runs.0.disks)
-    of_audit user json end.Memory runs = inl (kept_disks shelf files (same_disks runs.0))
+        inl (keeps_all Disk files.directory (Shelf.disk old) (Shelf.disk new) (Shelf.disk_faults old) (Shelf.disk_faults new) (runs.bytes tells)
+        (runs.images tells) (runs.moments tells))
+    of_audit user json end.Nobody finds = inl (kept_disks finds.disks)
+    of_audit user json (end.Files why) runs = inl (kept_disks runs.0.disks)
+    of_audit user json end.Memory runs = inl (kept_disks (same_disks runs.0))
     of_audit user json end.Usage runs = absurd runs
     of_audit user json (end.Case case) runs = absurd runs
     of_audit user json (end.Init users init) runs = absurd runs
@@ -269,8 +268,8 @@ module _ {F D : Type 0} (Shelf : ShelfGhosts F D) (Disk : DiskGhosts D) (old new
         said_once (ServesOverFiles shelf links files address workers limit users engine_end) policy over.0 world over.1 header over.2
         (sym over.3 ∙ said) over.4 in
         serving_leaves (journals_of shelf files) policy world header users.items engine_end serves.of_policy serves.journals
-    of_serve address workers limit (end.Files why) runs = inl (kept_disks shelf files runs.0.disks)
-    of_serve address workers limit end.Memory runs = inl (kept_disks shelf files (same_disks runs.0))
+    of_serve address workers limit (end.Files why) runs = inl (kept_disks runs.0.disks)
+    of_serve address workers limit end.Memory runs = inl (kept_disks (same_disks runs.0))
     of_serve address workers limit end.Usage runs = absurd runs
     of_serve address workers limit (end.Case case) runs = absurd runs
     of_serve address workers limit (end.Init users init) runs = absurd runs
@@ -292,6 +291,7 @@ module _ {F D : Type 0} (Shelf : ShelfGhosts F D) (Disk : DiskGhosts D) (old new
     of_reading (Some (runs_selfrun seed users asks)) e of uses = absurd uses
 
 pub calls_are_parts : {F D : Type 0} (Shelf : ShelfGhosts F D) (Disk : DiskGhosts D) (old new : F) (input : Input) (output : Output) (links : LinksScene)
-    (complaints : Output) → CallsAreParts (scene_of (shelf_of Shelf Disk old new) input output links) complaints
-calls_are_parts Shelf Disk old new input output links complaints words status files policy world header one uses tells said =
-    of_reading Shelf Disk old new input output links files policy world header tells said (reading_of words) one.end one.command uses
+    (complaints : Output) → ((d : D) (c : List ℕ) → Disk.image_since d (Disk.moment d) c → Disk.image d c)
+    → CallsAreParts (scene_of (shelf_of Shelf Disk old new) input output links) complaints
+calls_are_parts Shelf Disk old new input output links complaints only_now words status files policy world header one uses tells said =
+    of_reading Shelf Disk old new input output links only_now files policy world header tells said (reading_of words) one.end one.command uses

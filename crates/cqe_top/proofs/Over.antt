@@ -2,8 +2,9 @@
 use Rattle.std.proofs.Common.{◌≡◌, ℕ, zero, suc, ◌≤◌, ◌<◌, List, [], ◌∷◌, length, map, refl, sym, ap, subst, ◌∙◌, arith}
 use Rattle.std.specs.Prelude.{Some, None, slice_get}
 use Rattle.outside.proofs.Rises.{rose_since}
+use Rattle.outside.proofs.Taken.{Rests}
 use Rattle.outside.specs.Faults.{Rose}
-use Rattle.outside.specs.Shelf.{SameNames, SameOthers, bytes_on, image_on, is_among, SameBeside, SameBytes, NoNewImages, NoneFell, SomeRose}
+use Rattle.outside.specs.Shelf.{SameNames, SameOthers, bytes_on, image_on, is_among, SameBeside, SameBytes, NoNewImages, NoNewMoments, NoneFell, SomeRose}
 use Rattle.outside.specs.Visits.{Visit}
 use Rattle.outside.specs.declared.disk.Disk.{Ghosts as DiskGhosts}
 use Rattle.outside.specs.declared.shelf.Shelf.{Ghosts as ShelfGhosts}
@@ -124,6 +125,10 @@ module _ {F D : Type 0} (Shelf : ShelfGhosts F D) (Disk : DiskGhosts D) (old mid
 
   pub images_over : NoNewImages Disk.image (Shelf.disk mid) (Shelf.disk new) → NoNewImages Disk.image (Shelf.disk old) (Shelf.disk new)
   images_over images other c left = subst (λ d. image_on Disk.image d c) (disks other) (images other c left)
+
+  pub moments_over : NoNewMoments Disk.moment Disk.image_since Disk.image (Shelf.disk mid) (Shelf.disk new)
+      → NoNewMoments Disk.moment Disk.image_since Disk.image (Shelf.disk old) (Shelf.disk new)
+  moments_over moments other = subst (λ d. Rests Disk d (Shelf.disk new other)) (disks other) (moments other)
 
 -- what holds behind a fault of the shelf and where memory was wanting holds of each audit of which nothing was written
 pub silent_end : {S : Type 0} (end : AuditEnd) → (end ≡ audit_end.ShelfFault → S) → (end ≡ audit_end.Memory → S) → IsSilent end → S

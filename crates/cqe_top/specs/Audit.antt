@@ -1,7 +1,7 @@
 -- The command `audit`: what the journal of one user holds, to the output.
 -- Ends: Audit, Nobody, Files, Memory.
 use Rattle.std.specs.Prelude.{◌≡◌, ℕ, Bool, List, find, bytes_eq, Option, Some, None}
-use Rattle.outside.specs.Shelf.{SameOthers, SameBytes, NoNewImages}
+use Rattle.outside.specs.Shelf.{SameOthers, SameBytes, NoNewImages, NoNewMoments}
 use Rattle.audit_engine.specs.Ends.{EndsAudit, IsSilent}
 use Rattle.audit_engine.specs.declared.end.AuditEnd.{AuditEnd}
 use Rattle.cqe_base.specs.Facts.{FactSet}
@@ -44,7 +44,8 @@ module _ (shelf : ShelfScene) (output : Output) (files : FileNames) (user : Text
         (journals.before one.name) (journals.now one.name) json end output.written output.written')
 
     -- It ran over files that were read. It looks at his journal alone: the other disks are
-    -- untouched, and all have the bytes that they had and may be left by a crash only as before.
+    -- untouched, and all have the bytes that they had and may be left by a crash only as before, at
+    -- no moment of the call otherwise either.
     -- Behind a fault of the shelf and where memory was wanting the output is as it was.
     pub record RunsAudit (name : Text) (end : AuditEnd) : Type 0 where
       pub name_is : name ≡ user
@@ -56,6 +57,9 @@ module _ (shelf : ShelfScene) (output : Output) (files : FileNames) (user : Text
           shelf.disk_faults'
       pub bytes : shelf.tells → SameBytes shelf.Disk.reads shelf.disk shelf.disk'
       pub images : shelf.tells → NoNewImages shelf.Disk.image shelf.disk shelf.disk'
+      pub moments : shelf.tells
+          → NoNewMoments shelf.Disk.moment shelf.Disk.image_since shelf.Disk.image shelf.disk
+          shelf.disk'
       pub silent : IsSilent end → SameOutput output
 
     -- the policy has no user of the name, and no disk was touched

@@ -76,10 +76,13 @@ pub record ClosedBehind (journals : Journals) (name : Text) (opening : ℕ)
       → up_to c ⊎ journals.since name closing c
   pub behind : (c : List ℕ) → journals.since name closing c → since_then c
 
--- the journal of this name reads as it did, and no crash leaves anything new of it
+-- the journal of this name reads as it did, and no crash leaves anything new of it, nor did one at
+-- a moment of the call, where it was there as the call began
 abbrev pub KeepsJournal : Journals → Text → Type 0
 KeepsJournal journals name = (journals.reads name ≡ journals.bytes name)
     × ((c : List ℕ) → journals.image name c → journals.image_before name c)
+    × IfSome (journals.began name)
+    (λ begun. (c : List ℕ) → journals.since name begun c → journals.image_before name c)
 
 -- all do
 abbrev pub KeepsJournals : Journals → Type 0

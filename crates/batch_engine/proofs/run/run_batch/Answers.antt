@@ -1,4 +1,4 @@
-use Rattle.std.proofs.Common.{inr, [], ◌++◌, take, map, refl, sym, subst, ◌∙◌, arith}
+use Rattle.std.proofs.Common.{inl, inr, [], ◌++◌, take, map, refl, sym, subst, ◌∙◌, arith}
 use Rattle.cqe_base.specs.History.{UserProfile}
 use Rattle.log_journal.specs.Opening.{header_bytes}
 use Rattle.batch_engine.specs.BatchOf.{items_of}
@@ -8,6 +8,7 @@ use Rattle.desk_crew.specs.Shelved.{journals_on}
 use Rattle.outside.specs.Shelf.{AllIn, SameBeside}
 use Rattle.batch_engine.proofs.Running.{Stay, stay_run, runs_then}
 use Rattle.batch_engine.proofs.Failing.{run_broken, all_weaker}
+use Rattle.desk_crew.proofs.Lasting.{keeps_same, keeps_all}
 use Rattle.desk_crew.proofs.Rising.{some_rose}
 use Rattle.desk_crew.specs.Shelved.{AreBack}
 use Rattle.desk_crew.proofs.Giving.{AllReturned}
@@ -20,8 +21,105 @@ use Rattle.batch_engine.proofs.run.run_batch.Goals.{After-answer_all, In-Ok-open
 pub returns-in-Refused-clause-ends : goal.returns-in-Refused-clause-ends
 returns-in-Refused-clause-ends g c =
     λ shelf_told source_told sink_told.
-    let reads = c.in-Refused.ensures.reads source_told in
-    (sym (batch_begins _ _ c.new.ensures) ∙ reads.0, (refl, λ name. (refl, λ crash left. left)), reads.1)
+    let reads = c.in-Refused.ensures.reads source_told in (
+      sym (batch_begins _ _ c.new.ensures) ∙ reads.0,
+      (
+        refl,
+        keeps_same g.F.D.Disk c.args.registry.now.directory.now (g.F.Shelf.disk c.args.shelf.now) (g.F.Shelf.disk c.args.shelf.now)
+            (g.F.Shelf.disk_faults c.args.shelf.now) (g.F.Shelf.disk_faults c.args.shelf.now) g.met.F.D.Disk.only_now (λ name. refl),
+      ),
+      reads.1,
+    )
+
+-- ---- where nothing was answered, all journals are kept
+
+pub returns-in-Refused-clause-journals : goal.returns-in-Refused-clause-journals
+returns-in-Refused-clause-journals g c = λ shelf_told.
+    keeps_same g.F.D.Disk c.args.registry.now.directory.now (g.F.Shelf.disk c.args.shelf.now) (g.F.Shelf.disk c.args.shelf.now)
+    (g.F.Shelf.disk_faults c.args.shelf.now) (g.F.Shelf.disk_faults c.args.shelf.now) g.met.F.D.Disk.only_now (λ name. refl)
+
+pub returns-in-Fault-clause-ends : goal.returns-in-Fault-clause-ends
+returns-in-Fault-clause-ends g c = λ shelf_told source_told sink_told. (
+  refl,
+  keeps_same g.F.D.Disk c.args.registry.now.directory.now (g.F.Shelf.disk c.args.shelf.now) (g.F.Shelf.disk c.args.shelf.now)
+      (g.F.Shelf.disk_faults c.args.shelf.now) (g.F.Shelf.disk_faults c.args.shelf.now) g.met.F.D.Disk.only_now (λ name. refl),
+)
+
+pub returns-in-Fault-clause-journals : goal.returns-in-Fault-clause-journals
+returns-in-Fault-clause-journals g c = λ shelf_told.
+    keeps_same g.F.D.Disk c.args.registry.now.directory.now (g.F.Shelf.disk c.args.shelf.now) (g.F.Shelf.disk c.args.shelf.now)
+    (g.F.Shelf.disk_faults c.args.shelf.now) (g.F.Shelf.disk_faults c.args.shelf.now) g.met.F.D.Disk.only_now (λ name. refl)
+
+pub returns-in-Memory-clause-ends : goal.returns-in-Memory-clause-ends
+returns-in-Memory-clause-ends g c = λ shelf_told source_told sink_told.
+    inl (
+      refl,
+      keeps_same g.F.D.Disk c.args.registry.now.directory.now (g.F.Shelf.disk c.args.shelf.now) (g.F.Shelf.disk c.args.shelf.now)
+          (g.F.Shelf.disk_faults c.args.shelf.now) (g.F.Shelf.disk_faults c.args.shelf.now) g.met.F.D.Disk.only_now (λ name. refl),
+    )
+
+pub returns-in-Memory-clause-journals : goal.returns-in-Memory-clause-journals
+returns-in-Memory-clause-journals g c = λ shelf_told.
+    inl (keeps_same g.F.D.Disk c.args.registry.now.directory.now (g.F.Shelf.disk c.args.shelf.now) (g.F.Shelf.disk c.args.shelf.now)
+    (g.F.Shelf.disk_faults c.args.shelf.now) (g.F.Shelf.disk_faults c.args.shelf.now) g.met.F.D.Disk.only_now (λ name. refl))
+
+pub returns-in_default-clause-ends : goal.returns-in_default-clause-ends
+returns-in_default-clause-ends g c = λ shelf_told source_told sink_told.
+    inl (
+      refl,
+      keeps_same g.F.D.Disk c.args.registry.now.directory.now (g.F.Shelf.disk c.args.shelf.now) (g.F.Shelf.disk c.args.shelf.now)
+          (g.F.Shelf.disk_faults c.args.shelf.now) (g.F.Shelf.disk_faults c.args.shelf.now) g.met.F.D.Disk.only_now (λ name. refl),
+    )
+
+pub returns-in_default-clause-journals : goal.returns-in_default-clause-journals
+returns-in_default-clause-journals g c = λ shelf_told.
+    inl (keeps_same g.F.D.Disk c.args.registry.now.directory.now (g.F.Shelf.disk c.args.shelf.now) (g.F.Shelf.disk c.args.shelf.now)
+    (g.F.Shelf.disk_faults c.args.shelf.now) (g.F.Shelf.disk_faults c.args.shelf.now) g.met.F.D.Disk.only_now (λ name. refl))
+
+pub returns-in_default-room_for_lines-clause-ends : goal.returns-in_default-room_for_lines-clause-ends
+returns-in_default-room_for_lines-clause-ends g c = λ shelf_told source_told sink_told.
+    inl (
+      refl,
+      keeps_same g.F.D.Disk c.args.registry.now.directory.now (g.F.Shelf.disk c.args.shelf.now) (g.F.Shelf.disk c.args.shelf.now)
+          (g.F.Shelf.disk_faults c.args.shelf.now) (g.F.Shelf.disk_faults c.args.shelf.now) g.met.F.D.Disk.only_now (λ name. refl),
+    )
+
+pub returns-in_default-room_for_lines-clause-journals : goal.returns-in_default-room_for_lines-clause-journals
+returns-in_default-room_for_lines-clause-journals g c = λ shelf_told.
+    inl (keeps_same g.F.D.Disk c.args.registry.now.directory.now (g.F.Shelf.disk c.args.shelf.now) (g.F.Shelf.disk c.args.shelf.now)
+    (g.F.Shelf.disk_faults c.args.shelf.now) (g.F.Shelf.disk_faults c.args.shelf.now) g.met.F.D.Disk.only_now (λ name. refl))
+
+pub returns-in-Err-Shelf-clause-ends : goal.returns-in-Err-Shelf-clause-ends
+returns-in-Err-Shelf-clause-ends g c = λ shelf_told source_told sink_told. (
+  (c.in-Whole.ensures.reads source_told).1,
+  (
+    refl,
+    keeps_all g.F.D.Disk c.args.registry.now.directory.now (g.F.Shelf.disk c.args.shelf.now) (g.F.Shelf.disk c.open_all.new.shelf)
+        (g.F.Shelf.disk_faults c.args.shelf.now) (g.F.Shelf.disk_faults c.open_all.new.shelf) (c.in-Err-Shelf.ensures.refused_bytes shelf_told)
+        (c.in-Err-Shelf.ensures.refused_images shelf_told) (c.in-Err-Shelf.ensures.refused_moments shelf_told),
+  ),
+)
+
+pub returns-in-Err-Shelf-clause-journals : goal.returns-in-Err-Shelf-clause-journals
+returns-in-Err-Shelf-clause-journals g c = λ shelf_told.
+    keeps_all g.F.D.Disk c.args.registry.now.directory.now (g.F.Shelf.disk c.args.shelf.now) (g.F.Shelf.disk c.open_all.new.shelf)
+    (g.F.Shelf.disk_faults c.args.shelf.now) (g.F.Shelf.disk_faults c.open_all.new.shelf) (c.in-Err-Shelf.ensures.refused_bytes shelf_told)
+    (c.in-Err-Shelf.ensures.refused_images shelf_told) (c.in-Err-Shelf.ensures.refused_moments shelf_told)
+
+pub returns-in-Err-Memory-clause-ends : goal.returns-in-Err-Memory-clause-ends
+returns-in-Err-Memory-clause-ends g c = λ shelf_told source_told sink_told.
+    inl (
+      refl,
+      keeps_all g.F.D.Disk c.args.registry.now.directory.now (g.F.Shelf.disk c.args.shelf.now) (g.F.Shelf.disk c.open_all.new.shelf)
+          (g.F.Shelf.disk_faults c.args.shelf.now) (g.F.Shelf.disk_faults c.open_all.new.shelf) (c.in-Err-Memory.ensures.refused_bytes shelf_told)
+          (c.in-Err-Memory.ensures.refused_images shelf_told) (c.in-Err-Memory.ensures.refused_moments shelf_told),
+    )
+
+pub returns-in-Err-Memory-clause-journals : goal.returns-in-Err-Memory-clause-journals
+returns-in-Err-Memory-clause-journals g c = λ shelf_told.
+    inl (keeps_all g.F.D.Disk c.args.registry.now.directory.now (g.F.Shelf.disk c.args.shelf.now) (g.F.Shelf.disk c.open_all.new.shelf)
+    (g.F.Shelf.disk_faults c.args.shelf.now) (g.F.Shelf.disk_faults c.open_all.new.shelf) (c.in-Err-Memory.ensures.refused_bytes shelf_told)
+    (c.in-Err-Memory.ensures.refused_images shelf_told) (c.in-Err-Memory.ensures.refused_moments shelf_told))
 
 -- ---- what follows from the opening of all journals
 
