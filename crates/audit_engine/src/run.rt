@@ -1,5 +1,6 @@
 //! The audit of a user whose journal lies on a shelf.
 ghost use Rattle.std.specs.Prelude.{◌≡◌, ◌≤◌, List, ℕ, false, string_bytes};
+ghost use Rattle.outside.specs.Disk.{Only};
 ghost use Rattle.outside.specs.Faults.{Rose};
 ghost use Rattle.outside.specs.Shelf.{bytes_on, image_on, SameOthers, SameNames};
 ghost use Rattle.cqe_base.specs.History.{profile_of};
@@ -50,6 +51,13 @@ pub fn run_audit<'w, F: Shelf, K: Sink>(
     ensures images { F.tells → NoNewImages F.D.image (F.disk shelf.old) (F.disk shelf.new) }
     ensures moments { F.tells → NoNewMoments F.D.moment F.D.image_since F.D.image
         (F.disk shelf.old) (F.disk shelf.new) }
+    ensures durable { F.tells → result ≡ AuditEnd.Done → Only
+        (bytes_on F.D.reads
+        (F.disk shelf.old
+        (journal_name registry.now.directory.now (string_bytes user.now.name))))
+        (image_on F.D.image
+        (F.disk shelf.new
+        (journal_name registry.now.directory.now (string_bytes user.now.name)))) }
     ensures inside { NoneOut (F.is_out shelf.new) }
     ensures files { SameNames (F.file shelf.old) (F.file shelf.new) }
     ensures looked { F.looked shelf.new ≡ F.looked shelf.old }
@@ -96,6 +104,9 @@ fn audit_journal<'w, F: Shelf, K: Sink>(
         → image_on F.D.image (F.disk shelf.old journal.now) c }
     ensures moments { F.tells → NoNewMoments F.D.moment F.D.image_since F.D.image
         (F.disk shelf.old) (F.disk shelf.new) }
+    ensures durable { F.tells → result ≡ AuditEnd.Done
+        → Only (bytes_on F.D.reads (F.disk shelf.old journal.now))
+        (image_on F.D.image (F.disk shelf.new journal.now)) }
     ensures inside { NoneOut (F.is_out shelf.new) }
     ensures files { SameNames (F.file shelf.old) (F.file shelf.new) }
     ensures looked { F.looked shelf.new ≡ F.looked shelf.old }

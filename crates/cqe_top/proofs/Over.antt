@@ -3,6 +3,7 @@ use Rattle.std.proofs.Common.{◌≡◌, ℕ, zero, suc, ◌≤◌, ◌<◌, Lis
 use Rattle.std.specs.Prelude.{Some, None, slice_get}
 use Rattle.outside.proofs.Rises.{rose_since}
 use Rattle.outside.proofs.Taken.{Rests}
+use Rattle.outside.specs.Disk.{Only}
 use Rattle.outside.specs.Faults.{Rose}
 use Rattle.outside.specs.Shelf.{SameNames, SameOthers, bytes_on, image_on, is_among, SameBeside, SameBytes, NoNewImages, NoNewMoments, NoneFell, SomeRose}
 use Rattle.outside.specs.Visits.{Visit}
@@ -125,6 +126,14 @@ module _ {F D : Type 0} (Shelf : ShelfGhosts F D) (Disk : DiskGhosts D) (old mid
 
   pub images_over : NoNewImages Disk.image (Shelf.disk mid) (Shelf.disk new) → NoNewImages Disk.image (Shelf.disk old) (Shelf.disk new)
   images_over images other c left = subst (λ d. image_on Disk.image d c) (disks other) (images other c left)
+
+  pub durable_over : (directory name owner : Text) → owner ≡ name
+      → Only (bytes_on Disk.reads (Shelf.disk mid (journal_name directory owner))) (image_on Disk.image (Shelf.disk new (journal_name directory owner)))
+      → Only (bytes_on Disk.reads (Shelf.disk old (journal_name directory name))) (image_on Disk.image (Shelf.disk new (journal_name directory name)))
+  durable_over directory name owner same only =
+      subst (λ o. Only (bytes_on Disk.reads o) (image_on Disk.image (Shelf.disk new (journal_name directory name)))) (disks (journal_name directory name))
+      (subst (λ n. Only (bytes_on Disk.reads (Shelf.disk mid (journal_name directory n))) (image_on Disk.image (Shelf.disk new (journal_name directory n))))
+      same only)
 
   pub moments_over : NoNewMoments Disk.moment Disk.image_since Disk.image (Shelf.disk mid) (Shelf.disk new)
       → NoNewMoments Disk.moment Disk.image_since Disk.image (Shelf.disk old) (Shelf.disk new)

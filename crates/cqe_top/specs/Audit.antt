@@ -1,9 +1,12 @@
 -- The command `audit`: what the journal of one user holds, to the output.
 -- Ends: Audit, Nobody, Files, Memory.
 use Rattle.std.specs.Prelude.{◌≡◌, ℕ, Bool, List, find, bytes_eq, Option, Some, None}
+use Rattle.outside.specs.Disk.{Only}
 use Rattle.outside.specs.Shelf.{SameOthers, SameBytes, NoNewImages, NoNewMoments}
+use Rattle.outside.specs.Shelf.{bytes_on, image_on}
 use Rattle.audit_engine.specs.Ends.{EndsAudit, IsSilent}
 use Rattle.audit_engine.specs.declared.end.AuditEnd.{AuditEnd}
+use Rattle.audit_engine.specs.declared.end.AuditEnd.TheVariants as audit_end
 use Rattle.cqe_base.specs.Facts.{FactSet}
 use Rattle.cqe_base.specs.Schema.{Text}
 use Rattle.command_words.specs.Readings.{FileNames}
@@ -60,6 +63,10 @@ module _ (shelf : ShelfScene) (output : Output) (files : FileNames) (user : Text
       pub moments : shelf.tells
           → NoNewMoments shelf.Disk.moment shelf.Disk.image_since shelf.Disk.image shelf.disk
           shelf.disk'
+      -- where it was done, a crash leaves just the bytes of which it was printed
+      pub durable : shelf.tells → end ≡ audit_end.Done
+          → Only (bytes_on shelf.Disk.reads (shelf.disk (journal_name files.directory user)))
+          (image_on shelf.Disk.image (shelf.disk' (journal_name files.directory user)))
       pub silent : IsSilent end → SameOutput output
 
     -- the policy has no user of the name, and no disk was touched

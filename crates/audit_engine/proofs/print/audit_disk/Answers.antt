@@ -1,4 +1,5 @@
 use Rattle.std.proofs.Common.{string_bytes, sym, subst}
+use Rattle.outside.specs.Disk.{Only}
 use Rattle.cqe_base.specs.History.{profile_of}
 use Rattle.log_journal.specs.Opening.{header_bytes}
 use Rattle.user_desk.specs.Desks.{desk_standing, desk_history}
@@ -26,3 +27,8 @@ returns-in-Ok-open_desk-clause-moments g c c' here =
 
 pub returns-in_default-clause-moments : goal.returns-in_default-clause-moments
 returns-in_default-clause-moments g c c' here = g.met.D.Disk.only_now c.args.disk c' here
+
+pub returns-in-Ok-open_desk-clause-durable : goal.returns-in-Ok-open_desk-clause-durable
+returns-in-Ok-open_desk-clause-durable g c = λ done.
+    subst (λ d. Only (g.D.Disk.reads c.args.disk) (g.D.Disk.image d)) (sym c.close.ensures)
+    (c.in-Ok-open_desk.ensures.durable (c.print_desk-end.ensures.served done))

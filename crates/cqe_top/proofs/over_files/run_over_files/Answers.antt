@@ -23,6 +23,7 @@ use Rattle.cqe_top.proofs.Finding.{is_named, one_named, named_at, nobody_named}
 use Rattle.cqe_top.proofs.Good.{unread, init_succeeds, batch_succeeds, audit_succeeds, nobody_succeeds}
 use Rattle.cqe_top.proofs.Over.{serve_over, init_caused, some_rose, same_journals, touches_over, init_over, others_over, bytes_over, images_over, batch_over}
 use Rattle.cqe_top.proofs.Over.{batch_left, serve_left, one_of, silent_end, counts_over, counted_over, moments_over}
+use Rattle.cqe_top.proofs.Over.{durable_over}
 use Rattle.cqe_top.proofs.Serving.{serve_succeeds, served_out}
 use Rattle.cqe_top.proofs.Users.{batch_names_are}
 use Rattle.cqe_top.proofs.over_files.run_over_files.Given.{Over}
@@ -264,6 +265,9 @@ returns-in-Audit-clause-command g c =
       images = λ told. images_over g.F.Shelf g.F.D.Disk c.args.shelf.now c.read_files.new.shelf c.run_audit.new.shelf read.disks read.counts (ran.images told);
       moments = λ told. moments_over g.F.Shelf g.F.D.Disk c.args.shelf.now c.read_files.new.shelf c.run_audit.new.shelf read.disks read.counts
           (ran.moments told);
+      durable = λ told done.
+          durable_over g.F.Shelf g.F.D.Disk c.args.shelf.now c.read_files.new.shelf c.run_audit.new.shelf read.disks read.counts files.directory name
+          (string_bytes user.name) is (ran.durable told done);
       silent = silent_end c.run_audit.result ran.silent_fault ran.silent_memory;
     } in
     let does : OfAudit scene files name c.in-Audit.json (ends.Audit c.in-Audit.name c.run_audit.result) = record {
