@@ -106,6 +106,10 @@ where
     ensures left { L.tells → L.left links.old ≡ L.at_hand links.old
         → L.left links.new ≡ L.at_hand links.new }
 
+    // And none is lost: those that were given and those that are left are as many as before.
+    ensures left_all { L.tells → L.left links.old ≡ L.at_hand links.old
+        → L.given links.new + L.left links.new ≡ L.given links.old + L.left links.old }
+
     // It comes to its end where no connection is at hand, or these reach the greatest number,
     // together with the doors that answered that no further one comes, and are more than it,
     // together with all workers. Each worker has one door.

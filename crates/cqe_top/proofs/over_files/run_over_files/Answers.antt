@@ -334,6 +334,7 @@ returns-clause-command g c =
       few_ended = ran.few_ended;
       ends = λ told done. served_out scene.links listening.workers listening.sessions (ran.ended told done);
       left = ran.left;
+      left_all = ran.left_all;
       limited = ran.limited;
     } in
     let does : OfServe scene files listening.address.now listening.workers listening.sessions (ends.Serve inputs.policy.users c.run_serve-end.result) = record {
