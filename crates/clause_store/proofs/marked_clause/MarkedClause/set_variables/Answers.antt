@@ -20,3 +20,6 @@ invariant_of-self-2 c =
       room = c.in_ok-resize.ensures.length;
       marked = λ l. c.in_ok-resize.ensures.none none (code_of l) ∙ sym (ap (λ ls. has_literal ls l) empty);
     }
+
+pub returns-in_err-resize-clause-refused : goal.returns-in_err-resize-clause-refused
+returns-in_err-resize-clause-refused c = c.self.view_is

@@ -1,0 +1,5 @@
+use Rattle.std.proofs.Common.{◌∙◌}
+use Rattle.clause_store.proofs.marked_clause.MarkedClause.append.Goals as goal
+
+pub returns-in_err-add-clause-part : goal.returns-in_err-add-clause-part
+returns-in_err-add-clause-part c = (c.loop-literal.literal-index, c.in_err-add.ensures.refused ∙ c.loop-literal.invariant)
