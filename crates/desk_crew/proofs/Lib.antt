@@ -1,5 +1,6 @@
 pub mod Taken
 pub mod Shelving
+pub mod Placing
 pub mod Reopening
 pub mod Opening
 pub mod Asking
@@ -7,3 +8,4 @@ pub mod Seated
 pub mod Rising
 pub mod Lasting
 pub mod Giving
+pub mod Crossing
