@@ -23,7 +23,8 @@ STATUSES = {
     7: "Standard output couldn't be written (cqe: write fault); a beginning of the replies was.",
     8: "The policy file or the facts file isn't there (cqe: missing NAME).",
     9: "A file or the directory of the journals couldn't be opened (cqe: shelf fault).",
-    10: "A user's journal was refused (cqe: journal NAME CAUSE); batch and serve served the others.",
+    10: "A user's journal was refused (cqe: journal NAME CAUSE), or isn't empty where one would be moved to; batch and "
+    "serve served the others.",
     11: "A write or a sync of a journal failed (cqe: disk fault).",
     12: "The server couldn't listen at its address, or take in a client (cqe: links fault).",
     13: "Memory was wanting (cqe: out of memory).",
@@ -34,10 +35,12 @@ STATUS_ADVICE = "the line on standard error says more: give it to cqe-explain, w
 class Context:
     """The files and words of a run, as far as they are known."""
 
-    def __init__(self, policy=None, facts=None, script=None, journals=None, listen=None, words=None, sort=None):
+    def __init__(self, policy=None, facts=None, script=None, journals=None, listen=None, words=None, sort=None,
+                 to=None):
         self.policy_name = policy
         self.facts_name = facts
         self.journals = journals
+        self.to = to
         self.listen = listen
         self.words = words
         self.policy = PolicyFile.of_file(policy)

@@ -214,6 +214,7 @@ module _ (schema : DatabaseSchema) (world : FactSet) (user : UserProfile) where
     sealed_on now later on (Journal journal_error.NotAJournal) is = is
     sealed_on now later on (Journal journal_error.OtherPolicy) is = is
     sealed_on now later on (Journal (journal_error.Damaged number)) is = is
+    sealed_on now later on (Journal journal_error.OldVersion) is = is
     sealed_on now later on (Stale number) is = is
     sealed_on now later on (Unlawful number stored computed) is = is
     sealed_on now later on (Size number) is = is
@@ -543,6 +544,8 @@ module _ (schema : DatabaseSchema) (world : FactSet) (user : UserProfile) where
         absurd (exclusive entries c (Journal journal_error.OtherPolicy) opens (is t))
     faulty exclusive entries c opens T t start now later a b on (Journal (journal_error.Damaged number)) is =
         absurd (exclusive entries c (Journal (journal_error.Damaged number)) opens (is t))
+    faulty exclusive entries c opens T t start now later a b on (Journal journal_error.OldVersion) is =
+        absurd (exclusive entries c (Journal journal_error.OldVersion) opens (is t))
     faulty exclusive entries c opens T t start now later a b on (Stale number) is = absurd (exclusive entries c (Stale number) opens (is t))
     faulty exclusive entries c opens T t start now later a b on (Unlawful number stored computed) is =
         absurd (exclusive entries c (Unlawful number stored computed) opens (is t))
@@ -561,6 +564,8 @@ module _ (schema : DatabaseSchema) (world : FactSet) (user : UserProfile) where
         λ u. subst (λ b. Refuses schema world user header b (Journal journal_error.OtherPolicy)) same (is t)
     shown_by T t c same now later a on (Journal (journal_error.Damaged number)) is =
         λ u. subst (λ b. Refuses schema world user header b (Journal (journal_error.Damaged number))) same (is t)
+    shown_by T t c same now later a on (Journal journal_error.OldVersion) is =
+        λ u. subst (λ b. Refuses schema world user header b (Journal journal_error.OldVersion)) same (is t)
     shown_by T t c same now later a on (Stale number) is = λ u. subst (λ b. Refuses schema world user header b (Stale number)) same (is t)
     shown_by T t c same now later a on (Unlawful number stored computed) is =
         λ u. subst (λ b. Refuses schema world user header b (Unlawful number stored computed)) same (is t)

@@ -50,7 +50,7 @@ fn ward_knowing(alloc: Global, known: &str) -> Result<Ward, Fail>
 /// The bytes of a journal with this behind its header.
 fn with_header(alloc: Global, behind: &[u8]) -> Result<Vec<u8>, Fail> {
     let mut bytes = Vec::new(alloc);
-    bytes.extend_from_slice(b"CQEJRNL1")?;
+    bytes.extend_from_slice(b"CQEJRNL2")?;
     bytes.extend_from_slice(&[7; 32])?;
     bytes.extend_from_slice(&[9; 32])?;
     bytes.extend_from_slice(behind)?;
@@ -155,11 +155,19 @@ fn a_changed_byte_is_refused_by_name(rt: HostRuntime) -> Result<(), Fail> {
             0,
         ),
         (
+            7,
+            49,
+            Standing::Sealed(DeskError::Journal(OpenError::OldVersion)),
+            0,
+        ),
+        (
             8,
             0,
             Standing::Sealed(DeskError::Journal(OpenError::OtherPolicy)),
             0,
         ),
+        // A kind that no mark has.
+        (73, 5, Standing::Sealed(DeskError::Stale(0)), 0),
         // `drug(anx)`, and a byte that is no text.
         (83, 120, Standing::Sealed(DeskError::Stale(0)), 0),
         (83, 200, Standing::Sealed(DeskError::Stale(0)), 0),

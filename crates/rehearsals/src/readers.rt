@@ -32,6 +32,10 @@ pub fn words_text(alloc: Global, line: &str) -> Result<String, AllocError> {
             let (workers, sessions) = (serve.workers, serve.sessions);
             format!(in alloc; "{front} <{}> {workers} {sessions}", serve.listen)
         }
+        Some(Command::Migrate(migrate)) => {
+            let front = files_text(alloc, "migrate", &migrate.files)?;
+            format!(in alloc; "{front} <{}>", migrate.to)
+        }
         None => String::from_str(alloc, "none"),
     }
 }

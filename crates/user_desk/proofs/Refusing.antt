@@ -22,7 +22,7 @@ use Rattle.log_journal.specs.Opening as journal
 use Rattle.log_journal.specs.Opening.{header_bytes, first_eight}
 use Rattle.log_journal.specs.declared.header.Header.{Header}
 use Rattle.log_journal.specs.declared.header.OpenError.{OpenError}
-use Rattle.log_journal.specs.declared.header.OpenError.TheVariants.{NotAJournal, OtherPolicy, Damaged, DiskFault, Memory}
+use Rattle.log_journal.specs.declared.header.OpenError.TheVariants.{NotAJournal, OtherPolicy, Damaged, DiskFault, Memory, OldVersion}
 use Rattle.user_desk.specs.Entries.{mark_of, entry_by, entry_of}
 use Rattle.user_desk.specs.Causes.{Opens, is_beyond, RefusesRecord, RefusesRecords, Refuses, IsSealedBy, IsStanding, IsReplay}
 use Rattle.user_desk.specs.declared.standing.DeskError.{DeskError}
@@ -67,6 +67,9 @@ same_ok read a b is other = same_in_ok (sym is ∙ other)
 same_some : (marks : Option Mark) (a b : Mark) → marks ≡ Some a → marks ≡ Some b → a ≡ b
 same_some marks a b is other = let e : Some a ≡ Some b = sym is ∙ other in cc
 
+pub no_mark : (marks : Option Mark) (mark : Mark) → marks ≡ Some mark → marks ≡ None → ⊥
+no_mark marks mark is none = let e : None ≡ Some mark = sym none ∙ is in cc
+
 no_err : (read : Result Formula Refusal) (query : Formula) (why : Refusal) → read ≡ Ok query → read ≡ Err why → ⊥
 no_err read query why is other = let e : Ok query ≡ Err why = sym is ∙ other in cc
 
@@ -87,7 +90,8 @@ module _ (schema : DatabaseSchema) (world : FactSet) (user : UserProfile) where
       → RefusesRecord schema world user before next why → ⊥
   lawful before next entry (Stale number) is marks sizes refused =
       let shows = entry_shows next.1 (mark_of next.0) (reading schema next.1) entry is in
-      no_err (reading schema next.1) entry.query refused.1 shows.reads refused.2
+      ⊎_elim (no_mark (mark_of next.0) entry.mark shows.marks)
+      (λ other. no_err (reading schema next.1) entry.query other.0 shows.reads other.1) refused.1
   lawful before next entry (Size number) is marks sizes refused =
       let shows = entry_shows next.1 (mark_of next.0) (reading schema next.1) entry is in
       let same = same_ok (reading schema next.1) refused.1 entry.query refused.2 shows.reads in
@@ -138,7 +142,8 @@ module _ (schema : DatabaseSchema) (world : FactSet) (user : UserProfile) where
   -- bytes that open a desk show no reason to refuse them
   pub not_refused : (header : Header) (bytes : List ℕ) (entries : History) (why : DeskError) → Opens schema world user (header_bytes header) entries bytes
       → Refuses schema world user (header_bytes header) bytes why → ⊥
-  not_refused header bytes entries (Journal why) opens refused = unrefused header (records bytes) bytes opens.stands.journal why refused
+  not_refused header bytes entries (Journal why) opens refused =
+      unrefused 5 (header_bytes header) (records bytes) bytes (opens.stands.journal, opens.stands.journal.each) why refused
   not_refused header bytes entries (NotAdmitted admission) opens refused =
       refused.3 (no_records (records bytes) entries opens.stands.are (opens.none refused.1))
   not_refused header bytes entries (Stale number) opens refused =
@@ -160,6 +165,8 @@ module _ (schema : DatabaseSchema) (world : FactSet) (user : UserProfile) where
       absurd (not_refused header bytes entries (Journal OtherPolicy) opens (sealed is))
   sealed_by_fault told header bytes entries before now (Journal (Damaged number)) is opens sealed =
       absurd (not_refused header bytes entries (Journal (Damaged number)) opens (sealed is))
+  sealed_by_fault told header bytes entries before now (Journal OldVersion) is opens sealed =
+      absurd (not_refused header bytes entries (Journal OldVersion) opens (sealed is))
   sealed_by_fault told header bytes entries before now (NotAdmitted admission) is opens sealed =
       absurd (not_refused header bytes entries (NotAdmitted admission) opens (sealed is))
   sealed_by_fault told header bytes entries before now (Stale number) is opens sealed =

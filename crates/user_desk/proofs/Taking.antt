@@ -1,5 +1,6 @@
 -- What weighing the text of a record shows of it.
 use Rattle.std.proofs.Common.{◌≡◌, ℕ, suc, ◌+◌, ◌<◌, Bool, true, false, ◌||◌, List, [], ◌∷◌, ◌++◌, length, map, take, drop, get_or, refl, sym, ap, ◌∙◌, subst}
+use Rattle.std.proofs.Common.{inr}
 use Rattle.std.proofs.Common.{add-one, drop-cons}
 use Rattle.std.specs.Prelude.{Some, None, Result, Ok, Err, if◌then◌else◌, IsUtf8}
 use Rattle.std.proofs.lemmas.List.{length-map, map-append, take-append-drop}
@@ -28,6 +29,7 @@ use Rattle.user_desk.specs.Replays.{refused_by}
 use Rattle.user_desk.specs.declared.standing.DeskError.{DeskError}
 use Rattle.user_desk.specs.declared.standing.DeskError.TheVariants.{Journal, Stale, Unlawful, Size, NotAdmitted}
 use Rattle.user_desk.specs.declared.standing.Standing.TheVariants.{Sealed}
+use Rattle.user_desk.proofs.Refusing.{no_mark}
 
 -- how many entries there are
 pub count_of : (entries : List Entry) (history : History) → map answered_query_of entries ≡ history → length entries ≡ length history
@@ -60,35 +62,44 @@ no_size kind place false false mark is = cc
 module _ (schema : DatabaseSchema) (world : FactSet) (user : UserProfile) (before : History) (kind : ℕ) (text : Text) where
   by_size : (code : Reply) (read : Result Formula Refusal) (number : ℕ) → reading schema text ≡ read → number ≡ length before
       → reply_of code ≡ reply_by schema world user before standing_open false text read → entry_added text read (reply_of code) ≡ None
-      → ((refused : ℕ) (place : ℕ) → reply_of code ≡ no_sentence refused place → ⊥) → RefusesRecord schema world user before (kind, text) (Size number)
-  by_size code (Ok query) number reads is told none never = (
+      → ((refused : ℕ) (place : ℕ) → reply_of code ≡ no_sentence refused place → ⊥) → (mark_of kind ≡ None → ⊥)
+      → RefusesRecord schema world user before (kind, text) (Size number)
+  by_size code (Ok query) number reads is told none never marked_so = (
     is,
     query,
     reads,
     beyond text query (reply_of code) (is_full before (length text)) (is_too_large schema user before query)
         (rule schema world user (log user before) query) told none,
+    marked_so,
   )
-  by_size code (Err why) number reads is told none never = absurd (never why.kind why.place told)
+  by_size code (Err why) number reads is told none never marked_so = absurd (never why.kind why.place told)
 
   by_text : (kind' place : ℕ) (read : Result Formula Refusal) (number : ℕ) → reading schema text ≡ read → number ≡ length before
       → no_sentence kind' place ≡ reply_by schema world user before standing_open false text read
       → RefusesRecord schema world user before (kind, text) (Stale number)
   by_text kind' place (Ok query) number reads is told =
       absurd (no_size kind' place (is_full before (length text)) (is_too_large schema user before query) (rule schema world user (log user before) query) told)
-  by_text kind' place (Err why) number reads is told = (is, why, reads)
+  by_text kind' place (Err why) number reads is told = (is, inr (why, reads))
 
-  -- a record whose text is answered by a code is refused
-  pub code_refuses : (code : Reply) (number : ℕ) → number ≡ length before → (reply_of code ≡ open_reply schema world user before text)
-      × (entry_added text (reading schema text) (reply_of code) ≡ None)
+  -- a record of a mark's kind whose text is answered by a code is refused
+  pub code_refuses : (code : Reply) (number : ℕ) (stored : Mark) → number ≡ length before → mark_of kind ≡ Some stored
+      → (reply_of code ≡ open_reply schema world user before text) × (entry_added text (reading schema text) (reply_of code) ≡ None)
       → RefusesRecord schema world user before (kind, text) (refused_by code number)
-  code_refuses (replies.Syntax refusal) number is weighed = by_text refusal.kind refusal.place (reading schema text) number refl is weighed.0
-  code_refuses (replies.Mark mark) number is weighed = by_size (replies.Mark mark) (reading schema text) number refl is weighed.0 weighed.1 (λ k p e. cc)
-  code_refuses replies.Full number is weighed = by_size replies.Full (reading schema text) number refl is weighed.0 weighed.1 (λ k p e. cc)
-  code_refuses replies.Size number is weighed = by_size replies.Size (reading schema text) number refl is weighed.0 weighed.1 (λ k p e. cc)
-  code_refuses replies.Closed number is weighed = by_size replies.Closed (reading schema text) number refl is weighed.0 weighed.1 (λ k p e. cc)
-  code_refuses replies.Sealed number is weighed = by_size replies.Sealed (reading schema text) number refl is weighed.0 weighed.1 (λ k p e. cc)
-  code_refuses replies.Broken number is weighed = by_size replies.Broken (reading schema text) number refl is weighed.0 weighed.1 (λ k p e. cc)
-  code_refuses replies.Memory number is weighed = by_size replies.Memory (reading schema text) number refl is weighed.0 weighed.1 (λ k p e. cc)
+  code_refuses (replies.Syntax refusal) number stored is has weighed = by_text refusal.kind refusal.place (reading schema text) number refl is weighed.0
+  code_refuses (replies.Mark mark) number stored is has weighed =
+      by_size (replies.Mark mark) (reading schema text) number refl is weighed.0 weighed.1 (λ k p e. cc) (no_mark (mark_of kind) stored has)
+  code_refuses replies.Full number stored is has weighed =
+      by_size replies.Full (reading schema text) number refl is weighed.0 weighed.1 (λ k p e. cc) (no_mark (mark_of kind) stored has)
+  code_refuses replies.Size number stored is has weighed =
+      by_size replies.Size (reading schema text) number refl is weighed.0 weighed.1 (λ k p e. cc) (no_mark (mark_of kind) stored has)
+  code_refuses replies.Closed number stored is has weighed =
+      by_size replies.Closed (reading schema text) number refl is weighed.0 weighed.1 (λ k p e. cc) (no_mark (mark_of kind) stored has)
+  code_refuses replies.Sealed number stored is has weighed =
+      by_size replies.Sealed (reading schema text) number refl is weighed.0 weighed.1 (λ k p e. cc) (no_mark (mark_of kind) stored has)
+  code_refuses replies.Broken number stored is has weighed =
+      by_size replies.Broken (reading schema text) number refl is weighed.0 weighed.1 (λ k p e. cc) (no_mark (mark_of kind) stored has)
+  code_refuses replies.Memory number stored is has weighed =
+      by_size replies.Memory (reading schema text) number refl is weighed.0 weighed.1 (λ k p e. cc) (no_mark (mark_of kind) stored has)
 
   lawful_by : (full large : Bool) (told mark : Mark) → (if full then history_full else if large then too_large else marked told) ≡ marked mark
       → ((full || large) ≡ false) × (mark ≡ told)

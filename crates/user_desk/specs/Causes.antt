@@ -1,6 +1,6 @@
 -- Which bytes open a desk, and why other bytes are refused.
 use Rattle.std.specs.Prelude.{◌≡◌, ◌≢◌, ◌⊎◌, ℕ, ◌≤◌, Bool, true, false, ◌||◌, List, [], ◌∷◌, ◌++◌}
-use Rattle.std.specs.Prelude.{length, map, take, Some, Ok, Err}
+use Rattle.std.specs.Prelude.{length, map, take, Some, None, Ok, Err}
 use Rattle.cqe_base.specs.Schema.{DatabaseSchema}
 use Rattle.cqe_base.specs.Facts.{FactSet}
 use Rattle.cqe_base.specs.Formula.{Formula}
@@ -44,14 +44,14 @@ module _ (schema : DatabaseSchema) (world : FactSet) (user : UserProfile) where
   is_beyond before size query = is_full before size || is_too_large schema user before query
 
   -- Behind these entries a record is refused for this reason, and for none that stands before it:
-  -- its text isn't a sentence; its text or its query is beyond the limits; the rule gives another
-  -- mark than the stored one.
+  -- no mark has its kind, or its text isn't a sentence; its text or its query is beyond the limits;
+  -- the rule gives another mark than the stored one.
   abbrev pub RefusesRecord : History → Recorded → DeskError → Type 0
-  RefusesRecord before next (Stale number) =
-      (number ≡ length before) × (why : Refusal) × (reading schema next.1 ≡ Err why)
+  RefusesRecord before next (Stale number) = (number ≡ length before)
+      × ((mark_of next.0 ≡ None) ⊎ ((why : Refusal) × (reading schema next.1 ≡ Err why)))
   RefusesRecord before next (Size number) =
       (number ≡ length before) × (query : Formula) × (reading schema next.1 ≡ Ok query)
-      × (is_beyond before (length next.1) query ≡ true)
+      × (is_beyond before (length next.1) query ≡ true) × (mark_of next.0 ≢ None)
   RefusesRecord before next (Unlawful number stored computed) =
       (number ≡ length before) × (query : Formula) × (reading schema next.1 ≡ Ok query)
       × (is_beyond before (length next.1) query ≡ false)

@@ -19,16 +19,15 @@ pub(crate) fn kind_of(mark: Mark) -> u8
     }
 }
 
-/// The mark of a record of this kind.
-pub(crate) fn mark_of(kind: u8) -> Mark
-    requires low { 1 ≤ kind }
-    requires high { kind ≤ 4 }
-    ensures { mark_of kind ≡ Some result }
+/// The mark of a record of this kind, if there is one.
+pub(crate) fn mark_of(kind: u8) -> Option<Mark>
+    ensures { mark_of kind ≡ result }
 {
     match kind {
-        1 => Mark::Yes,
-        2 => Mark::No,
-        3 => Mark::Refused,
-        _ => Mark::Undecided,
+        1 => Some(Mark::Yes),
+        2 => Some(Mark::No),
+        3 => Some(Mark::Refused),
+        4 => Some(Mark::Undecided),
+        _ => None,
     }
 }

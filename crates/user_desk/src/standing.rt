@@ -15,12 +15,13 @@ pub enum Standing {
 }
 
 /// Why a user's journal is refused, numbered from 1. Records are numbered from 0 and looked at in
-/// order, each first for its text, then for its size, then for its mark.
+/// order, each first for its kind and its text, then for its size, then for its mark.
 #[derive(Clone, Copy, Debug, PartialEq, Eq)]
 pub enum DeskError {
     /// The journal isn't opened.
     Journal(OpenError),
-    /// The text of this record isn't a sentence of the schema.
+    /// This record has a kind that no mark has, which is 5, or its text isn't a sentence of the
+    /// schema.
     Stale(u32),
     /// This record has a mark that the rule doesn't give after the records before it.
     Unlawful {

@@ -1,4 +1,4 @@
-use Rattle.std.proofs.Common.{◌∙◌, arith, sym, subst, length}
+use Rattle.std.proofs.Common.{◌∙◌, arith, sym, subst, length, inl, inr}
 use Rattle.user_log.specs.UserLogs.{kept_schema, kept_world, kept_user, kept_history}
 use Rattle.user_desk.specs.Causes.{RefusesRecord}
 use Rattle.user_desk.specs.Replays.{refused_by}
@@ -18,7 +18,12 @@ returns-in_default-clause-taken c =
     let why = no_text
     (kept_schema c.args.log.now) c.args.next.now.text.items c.deref.result.now c.law_sentences_are_ascii.ensures c.deref.ensures.value
     c.in_default.ensures.cases.0 in
-    (count, why.0, why.1)
+    (count, inr (why.0, why.1))
+
+pub returns-in_default-mark_of-clause-taken : goal.returns-in_default-mark_of-clause-taken
+returns-in_default-mark_of-clause-taken c =
+    let count = count_of c.entries.result.now (kept_history c.args.log.now) c.entries.ensures in
+    (count, inl c.in_default-mark_of.ensures)
 
 pub returns-in-Code-clause-taken : goal.returns-in-Code-clause-taken
 returns-in-Code-clause-taken c =
@@ -28,7 +33,8 @@ returns-in-Code-clause-taken c =
     let history = kept_history c.args.log.now in
     let kind = c.args.next.now.kind in
     let count = count_of c.entries.result.now history c.entries.ensures in
-    let refused = code_refuses schema world user history kind c.in-Ok.text.now c.in-Code.code _ count (rw c.in-Code.is at c.in_ok-code.ensures.weighed) in
+    let refused = code_refuses schema world user history kind c.in-Ok.text.now c.in-Code.code _ c.in-Some.stored count c.in-Some.ensures
+    (rw c.in-Code.is at c.in_ok-code.ensures.weighed) in
     subst (λ why. RefusesRecord schema world user history (kind, c.args.next.now.text.items) why) (sym c.refused_by.ensures)
     (subst (λ t. RefusesRecord schema world user history (kind, t) (refused_by c.in-Code.code (length c.entries.result.now)))
     (c.in-Ok.ensures.cases.0 ∙ c.deref.ensures.value) refused)
