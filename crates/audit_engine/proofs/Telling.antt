@@ -10,7 +10,7 @@ use Rattle.log_journal.specs.declared.header.OpenError.TheVariants.{NotAJournal,
 use Rattle.user_desk.specs.Causes.{Opens, OpensOrNot, OpensUnrefused, IsSealedBy, IsStanding}
 use Rattle.user_desk.specs.Standings.{is_sealed}
 use Rattle.user_desk.specs.declared.standing.DeskError.{DeskError}
-use Rattle.user_desk.specs.declared.standing.DeskError.TheVariants.{Journal, Stale, Unlawful, Size, NotAdmitted}
+use Rattle.user_desk.specs.declared.standing.DeskError.TheVariants.{Journal, Stale, Unlawful, Size, NotAdmitted, Unsafe}
 use Rattle.user_desk.specs.declared.standing.Standing.{Standing}
 use Rattle.user_desk.specs.declared.standing.Standing.TheVariants.{Open, Closed, Sealed}
 use Rattle.audit_text.specs.Said.{AuditSaid}
@@ -35,6 +35,7 @@ module _ (schema : DatabaseSchema) (world : FactSet) (header : Header) (name : T
   rose entries (Unlawful number stored computed) refused opens =
       absurd (unrefused schema world user header bytes entries (Unlawful number stored computed) opens (refused tt))
   rose entries (Size number) refused opens = absurd (unrefused schema world user header bytes entries (Size number) opens (refused tt))
+  rose entries (Unsafe number) refused opens = absurd (unrefused schema world user header bytes entries (Unsafe number) opens (refused tt))
   rose entries (NotAdmitted admission) refused opens = absurd (unrefused schema world user header bytes entries (NotAdmitted admission) opens (refused tt))
 
   -- where clauses are told of the bytes
@@ -48,6 +49,7 @@ module _ (schema : DatabaseSchema) (world : FactSet) (header : Header) (name : T
   sealed_by told is (Stale number) refused = λ _. refused is
   sealed_by told is (Unlawful number stored computed) refused = λ _. refused is
   sealed_by told is (Size number) refused = λ _. refused is
+  sealed_by told is (Unsafe number) refused = λ _. refused is
   sealed_by told is (NotAdmitted admission) refused = λ _. refused is
 
   -- the audit of a journal that is refused doesn't tell its entries

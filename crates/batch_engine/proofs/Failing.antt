@@ -4,22 +4,23 @@ use Rattle.std.specs.Prelude.{Option, Some, None, Result, Ok, Err, if◌then◌e
 use Rattle.outside.proofs.Rises.{rose_wide}
 use Rattle.outside.specs.Faults.{Rose}
 use Rattle.outside.specs.declared.disk.Disk.{Ghosts as DiskGhosts}
+use Rattle.cqe_base.specs.declared.user.Purpose.TheVariants.{Asking}
 use Rattle.cqe_base.specs.Schema.{Text, DatabaseSchema}
 use Rattle.cqe_base.specs.Facts.{FactSet}
 use Rattle.cqe_base.specs.Formula.{Formula}
 use Rattle.cqe_base.specs.Reading.{Refusal, reading}
-use Rattle.cqe_base.specs.History.{UserProfile, AnsweredQuery, History, profile_of, log}
-use Rattle.cqe_base.specs.Censor.{rule}
+use Rattle.cqe_base.specs.History.{UserProfile, AnsweredQuery, History, profile_of}
+use Rattle.cqe_base.specs.Censor.{mark_after}
 use Rattle.cqe_base.specs.Run
 use Rattle.cqe_base.specs.Run.{Reply, marked, history_full, too_large, desk_sealed, no_memory, standing_open, standing_closed, standing_sealed, Ending, want}
-use Rattle.cqe_base.specs.Run.{kept, failed, ask, UserState, reply_by, is_full, is_too_large, reply_at, entry_at, entry_added, reply_to_ask, reply_at_failure}
+use Rattle.cqe_base.specs.Run.{kept, failed, call, UserState, reply_by, is_full, is_too_large, reply_at, entry_at, entry_added, reply_to_call, reply_at_failure}
 use Rattle.cqe_base.specs.Run.{after_event, after_failure}
 use Rattle.user_desk.specs.Lives.{IsState}
 use Rattle.user_desk.specs.Standings.{is_sealed}
 use Rattle.user_desk.specs.declared.standing.Standing.{Standing}
 use Rattle.user_desk.specs.declared.standing.Standing.TheVariants.{Open, Closed, Sealed}
 use Rattle.desk_counter.specs.declared.item.Fixed.{Fixed}
-use Rattle.desk_counter.specs.Lives.{IsAskOf}
+use Rattle.desk_counter.specs.Lives.{IsCallOf}
 use Rattle.desk_crew.specs.Crew.{seat_user, seat_journal, seat_disk, seat_standing, seat_state, seat_broke, IsToldAt, IsReopened, AreReopened, Tells}
 use Rattle.desk_crew.specs.Crew.{nobody, here, further}
 use Rattle.desk_crew.specs.Shelved.{AreLater}
@@ -33,7 +34,7 @@ use Rattle.batch_engine.proofs.Running.{stay_run}
 module _ (schema : DatabaseSchema) (world : FactSet) (user : UserProfile) where
   -- no rule gives the reply but where an append failed
   broken_by : (entries : History) (standing : Run.Standing) (broken : Bool) (text : Text) (read : Result Formula Refusal)
-      → is_broken_reply (Some (reply_by schema world user entries standing broken text read)) ≡ true → broken ≡ true
+      → is_broken_reply (Some (reply_by schema world user entries standing broken Asking text read)) ≡ true → broken ≡ true
   broken_by entries standing_sealed broken text read is = let clash : false ≡ true = is in absurd cc
   broken_by entries standing_closed broken text read is = let clash : false ≡ true = is in absurd cc
   broken_by entries standing_open true text read is = refl
@@ -41,7 +42,7 @@ module _ (schema : DatabaseSchema) (world : FactSet) (user : UserProfile) where
   broken_by entries standing_open false text (Ok query) is = by (is_full entries (length text)) (is_too_large schema user entries query) is
     where
       by : (full large : Bool)
-          → is_broken_reply (Some (if full then history_full else if large then too_large else marked (rule schema world user (log user entries) query))) ≡ true
+          → is_broken_reply (Some (if full then history_full else if large then too_large else marked (mark_after schema world user entries query))) ≡ true
           → false ≡ true
       by true large is = is
       by false true is = is
@@ -53,16 +54,16 @@ module _ (schema : DatabaseSchema) (world : FactSet) (user : UserProfile) where
   sealed_by text (Ok query) = refl
   sealed_by text (Err refusal) = refl
 
-  sealed_says : (state : UserState) (text : Text) (ending : Ending) → is_broken_reply (Some (reply_to_ask schema world user (record state {
+  sealed_says : (state : UserState) (text : Text) (ending : Ending) → is_broken_reply (Some (reply_to_call schema world user (record state {
     standing =
         standing_sealed;
-  }) text ending)) ≡ false
+  }) Asking text ending)) ≡ false
   sealed_says state text want = refl
   sealed_says state text kept = refl
   sealed_says state text failed = sealed_by text (reading schema text)
 
   module _ (standing : Standing) (old new : UserState) (text : Text) (told : Reply) (settles : (state : UserState) → IsState standing old state
-      → IsAskOf schema world user (IsState standing new) state text told) where
+      → IsCallOf schema world user (IsState standing new) state Asking text told) where
     sealed_asked : is_sealed standing ≡ true → is_broken_reply (Some told) ≡ false
     sealed_asked sealed =
         let one = settles (record old { standing = standing_sealed }) (in_sealed standing sealed) in
@@ -77,7 +78,7 @@ module _ (schema : DatabaseSchema) (world : FactSet) (user : UserProfile) where
     broken_asked : is_sealed standing ≡ false → (old.broken ≡ true) ⊎ (is_broken_reply (Some told) ≡ true) → new.broken ≡ true
     broken_asked served why =
         let one = settles old (itself standing served) in
-        by one.ending (shown_is standing new (after_event schema world user old (ask text one.ending)) served one.after) one.reply
+        by one.ending (shown_is standing new (after_event schema world user old (call Asking text one.ending)) served one.after) one.reply
       where
         itself : (s : Standing) → is_sealed s ≡ false → IsState s old old
         itself Open is = refl
@@ -89,7 +90,7 @@ module _ (schema : DatabaseSchema) (world : FactSet) (user : UserProfile) where
         shown_is (Closed admission) desk_state state is same = same
         shown_is (Sealed reason) desk_state state is same = absurd cc
 
-        was : told ≡ reply_at schema world user old text → old.broken ≡ true
+        was : told ≡ reply_at schema world user old Asking text → old.broken ≡ true
         was reply = of why
           where
             of : (old.broken ≡ true) ⊎ (is_broken_reply (Some told) ≡ true) → old.broken ≡ true
@@ -101,15 +102,16 @@ module _ (schema : DatabaseSchema) (world : FactSet) (user : UserProfile) where
         wanted reply (inr said) = let clash : false ≡ true = ap (λ r. is_broken_reply (Some r)) (sym reply) ∙ said in absurd cc
 
         by_entry : (entry : Option AnsweredQuery) → after_failure schema world user old entry ≡ new
-            → told ≡ reply_at_failure schema world user (reply_at schema world user old text) entry → new.broken ≡ true
+            → told ≡ reply_at_failure schema world user (reply_at schema world user old Asking text) entry → new.broken ≡ true
         by_entry (Some entry) after reply = ap (λ (s : UserState). s.broken) (sym after)
         by_entry None after reply = ap (λ (s : UserState). s.broken) (sym after) ∙ was reply
 
-        by : (ending : Ending) → after_event schema world user old (ask text ending) ≡ new → told ≡ reply_to_ask schema world user old text ending
+        by : (ending : Ending) → after_event schema world user old (call Asking text ending) ≡ new
+            → told ≡ reply_to_call schema world user old Asking text ending
             → new.broken ≡ true
         by want after reply = ap (λ (s : UserState). s.broken) (sym after) ∙ wanted reply why
         by kept after reply = ap (λ (s : UserState). s.broken) (sym after) ∙ was reply
-        by failed after reply = by_entry (entry_at schema world user old text) after reply
+        by failed after reply = by_entry (entry_at schema world user old Asking text) after reply
 
 module _ (schema : DatabaseSchema) (world : FactSet) (header : List ℕ) {D : Type 0} {g h : _} (Disk : DiskGhosts D) (count : Text → ℕ) where
   -- an append failed at a desk whose journal wasn't refused, or the count of its disk had risen as it was opened
@@ -122,9 +124,10 @@ module _ (schema : DatabaseSchema) (world : FactSet) (header : List ℕ) {D : Ty
   seat_told old new text reply answer = by (is_sealed (seat_standing old)) refl
     where
       settles : (state : UserState) → IsState (seat_standing old) (seat_state old) state
-          → IsAskOf schema world (profile_of (seat_user old)) (IsState (seat_standing old) (seat_state new)) state text reply
+          → IsCallOf schema world (profile_of (seat_user old)) (IsState (seat_standing old) (seat_state new)) state Asking text reply
       settles state is =
-          subst (λ (f : Fixed D). IsAskOf schema world (profile_of (seat_user old)) (IsState f.standing (seat_state new)) state text reply) answer.kept_is
+          subst (λ (f : Fixed D). IsCallOf schema world (profile_of (seat_user old)) (IsState f.standing
+          (seat_state new)) state Asking text reply) answer.kept_is
           (answer.settled state is)
 
       served_still : is_sealed (seat_standing old) ≡ false → is_sealed (seat_standing new) ≡ false

@@ -9,13 +9,14 @@ use Rattle.std.proofs.lemmas.Bool.{or_right}
 use Rattle.outside.specs.declared.disk.Disk.{Ghosts as DiskGhosts}
 use Rattle.outside.proofs.Taken.{taken_reads, taken_images}
 use Rattle.outside.specs.Shelf.{bytes_on, image_on}
+use Rattle.cqe_base.specs.declared.user.Purpose.TheVariants.{Asking}
 use Rattle.cqe_base.specs.Schema.{Text, DatabaseSchema, has_duplicate}
 use Rattle.cqe_base.specs.Facts.{FactSet}
 use Rattle.cqe_base.specs.History.{UserProfile, History, profile_of}
 use Rattle.cqe_base.specs.Run
 use Rattle.cqe_base.specs.declared.user.User.{User}
-use Rattle.cqe_base.specs.Run.{Reply, Ending, Event, UserState, ask, restart, opening, after_events, reply_to_ask}
-use Rattle.cqe_base.specs.Transcript.{NamedUser, ScriptEvent, script_ask, own_event, own_events, told_after}
+use Rattle.cqe_base.specs.Run.{Reply, Ending, Event, UserState, call, restart, opening, after_events, reply_to_call}
+use Rattle.cqe_base.specs.Transcript.{NamedUser, ScriptEvent, by_session, script_call, own_event, own_events, told_after}
 use Rattle.cqe_base.proofs.Lists.{other_text, text_is}
 use Rattle.cqe_base.proofs.Truths.{or_first, or_second}
 use Rattle.user_desk.specs.Causes.{Opens, OpensWithin, IsStanding}
@@ -23,12 +24,12 @@ use Rattle.user_desk.specs.Lives.{Holds, HoldsFrom, HoldsAmid, Restarts, IsState
 use Rattle.user_desk.specs.Standings.{is_sealed}
 use Rattle.desk_counter.specs.declared.item.Fixed.{Fixed}
 use Rattle.desk_counter.specs.Items.{flying}
-use Rattle.desk_counter.specs.Lives.{IsAskOf}
+use Rattle.desk_counter.specs.Lives.{IsCallOf}
 use Rattle.desk_counter.specs.Sole.{pairs_of_sole}
 use Rattle.log_journal.specs.Names.{journal_name}
 use Rattle.desk_crew.specs.Openings.{OpensNone, OpensWith}
 use Rattle.batch_engine.specs.Batch.{unopened}
-use Rattle.batch_engine.specs.Lives.{is_ask, is_opened, is_opening}
+use Rattle.batch_engine.specs.Lives.{is_call, is_opened, is_opening}
 use Rattle.desk_crew.specs.Shelved.{IsSeatOf, AreSeatsOf}
 use Rattle.desk_crew.specs.Crew.{named_user, first_refusal, seat_user, seat_name, seat_journal, seat_kept, seat_standing, seat_history, seat_state, seat_disk}
 use Rattle.desk_crew.specs.Crew.{IsSeatIn, IsSeatAsOpened, is_named, IsClosed, IsSeatServed, IsToldAt, IsReopened, AreReopened, Tells, nobody, here, further}
@@ -121,7 +122,7 @@ module _ (schema : DatabaseSchema) (world : FactSet) (header directory : List �
     pub served : IsSeatServed schema world header seat
     pub living : IsLiving schema world user.profile header (bytes user.name) (before user.name) (images user.name) user.opened events (seat_standing seat)
         (seat_state seat) (Disk.image (seat_disk seat)) (Disk.reads (seat_disk seat)) (Disk.faults (seat_disk seat)) seat.refusal
-    pub fresh : list_any is_ask events ≡ false → IsSeatAsOpened seat
+    pub fresh : list_any is_call events ≡ false → IsSeatAsOpened seat
     -- the moments at which the call began and his journal was first opened, and what each crash could leave since; at his desk's opening there were as many
     -- entries as at first, and as at the end of each stretch before
     pub began : ℕ
@@ -142,9 +143,9 @@ module _ (schema : DatabaseSchema) (world : FactSet) (header directory : List �
 
   record AskedAt (user : NamedUser) (events : List Event) (seat : DeskSeat D g h) (text : Text) (told : Reply) : Type 0 where
     ending : Ending
-    reply : told ≡ reply_to_ask schema world user.profile
-        (after_events schema world user.profile (opening schema world user.profile user.opened) events) text ending
-    seated : IsSeated user (events ++ ask text ending ∷ []) seat
+    reply : told ≡ reply_to_call schema world user.profile
+        (after_events schema world user.profile (opening schema world user.profile user.opened) events) Asking text ending
+    seated : IsSeated user (events ++ call Asking text ending ∷ []) seat
 
   ask_at : (user : NamedUser) (events : List Event) (old new : DeskSeat D g h) (text : Text) (told : Reply) → IsSeated user events old
       → IsToldAt schema world text told old new → AskedAt user events new text told
@@ -155,8 +156,8 @@ module _ (schema : DatabaseSchema) (world : FactSet) (header directory : List �
       (seat_state new) (Disk.image (seat_disk old)) (Disk.reads (seat_disk old)) (Disk.faults (seat_disk old)) old.refusal text told =
       ask_step schema world user.profile header (bytes user.name) (before user.name) (images user.name) user.opened events (seat_standing old) (seat_state old)
       (seat_state new) (Disk.image (seat_disk old)) (Disk.reads (seat_disk old)) (Disk.faults (seat_disk old)) old.refusal text told seated.living
-      (λ state is. subst (λ (f : Fixed D). IsAskOf schema world user.profile (IsState f.standing (seat_state new)) state text told) kept
-      (subst (λ p. IsAskOf schema world p (IsSeatIn new) state text told) profile (answer.settled state is))) in
+      (λ state is. subst (λ (f : Fixed D). IsCallOf schema world user.profile (IsState f.standing (seat_state new)) state Asking text told) kept
+      (subst (λ p. IsCallOf schema world p (IsSeatIn new) state Asking text told) profile (answer.settled state is))) in
       record {
         ending = asked.ending;
         reply = asked.reply;
@@ -167,25 +168,27 @@ module _ (schema : DatabaseSchema) (world : FactSet) (header directory : List �
           served = still_served schema world header old new text told answer seated.served;
           living = subst (λ r.
               IsLiving schema world user.profile header (bytes user.name) (before user.name) (images user.name) user.opened
-              (events ++ ask text asked.ending ∷ []) (seat_standing new) (seat_state new) (Disk.image (seat_disk new)) (Disk.reads (seat_disk new))
+              (events ++ call Asking text asked.ending ∷ []) (seat_standing new) (seat_state new) (Disk.image (seat_disk new)) (Disk.reads (seat_disk new))
               (Disk.faults (seat_disk new)) r) (sym answer.refusal_is)
               (subst (λ (f : Fixed D).
               IsLiving schema world user.profile header (bytes user.name) (before user.name) (images user.name) user.opened
-              (events ++ ask text asked.ending ∷ []) f.standing (seat_state new) (Disk.image f.disk) (Disk.reads f.disk) (Disk.faults f.disk) old.refusal)
+              (events ++ call Asking text asked.ending ∷ []) f.standing (seat_state new) (Disk.image f.disk) (Disk.reads f.disk)
+              (Disk.faults f.disk) old.refusal)
               (sym kept) asked.living);
-          fresh = λ none. let e : true ≡ false = sym (any-push is_ask events (ask text asked.ending) ∙ or-true (list_any is_ask events)) ∙ none in absurd cc;
+          fresh = λ none. let e : true ≡ false = sym (any-push is_call events (call Asking text asked.ending) ∙ or-true (list_any is_call events))
+              ∙ none in absurd cc;
           began = seated.began;
           began_is = seated.began_is;
           opens_at = seated.opens_at;
           along = subst (λ (f : Fixed D).
-              IsAlong schema world user.profile header (images user.name) user.opened seated.began seated.opens_at (events ++ ask text asked.ending ∷ [])
-              (Disk.moment f.disk) (Disk.image_since f.disk)) (sym kept)
-              (along_event schema world user.profile header (images user.name) user.opened seated.began seated.opens_at events (ask text asked.ending)
-              (Disk.moment (seat_disk old)) (Disk.image_since (seat_disk old)) refl (λ opens. absurd cc) seated.along);
+              IsAlong schema world user.profile header (images user.name) user.opened seated.began seated.opens_at
+              (events ++ call Asking text asked.ending ∷ []) (Disk.moment f.disk) (Disk.image_since f.disk)) (sym kept)
+              (along_event schema world user.profile header (images user.name) user.opened seated.began seated.opens_at events
+              (call Asking text asked.ending) (Disk.moment (seat_disk old)) (Disk.image_since (seat_disk old)) refl (λ opens. absurd cc) seated.along);
           least = λ served. subst (λ (f : Fixed D). length user.opened ≤ length f.opening) (sym kept)
               (seated.least (ap (λ (f : Fixed D). is_sealed f.standing) (sym kept) ∙ served));
-          fewer = λ served. subst (λ (f : Fixed D). HasFewer schema world user (events ++ ask text asked.ending ∷ []) (length f.opening)) (sym kept)
-              (fewer_asked schema world user events (ask text asked.ending) (length (seat_kept old).opening) refl
+          fewer = λ served. subst (λ (f : Fixed D). HasFewer schema world user (events ++ call Asking text asked.ending ∷ []) (length f.opening)) (sym kept)
+              (fewer_asked schema world user events (call Asking text asked.ending) (length (seat_kept old).opening) refl
               (seated.fewer (ap (λ (f : Fixed D). is_sealed f.standing) (sym kept) ∙ served)));
         };
       }
@@ -193,15 +196,15 @@ module _ (schema : DatabaseSchema) (world : FactSet) (header directory : List �
   -- an ask of another name changes nothing
   unnamed : (script : List ScriptEvent) (name : Text) (session : ℕ) (text : Text) (ending : Ending) (user : NamedUser) (seat : DeskSeat D g h)
       → bytes_eq name user.name ≡ false → IsSeated user (own_events user.name script) seat
-      → IsSeated user (own_events user.name (script ++ script_ask name session text ending ∷ [])) seat
+      → IsSeated user (own_events user.name (script ++ script_call name (by_session session) text ending ∷ [])) seat
   unnamed script name session text ending user seat other seated =
       subst (λ es. IsSeated user es seat)
-      (sym (own-push user.name script (script_ask name session text ending)
-      ∙ ap (λ b. own_events user.name script ++ (if b then ask text ending ∷ [] else [])) other ∙ append-nil (own_events user.name script))) seated
+      (sym (own-push user.name script (script_call name (by_session session) text ending)
+      ∙ ap (λ b. own_events user.name script ++ (if b then call Asking text ending ∷ [] else [])) other ∙ append-nil (own_events user.name script))) seated
 
   all_unnamed : (script : List ScriptEvent) (name : Text) (session : ℕ) (text : Text) (ending : Ending) (users : List NamedUser) (seats : List (DeskSeat D g h))
       → list_any (bytes_eq name) (names users) ≡ false
-      → AreSeated script users seats → AreSeated (script ++ script_ask name session text ending ∷ []) users seats
+      → AreSeated script users seats → AreSeated (script ++ script_call name (by_session session) text ending ∷ []) users seats
   all_unnamed script name session text ending [] [] none seated = tt
   all_unnamed script name session text ending [] (seat ∷ seats) none seated = absurd seated
   all_unnamed script name session text ending (user ∷ users) [] none seated = absurd seated
@@ -214,8 +217,8 @@ module _ (schema : DatabaseSchema) (world : FactSet) (header directory : List �
   pub record Next (script : List ScriptEvent) (name : Text) (session : ℕ) (text : Text) (users : List NamedUser) (new : List (DeskSeat D g h))
       (told : Option Reply) : Type 0 where
     pub ending : Ending
-    pub replied : told_after schema world script text ending (find (λ u. bytes_eq u.name name) users) ≡ told
-    pub seated : AreSeated (script ++ script_ask name session text ending ∷ []) users new
+    pub replied : told_after schema world script Asking text ending (find (λ u. bytes_eq u.name name) users) ≡ told
+    pub seated : AreSeated (script ++ script_call name (by_session session) text ending ∷ []) users new
 
   told_here : (script : List ScriptEvent) (name : Text) (session : ℕ) (text : Text) (user : NamedUser) (users : List NamedUser) (old new : DeskSeat D g h)
       (others : List (DeskSeat D g h)) (told : Reply)
@@ -229,12 +232,12 @@ module _ (schema : DatabaseSchema) (world : FactSet) (header directory : List �
       let asked_by : bytes_eq name user.name ≡ true = ap (λ n. bytes_eq n user.name) (sym same) ∙ text_is user.name in
       record {
         ending = one.ending;
-        replied = ap (λ b. told_after schema world script text one.ending (if b then Some user else find (λ u. bytes_eq u.name name) users)) named
+        replied = ap (λ b. told_after schema world script Asking text one.ending (if b then Some user else find (λ u. bytes_eq u.name name) users)) named
             ∙ ap Some (sym one.reply);
         seated = (
           subst (λ es. IsSeated user es new)
-              (sym (own-push user.name script (script_ask name session text one.ending)
-              ∙ ap (λ b. own_events user.name script ++ (if b then ask text one.ending ∷ [] else [])) asked_by)) one.seated,
+              (sym (own-push user.name script (script_call name (by_session session) text one.ending)
+              ∙ ap (λ b. own_events user.name script ++ (if b then call Asking text one.ending ∷ [] else [])) asked_by)) one.seated,
           all_unnamed script name session text one.ending users others (ap (λ n. list_any (bytes_eq n) (names users)) (sym same) ∙ distinct) rest,
         );
       }
@@ -256,7 +259,8 @@ module _ (schema : DatabaseSchema) (world : FactSet) (header directory : List �
       record {
         ending = rest.ending;
         replied =
-            ap (λ b. told_after schema world script text rest.ending (if b then Some user else find (λ u. bytes_eq u.name name) users)) differs ∙ rest.replied;
+            ap (λ b. told_after schema world script Asking text rest.ending (if b then Some user else find (λ u. bytes_eq u.name name) users)) differs
+            ∙ rest.replied;
         seated = (unnamed script name session text rest.ending user seat (other_text user.name name differs) seated.0, rest.seated);
       }
 
@@ -281,7 +285,7 @@ module _ (schema : DatabaseSchema) (world : FactSet) (header directory : List �
       (closed.size t)
       (read_is_image disk t)
     where
-      by : (is_sealed (seat_standing seat) ≡ true) ⊎ (list_any is_ask events ≡ false) → disk ≡ seat_disk seat
+      by : (is_sealed (seat_standing seat) ≡ true) ⊎ (list_any is_call events ≡ false) → disk ≡ seat_disk seat
       by (inl sealed) = closed.shut sealed
       by (inr none) = closed.still (seated.fresh none)
 
@@ -336,10 +340,10 @@ module _ (schema : DatabaseSchema) (world : FactSet) (header directory : List �
           (sym same) (within served c at)))
 
       -- and nothing new, where he didn't ask at an open desk
-      rests : is_sealed (seat_standing seat) ≡ false → (list_any is_opened events && list_any is_ask events) ≡ false → (c : List ℕ)
+      rests : is_sealed (seat_standing seat) ≡ false → (list_any is_opened events && list_any is_call events) ≡ false → (c : List ℕ)
           → Disk.image_since disk (Disk.moment (seat_disk seat)) c → images user.name c
       rests served idle c at =
-          let none : list_any is_ask events ≡ false = ap (λ b. b && list_any is_ask events) (sym (seated.living.held served)) ∙ idle in
+          let none : list_any is_call events ≡ false = ap (λ b. b && list_any is_call events) (sym (seated.living.held served)) ∙ idle in
           (seated.living.kept idle).1 c
           (clock.only_now (seat_disk seat) c
           (subst (λ d. Disk.image_since d (Disk.moment (seat_disk seat)) c) (closed.still (seated.fresh none)) at))

@@ -5,7 +5,7 @@ use Rattle.std.specs.List.{flat_map, list_any}
 use Rattle.cqe_base.specs.Schema.{Text, DatabaseSchema}
 use Rattle.cqe_base.specs.Facts.{FactSet}
 use Rattle.cqe_base.specs.Run.{Reply, desk_broken}
-use Rattle.cqe_base.specs.Transcript.{reply_line, restart_line, line_text}
+use Rattle.cqe_base.specs.Transcript.{by_session, reply_line, restart_line, line_text}
 use Rattle.batch_engine.specs.BatchLines.{NamedAsk}
 use Rattle.batch_engine.specs.declared.answer.Answer.{Answer}
 use Rattle.desk_crew.specs.Crew.{is_named, IsToldAt, Tells}
@@ -20,7 +20,7 @@ is_broken_reply reply = false
 abbrev pub answer_to : ℕ → NamedAsk → Option Reply → Answer
 answer_to number ask reply = record {
   number = number;
-  line = line_text (reply_line ask.name ask.session reply) ++ 10 ∷ [];
+  line = line_text (reply_line ask.name (by_session ask.session) reply) ++ 10 ∷ [];
   is_broken = is_broken_reply reply;
 }
 

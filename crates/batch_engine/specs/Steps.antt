@@ -6,7 +6,7 @@ use Rattle.cqe_base.specs.Schema.{DatabaseSchema}
 use Rattle.cqe_base.specs.Facts.{FactSet}
 use Rattle.cqe_base.specs.Run.{Reply}
 use Rattle.batch_engine.specs.Answers.{is_broken_reply}
-use Rattle.cqe_base.specs.Transcript.{reply_line, restart_line, line_text}
+use Rattle.cqe_base.specs.Transcript.{by_session, reply_line, restart_line, line_text}
 use Rattle.batch_engine.specs.BatchLines.{BatchItem, asked, restarted}
 use Rattle.desk_crew.specs.Crew.{Tells, AreReopened}
 use Rattle.desk_crew.specs.Seats.{DeskSeat}
@@ -29,7 +29,7 @@ module _ (schema : DatabaseSchema) (world : FactSet) (header : List ℕ) {D : Ty
       → List ℕ → Bool → Type 0
   Carries (asked ask) old new line is_broken =
       (reply : Option Reply) × Tells schema world ask.name ask.text old new reply
-      × (line ≡ line_text (reply_line ask.name ask.session reply) ++ 10 ∷ [])
+      × (line ≡ line_text (reply_line ask.name (by_session ask.session) reply) ++ 10 ∷ [])
       × (is_broken ≡ is_broken_reply reply)
   Carries restarted old new line is_broken =
       AreReopened schema world header Disk old new

@@ -1,7 +1,7 @@
 //! The answers to the asks of a stretch, which are kept until its counters are closed.
 
 ghost use Rattle.std.specs.Prelude.{◌≡◌, ◌≤◌, true, ◌∷◌, [], ◌++◌, option_map, length};
-ghost use Rattle.cqe_base.specs.Transcript.{reply_line, line_text};
+ghost use Rattle.cqe_base.specs.Transcript.{by_session, reply_line, line_text};
 ghost use Rattle.user_log.specs.Replies.{reply_of};
 ghost use Rattle.batch_engine.specs.Said.{is_short_ask};
 ghost use Rattle.batch_engine.specs.Batches.{ask_in};
@@ -45,8 +45,8 @@ fn answer_text(reply: Option<Reply>) -> LineText
 /// The line of an ask and its reply.
 fn line_of(ask: &BatchAsk, reply: Option<Reply>) -> LineText
     requires { is_short_ask (ask_in ask.now) ≡ true }
-    ensures { result ≡ line_text (reply_line (ask_in ask.now).name (ask_in ask.now).session
-        (option_map reply_of reply)) ++ 10 ∷ [] }
+    ensures { result ≡ line_text (reply_line (ask_in ask.now).name
+        (by_session (ask_in ask.now).session) (option_map reply_of reply)) ++ 10 ∷ [] }
 {
     let text = answer_text(reply);
     let mut line = LineText::new(ask.name.as_str());

@@ -17,7 +17,7 @@ use Rattle.desk_crew.specs.Shelved.{Journals, KeepsJournals}
 use Rattle.batch_engine.specs.Batch.{ServesUser, AnswersBatch, LeavesJournals, unopened, with_opening}
 use Rattle.batch_engine.specs.BatchLines.{BatchItem}
 use Rattle.batch_engine.specs.Joining as batch
-use Rattle.batch_engine.specs.Lives.{is_ask, is_opened}
+use Rattle.batch_engine.specs.Lives.{is_call, is_opened}
 use Rattle.batch_engine.specs.declared.run.BatchEnd.{BatchEnd}
 use Rattle.batch_engine.specs.declared.run.BatchEnd.TheVariants as batch_end
 use Rattle.batch_engine.proofs.Joining.{batches_are_spans, cut_batches_are_calls, batches_join, cut_batches_join, late_batches_join}
@@ -122,7 +122,7 @@ module _ (journals : Journals) (policy : PolicyValue) (world : FactSet) (header 
     ended : (held : Bool) → list_any is_opened (own_events user.name script) ≡ held → (left : List ℕ) → journals.image user.name left
         → journals.image_before user.name left ⊎ IsLeftOpened left
     ended true held left at = inr (held, inl at)
-    ended false none left at = inl ((serves.kept (ap (λ b. b && list_any is_ask (own_events user.name script)) none)).1 left at)
+    ended false none left at = inl ((serves.kept (ap (λ b. b && list_any is_call (own_events user.name script)) none)).1 left at)
 
     amid : (held : Bool) → list_any is_opened (own_events user.name script) ≡ held → (left : List ℕ)
         → journals.image_before user.name left ⊎ journals.since user.name serves.moments.opening left

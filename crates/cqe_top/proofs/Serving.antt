@@ -98,6 +98,8 @@ module _ (schema : DatabaseSchema) (world : FactSet) (header : List ℕ) (journa
   not_sealed user (desk_errors.Unlawful number stored computed) ready is =
       unrefused user.profile (journals.bytes user.name) ready.0.0 (desk_errors.Unlawful number stored computed) ready.0.1 (is tt)
   not_sealed user (desk_errors.Size number) ready is = unrefused user.profile (journals.bytes user.name) ready.0.0 (desk_errors.Size number) ready.0.1 (is tt)
+  not_sealed user (desk_errors.Unsafe number) ready is =
+      unrefused user.profile (journals.bytes user.name) ready.0.0 (desk_errors.Unsafe number) ready.0.1 (is tt)
   not_sealed user (desk_errors.NotAdmitted admission) ready is =
       unrefused user.profile (journals.bytes user.name) ready.0.0 (desk_errors.NotAdmitted admission) ready.0.1 (is tt)
 

@@ -129,6 +129,7 @@ journal_cause (desk_errors.Unlawful number stored computed) =
     codes "unlawful " ++ decimal number ++ codes " stored " ++ mark_text stored
     ++ codes " computed " ++ mark_text computed
 journal_cause (desk_errors.NotAdmitted admission) = codes "not admitted"
+journal_cause (desk_errors.Unsafe number) = codes "unsafe " ++ decimal number
 
 -- the line of a user whose journal is refused
 abbrev pub journal_line : Text → DeskError → Text

@@ -164,6 +164,7 @@ fn journal_cause(why: DeskError) -> (LineText, LineText)
             (cause, marks(stored, computed))
         }
         DeskError::NotAdmitted(_) => (LineText::new("not admitted"), nothing),
+        DeskError::Unsafe(number) => (numbered("unsafe ", number), nothing),
     }
 }
 

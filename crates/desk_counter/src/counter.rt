@@ -9,8 +9,6 @@ ghost use Rattle.desk_counter.specs.Codes.{profile_code};
 use crate::crowd::Crowd;
 use crate::item::{Fixed, TurnItem};
 use crate::ticketed_desk::{Owned, TicketedDesk};
-use censors::LentViews;
-use cqe_base::laws::law_logs;
 use cqe_base::user::User;
 use entailment::GroundSentence;
 use outside::{Disk, Gate, Point};
@@ -19,7 +17,7 @@ use std::sync::Wait;
 use std::thread::Threads;
 use turnstile::{Pass, PassError, Turnstile};
 use user_desk::Desk;
-use user_log::{Examined, Examiner, Reply};
+use user_log::{Examined, Examiner, Lent, Reply};
 
 /// A turnstile has so many shares.
 const ALL_SHARES: u64 = 65;
@@ -51,6 +49,7 @@ impl<'w, D: Disk> CounterOf<'w, TicketedDesk<'w, D>> {
     ghost use Rattle.cqe_base.specs.Limits.{KeepsSizes};
     ghost use Rattle.entailment.specs.GroundSentences.{sentence_of};
     ghost use Rattle.user_log.specs.Examining.{IsLent};
+    ghost use Rattle.cqe_base.specs.declared.user.Purpose.TheVariants.{Asking};
     ghost use Rattle.turnstile.specs.declared.pass.PassError.TheVariants.{TooMany};
     ghost use Rattle.turnstile.specs.History.{IsPrefix, IsOpening, Interleaves, IsRising};
     ghost use Rattle.turnstile.specs.History.{entries_with, turn_entries, count_of};
@@ -151,8 +150,8 @@ impl<'w, D: Disk> CounterOf<'w, TicketedDesk<'w, D>> {
 
     /// Asks a text, in two turns. In the first one it takes views of the log. Between both it
     /// examines the text after these, by as many threads as there are views. In the second one it
-    /// settles the text by the entries of all asks before, with what was found where the log is
-    /// still the same, and else with what it finds then. A pass that has all shares makes the
+    /// settles the text by the items of all calls before, with what was found where these are as
+    /// many as they were, and else with what it finds then. A pass that has all shares makes the
     /// second turn alone, and so does an ask of which nothing is to be examined, or beside which
     /// two others are under way. The gate is passed between both turns and after the second.
     pub fn ask<R: Threads + Wait + Sync, G: Gate>(
@@ -170,11 +169,11 @@ impl<'w, D: Disk> CounterOf<'w, TicketedDesk<'w, D>> {
         ensures used { (shares pass.new ≡ shares pass.old) × (turns pass.old ≤ turns pass.new + 2) }
 
         // What the ask found, what it added, and what it answered.
-        ensures asked { Asked (kept_by self.now) pass.old pass.new text.now result }
+        ensures asked { Asked (kept_by self.now) pass.old pass.new Asking text.now result }
 
         // The reply is that of the rule for what was seen, without the last pair where it is a
         // mark; Broken is answered exactly where an append failed.
-        ensures reply { IsReply (kept_by self.now) text.now (seen pass.new) result }
+        ensures reply { IsReply (kept_by self.now) Asking text.now (seen pass.new) result }
         ensures broken { (result ≡ Reply.Broken) ↔ IsTrue (has_broke (seen pass.new)) }
 
         // A mark's entry is the last that was seen and the one that the pass has more of its own;
@@ -223,7 +222,6 @@ impl<'w, D: Disk> CounterOf<'w, TicketedDesk<'w, D>> {
         ensures examined { IfSome result
             (IsExaminedBehind (kept_by self.now) (seen pass.new) text.now) }
     {
-        law_logs();
         if pass.shares() == ALL_SHARES {
             return None;
         }
@@ -243,7 +241,7 @@ impl<'w, D: Disk> CounterOf<'w, TicketedDesk<'w, D>> {
         pass: &mut DeskPass<D>,
         text: &str,
         query: &GroundSentence,
-    ) -> Option<LentViews<'w>>
+    ) -> Option<Lent<'w>>
         requires pass { IsPassOf pass.old self.now }
         requires turns { 1 ≤ turns pass.old }
         requires short { length text.now ≤ 4096 }
@@ -277,8 +275,6 @@ impl<'w, D: Disk> CounterOf<'w, TicketedDesk<'w, D>> {
         ensures closed { IsClosed D.Disk (kept_by self.entry) (first_pairs self.entry) (mine pass)
             (seen pass) (desk_disk result) }
         ensures drew { DrewEachOnce (view_of pass) }
-        ensures sizes { KeepsSizes (kept_by self.entry).schema (kept_by self.entry).user
-            (history_of (seen pass)) }
 
         // Where no append failed, each crash leaves just that history.
         ensures whole { D.tells → is_sealed (kept_by self.entry).standing ≡ false

@@ -35,11 +35,12 @@ pub type SoleCounter<'w, D> = SoleOf<'w, TicketedDesk<'w, D>>;
 impl<'w, D: Disk> SoleOf<'w, TicketedDesk<'w, D>> {
     ghost use Rattle.std.specs.Prelude.{◌^◌, []};
     ghost use Rattle.cqe_base.specs.Run.{UserState};
+    ghost use Rattle.cqe_base.specs.declared.user.Purpose.TheVariants.{Asking};
     ghost use Rattle.user_log.specs.Replies.{reply_of};
     ghost use Rattle.user_desk.specs.Desks.{desk_history, desk_disk, entry_in_flight};
     ghost use Rattle.desk_counter.specs.Items.{history_of, flying};
     ghost use Rattle.desk_counter.specs.Desks.{fixed_of};
-    ghost use Rattle.desk_counter.specs.Lives.{IsAskOf};
+    ghost use Rattle.desk_counter.specs.Lives.{IsCallOf};
     ghost use Rattle.desk_counter.specs.Closed.{IsClosed};
     ghost use Rattle.desk_counter.specs.Counters.{first_pairs, IsPassOf};
     ghost use Rattle.desk_counter.specs.Sole.{counter_in, pass_in, kept_in, pairs_of_sole};
@@ -75,10 +76,10 @@ impl<'w, D: Disk> SoleOf<'w, TicketedDesk<'w, D>> {
     ) -> Reply
         requires { length text.now ≤ 4096 }
         ensures kept { kept_in self.new ≡ kept_in self.old }
-        // It is an ask of the run, with its reply and its ending.
+        // It is a call of the run, with its reply and its ending.
         ensures settled { (state : UserState) → IsSoleIn self.old state
-            → IsAskOf (kept_in self.old).schema (kept_in self.old).world (kept_in self.old).user
-            (IsSoleIn self.new) state text.now (reply_of result) }
+            → IsCallOf (kept_in self.old).schema (kept_in self.old).world (kept_in self.old).user
+            (IsSoleIn self.new) state Asking text.now (reply_of result) }
     {
         if self.asks_left == 0 {
             return Reply::Memory;

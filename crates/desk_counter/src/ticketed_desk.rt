@@ -7,13 +7,12 @@ ghost use Rattle.desk_counter.specs.Items.{pairs_of};
 ghost use Rattle.desk_counter.specs.Desks.{fixed_of};
 
 use crate::item::{Fixed, TurnItem};
-use censors::LentViews;
 use entailment::GroundSentence;
 use outside::Disk;
 use std::alloc::{AllocError, Global};
 use turnstile::Recorded;
 use user_desk::Desk;
-use user_log::{Examined, Examiner, Reply};
+use user_log::{Examined, Examiner, Lent, Reply};
 
 /// A value under a turnstile that belongs to a user.
 pub trait Owned: Recorded {
@@ -58,6 +57,7 @@ impl<'w, D: Disk> TicketedDesk<'w, D> {
     ghost use Rattle.entailment.specs.GroundSentences.{sentence_of};
     ghost use Rattle.user_log.specs.Examiners.{examiner_schema, examiner_user};
     ghost use Rattle.user_log.specs.Examining.{IsExamined, IsLent};
+    ghost use Rattle.cqe_base.specs.declared.user.Purpose.TheVariants.{Asking};
     ghost use Rattle.cqe_base.specs.Censor.{IsLegal};
     ghost use Rattle.cqe_base.specs.Limits.{KeepsSizes};
     ghost use Rattle.cqe_base.specs.Run.{after_event, stop};
@@ -123,13 +123,14 @@ impl<'w, D: Disk> TicketedDesk<'w, D> {
     }
 
     /// Views of the log, after which the query of a text can be examined outside of a turn. There
-    /// are none where a code answers the text, or memory is wanting.
+    /// are none where a code answers the text, where a secret was added, or where memory is
+    /// wanting.
     pub(crate) fn lend(
         &mut self,
         alloc: Global,
         text: &str,
         query: &GroundSentence,
-    ) -> Option<LentViews<'w>>
+    ) -> Option<Lent<'w>>
         requires { length text.now ≤ 4096 }
         ensures fixed { fixed_in self.new ≡ fixed_in self.old }
         ensures pairs { pairs_in self.new ≡ pairs_in self.old }
@@ -156,7 +157,7 @@ impl<'w, D: Disk> TicketedDesk<'w, D> {
             (IsExamined (fixed_in self.old).schema (fixed_in self.old).user
             (history_of (pairs_in self.old)) text.now) }
         ensures fixed { fixed_in self.new ≡ fixed_in self.old }
-        ensures adds { Adds (fixed_in self.old) ticket text.now (pairs_in self.old)
+        ensures adds { Adds (fixed_in self.old) ticket Asking text.now (pairs_in self.old)
             (pairs_in self.new) result }
         ensures broken { (result ≡ Reply.Broken) ↔ IsTrue (has_broke (pairs_in self.new)) }
         ensures untouched { HasNoWrite result
@@ -170,7 +171,8 @@ impl<'w, D: Disk> TicketedDesk<'w, D> {
             → Holds (desk_schema (desk_of self.old)) (desk_world (desk_of self.old))
             (desk_user (desk_of self.old)) (desk_header (desk_of self.old))
             (after_event (desk_schema (desk_of self.old)) (desk_world (desk_of self.old))
-            (desk_user (desk_of self.old)) (state_of (desk_of self.old)) (stop text.now)) c }
+            (desk_user (desk_of self.old)) (state_of (desk_of self.old))
+            (stop Asking text.now)) c }
     {
         self.desk.known();
         if self.desk.broken() {

@@ -1,11 +1,12 @@
 -- An ask at a user's desk.
 use Rattle.std.proofs.Common.{◌≡◌, ℕ, List, sym, ap, subst, ◌∙◌}
+use Rattle.cqe_base.specs.declared.user.Purpose.TheVariants.{Asking}
 use Rattle.cqe_base.specs.Schema.{Text, DatabaseSchema}
 use Rattle.cqe_base.specs.Facts.{FactSet}
 use Rattle.cqe_base.specs.History.{profile_of}
 use Rattle.cqe_base.specs.Run
 use Rattle.cqe_base.specs.Run.{UserState}
-use Rattle.desk_counter.specs.Lives.{IsAskOf}
+use Rattle.desk_counter.specs.Lives.{IsCallOf}
 use Rattle.desk_crew.specs.Crew.{seat_user, seat_journal, seat_kept, IsSeatIn, IsSeatServed, IsToldAt}
 use Rattle.desk_crew.specs.Seats.{DeskSeat}
 use Rattle.desk_counter.specs.declared.item.Fixed.{Fixed}
@@ -16,7 +17,8 @@ module _ {D : Type 0} {g h : _} where
   pub told_of : (old new : DeskSeat D g h) (text : Text) (reply : Run.Reply) → seat_user new ≡ seat_user old
       → new.admission ≡ old.admission → seat_journal new ≡ seat_journal old → new.refusal ≡ old.refusal → seat_kept new ≡ seat_kept old
       → (seat_kept old).user ≡ profile_of (seat_user old)
-      → ((state : UserState) → IsSeatIn old state → IsAskOf (seat_kept old).schema (seat_kept old).world (seat_kept old).user (IsSeatIn new) state text reply)
+      → ((state : UserState) → IsSeatIn old state → IsCallOf (seat_kept old).schema (seat_kept old).world (seat_kept old).user
+      (IsSeatIn new) state Asking text reply)
       → IsToldAt (seat_kept old).schema (seat_kept old).world text reply old new
   told_of old new text reply user_is admission_is journal_is refusal_is kept_is is settled = record {
     user_is = user_is;
@@ -24,7 +26,7 @@ module _ {D : Type 0} {g h : _} where
     journal_is = journal_is;
     refusal_is = refusal_is;
     kept_is = kept_is;
-    settled = λ state at. subst (λ p. IsAskOf (seat_kept old).schema (seat_kept old).world p (IsSeatIn new) state text reply) is (settled state at);
+    settled = λ state at. subst (λ p. IsCallOf (seat_kept old).schema (seat_kept old).world p (IsSeatIn new) state Asking text reply) is (settled state at);
   }
 
   -- the same of the schema and the world of a seat that is served

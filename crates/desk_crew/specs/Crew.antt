@@ -3,6 +3,7 @@ use Rattle.std.specs.Prelude.{◌≡◌, ℕ, ◌≤◌, ◌*◌, ◌^◌, Bool,
 use Rattle.std.specs.Prelude.{bytes_eq, Option, Some, None, Result, Ok, Err, string_bytes}
 use Rattle.outside.specs.Disk.{Elapses}
 use Rattle.outside.specs.declared.disk.Disk.{Ghosts as DiskGhosts}
+use Rattle.cqe_base.specs.declared.user.Purpose.TheVariants.{Asking}
 use Rattle.cqe_base.specs.Schema.{Text, DatabaseSchema}
 use Rattle.cqe_base.specs.Facts.{FactSet}
 use Rattle.cqe_base.specs.History.{History, profile_of}
@@ -12,13 +13,14 @@ use Rattle.cqe_base.specs.declared.user.User.{User}
 use Rattle.censors.specs.Admitting.{admission_of}
 use Rattle.user_desk.specs.Causes.{IsStanding}
 use Rattle.cqe_base.specs.Censor.{IsLegal}
+use Rattle.cqe_base.specs.Limits.{KeepsSizes}
 use Rattle.user_desk.specs.Standings.{is_sealed}
 use Rattle.user_desk.specs.Lives.{Holds, Restarts}
 use Rattle.user_desk.specs.declared.standing.DeskError.{DeskError}
 use Rattle.user_desk.specs.declared.standing.Standing.{Standing}
 use Rattle.user_desk.specs.declared.standing.Standing.TheVariants.{Open, Closed, Sealed}
 use Rattle.desk_counter.specs.declared.item.Fixed.{Fixed}
-use Rattle.desk_counter.specs.Lives.{IsAskOf}
+use Rattle.desk_counter.specs.Lives.{IsCallOf}
 use Rattle.desk_counter.specs.Items.{history_of, has_broke}
 use Rattle.turnstile.specs.Passes.{mine, turns}
 use Rattle.desk_counter.specs.Closed as counter
@@ -139,7 +141,8 @@ module _ (schema : DatabaseSchema) (world : FactSet) where
     pub refusal_is : new.refusal ≡ old.refusal
     pub kept_is : seat_kept new ≡ seat_kept old
     pub settled : (state : UserState) → IsSeatIn old state
-        → IsAskOf schema world (profile_of (seat_user old)) (IsSeatIn new) state text told_reply
+        → IsCallOf schema world (profile_of (seat_user old)) (IsSeatIn new) state Asking text
+        told_reply
 
   -- an ask of a name goes to the first seat of that name, and to no other; without such a seat
   -- there is no reply
@@ -182,6 +185,7 @@ module _ (schema : DatabaseSchema) (world : FactSet) (header : List ℕ) where
       pub fresh : IsSeatAsOpened seat
       pub opening_is : (seat_kept seat).opening ≡ seat_history seat
       pub legal : IsLegal schema world (profile_of (seat_user seat)) (seat_history seat)
+      pub sizes : KeepsSizes schema (profile_of (seat_user seat)) (seat_history seat)
       -- what was put under its counter is what its pass has seen, which has all turns and nothing
       -- of its own
       pub first_is : first_pairs (counter_in seat.desk) ≡ pairs_of_sole seat.desk

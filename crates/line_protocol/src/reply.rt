@@ -12,12 +12,14 @@ use outside::{Failed, Sink, write_all};
 /// What is answered to a line.
 #[derive(Clone, Copy, Debug, PartialEq, Eq)]
 pub enum Reply {
-    /// The answer to a query: its word.
+    /// The answer to a call: its word.
     Mark(Mark),
     /// The text of a query is no sentence: the kind of the refusal, and the byte at which it shows.
     Syntax { kind: u8, place: u32 },
     /// Any other refusal, by its code.
     Code(u8),
+    /// A secret can't be added, since it isn't safe.
+    Unsafe,
     /// The login succeeded.
     Welcome,
     /// The session ends.
@@ -55,6 +57,7 @@ pub fn text_of(reply: &Reply) -> LineText
         Reply::Mark(mark) => LineText::new(mark_text(*mark)),
         Reply::Syntax { kind, place } => syntax_text(*kind, *place),
         Reply::Code(code) => code_text(*code),
+        Reply::Unsafe => LineText::new("unsafe"),
         Reply::Welcome => LineText::new("welcome"),
         Reply::Bye => LineText::new("bye"),
     }
@@ -69,6 +72,7 @@ fn mark_text(mark: Mark) -> &'static str
         Mark::No => "no",
         Mark::Refused => "refused",
         Mark::Undecided => "undecided",
+        Mark::Protected => "protected",
     }
 }
 

@@ -18,7 +18,7 @@ ghost use Rattle.session_core.specs.Asked.{Replies, IsShort};
 ghost use Rattle.session_core.specs.Sessions.{Session};
 
 use crate::counters::{Counters, Passes};
-use cqe_base::laws::law_hides;
+use cqe_base::laws::{law_hides, law_sizes};
 use cqe_base::user::User;
 use line_protocol::{
     LineBuffer, LineOutcome, Reply, Request, login_ok, read_line, read_request, write_reply,
@@ -94,6 +94,7 @@ fn ask_at<R: Threads + Wait + Sync, D: Disk, G: Gate>(
         (passes_in passes.new)
         ((text.now, reply_of result) ∷ []) }
 {
+    law_sizes();
     let counter = &counters.counters[place];
     let pass = &mut passes.passes[place];
     counter.ask(rt, alloc, pass, text, gate)

@@ -144,10 +144,12 @@ fn replies_are_lines(rt: HostRuntime) -> Result<(), Fail> {
         (Reply::Mark(Mark::No), "no\n"),
         (Reply::Mark(Mark::Refused), "refused\n"),
         (Reply::Mark(Mark::Undecided), "undecided\n"),
+        (Reply::Mark(Mark::Protected), "protected\n"),
         (Reply::Syntax { kind: 2, place: 0 }, "error 20 2 0\n"),
         (greatest, "error 20 255 4294967295\n"),
         (Reply::Code(25), "error 25\n"),
         (Reply::Code(7), "error 7\n"),
+        (Reply::Unsafe, "unsafe\n"),
         (Reply::Welcome, "welcome\n"),
         (Reply::Bye, "bye\n"),
     ];

@@ -1,6 +1,7 @@
-use Rattle.std.proofs.Common.{◌≤◌, ◌<◌, [], ◌∷◌, length, sym, subst, arith}
+use Rattle.std.proofs.Common.{◌≡◌, ◌≤◌, ◌<◌, true, [], ◌∷◌, length, sym, subst, arith}
 use Rattle.std.specs.Prelude.{slice_index_or}
 use Rattle.std.proofs.lemmas.List.{length-map}
+use Rattle.cqe_base.specs.History.{is_history_of}
 use Rattle.cqe_base.specs.Censor.{IsLegal}
 use Rattle.turnstile.specs.Passes.{seen, turns}
 use Rattle.user_log.specs.Replies.{reply_of}
@@ -47,7 +48,10 @@ returns-clause-passes g c =
           (subst (λ d. IsPassOf c.ask.new.pass d) c.index-counter.ensures c.ask.ensures.pass);
       legal = legal_set counters passes c.args.place c.ask.new.pass desk low c.requires.passes.legal
           (subst (λ d. IsLegal (kept_by d).schema (kept_by d).world (kept_by d).user (history_of (seen c.ask.new.pass))) c.index-counter.ensures
-          c.ask.ensures.legal) (broke_last (seen c.ask.new.pass) c.ask.ensures.last);
+          c.ask.ensures.legal)
+          (subst (λ d. is_history_of (kept_by d).schema (history_of (seen c.ask.new.pass)) ≡ true) c.index-counter.ensures
+          (c.law_sizes.ensures.of_schema (kept_by desk).schema (kept_by desk).user (history_of (seen c.ask.new.pass)) c.ask.ensures.sizes))
+          (broke_last (seen c.ask.new.pass) c.ask.ensures.last);
     }
 
 pub returns-clause-asked : goal.returns-clause-asked

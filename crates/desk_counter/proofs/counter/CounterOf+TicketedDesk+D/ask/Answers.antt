@@ -1,4 +1,5 @@
 use Rattle.std.proofs.Common.{ap, sym, ◌∙◌, subst, ◌≡◌, arith}
+use Rattle.cqe_base.specs.declared.user.Purpose.TheVariants.{Asking}
 use Rattle.cqe_base.specs.Censor.{IsLegal}
 use Rattle.cqe_base.specs.Limits.{KeepsSizes}
 use Rattle.turnstile.specs.declared.view.View.{View}
@@ -45,12 +46,12 @@ returns-clause-asked g c =
     let same = one_fixed _ (fixed_in value) kept c.enter-turn.ensures.fixed c.examined-examined.ensures.pass.kept in
     let entered = c.enter-turn.ensures in
     let adds = subst (λ t.
-    Adds (fixed_in value) t c.args.text.now (pairs_in value) (pairs_in c.settle-reply.new.self) c.settle-reply.result) c.ticket-ticket.ensures.0
+    Adds (fixed_in value) t Asking c.args.text.now (pairs_in value) (pairs_in c.settle-reply.new.self) c.settle-reply.result) c.ticket-ticket.ensures.0
     c.settle-reply.ensures.adds in
     asked_in_turn kept c.enter-turn.result.ticket (pairs_in value)
     (pairs_in c.settle-reply.new.self) _ c.examined-examined.ensures.looked entered.view entered.later entered.whole entered.fresh entered.mine
     c.leave.ensures.view c.leave.ensures.mine
-    (subst (λ f. Adds f c.enter-turn.result.ticket c.args.text.now (pairs_in value) (pairs_in c.settle-reply.new.self) c.settle-reply.result) same adds)
+    (subst (λ f. Adds f c.enter-turn.result.ticket Asking c.args.text.now (pairs_in value) (pairs_in c.settle-reply.new.self) c.settle-reply.result) same adds)
 
 pub returns-clause-reply : goal.returns-clause-reply
 returns-clause-reply g c = adds_reply (kept_by c.args.self.now) (returns-clause-asked g c).adds
