@@ -120,6 +120,7 @@ class Journals(InDirectory):
             ("stale 1", good, ["record 1", "'carl'"]),
             ("size 0", good, ["record 0", "limit"]),
             ("unlawful 0 stored yes computed no", good, ["record 0", "'yes'", "'no'"]),
+            ("unsafe 0", good, ["record 0", "safe"]),
             ("not admitted", good, ["'eve'", "admitted"]),
         ]
         for cause, data, words in cases:

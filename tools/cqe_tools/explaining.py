@@ -188,10 +188,12 @@ class Explainer:
             ask = self.of_request(requests.pop(0))
         elif asked is not None:
             ask = self.of_item(asked[number], user)
+        ask = ask or replies.Asked(user)
+        if reply == "unsafe":
+            return replies.unsafe(line, ask)
         code = replies.CODE.match(reply)
         if code is None:
             return None
-        ask = ask or replies.Asked(user)
         kind, place = (int(code[2]), int(code[3])) if code[2] else (None, None)
         return replies.explain(line, int(code[1]), kind, place, ask, self.context)
 

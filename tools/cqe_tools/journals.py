@@ -10,9 +10,9 @@ from .sentences import refusal_of
 
 MAGIC = b"CQEJRNL1"
 HEADER = 73
-KINDS = {1: "yes", 2: "no", 3: "refused", 4: "undecided"}
+KINDS = {1: "yes", 2: "no", 3: "refused", 4: "undecided", 5: "protected"}
 READ = 8 * 1024 * 1024  # more than a full history takes
-CAUSE = re.compile(r"not a journal|other policy|disk fault|not admitted|(?:damaged|stale|size) (\d+)|"
+CAUSE = re.compile(r"not a journal|other policy|disk fault|not admitted|(?:damaged|stale|size|unsafe) (\d+)|"
                    r"unlawful (\d+) stored (\w+) computed (\w+)")
 KEEP = "Keep a copy of the journal before you change anything: what this user was told stands there alone."
 
@@ -59,7 +59,7 @@ def explain(said, name, cause, context):
     word = cause.split(" ")[0]
     makers = {"not": not_a_journal if cause == "not a journal" else not_admitted, "other": other_policy,
               "disk": disk_fault,
-              "damaged": damaged, "stale": stale, "size": size, "unlawful": unlawful}
+              "damaged": damaged, "stale": stale, "size": size, "unlawful": unlawful, "unsafe": unsafe}
     number = int(match[1] or match[2] or 0)
     return makers[word](said, name, journal, number, context, match)
 
@@ -109,7 +109,7 @@ def damaged(said, name, journal, number, context, match):
     if found:
         start, kind, _ = found
         length = int.from_bytes(journal.data[start + 1:start + 3], "big")
-        more = (f" It begins at byte {start} and has the kind {kind} and the length {length:,}; a kind is 1 to 4, a "
+        more = (f" It begins at byte {start} and has the kind {kind} and the length {length:,}; a kind is 1 to 5, a "
                 f"length at most 4,096.")
     return Finding(said, f"Record {number} (from 0) in the journal of user {quoted(name)}, "
                    f"{place(journal, name, context)}, isn't whole: somebody or the disk changed the "
@@ -141,7 +141,7 @@ def stale(said, name, journal, number, context, match):
 
 def size(said, name, journal, number, context, match):
     return Finding(said, f"Record {number} (from 0) in the journal of user {quoted(name)} passes a limit: the history "
-                   f"before it is full, or its question is too large.", record_spot(journal, number),
+                   f"before it is full, its sentence is too large, or it adds a 17th secret.", record_spot(journal, number),
                    f"the program never wrote it: the journal was changed, or comes from another version. {KEEP}")
 
 
@@ -152,6 +152,13 @@ def unlawful(said, name, journal, number, context, match):
                    record_spot(journal, number),
                    f"somebody changed the journal, or the user's method, knowledge or secrets are those of other "
                    f"files. {KEEP}")
+
+
+def unsafe(said, name, journal, number, context, match):
+    return Finding(said, f"Record {number} (from 0) in the journal of user {quoted(name)} adds a secret that isn't safe "
+                   f"behind the records before it.", record_spot(journal, number),
+                   f"the program never adds such a secret: the journal was changed, or the user's method, knowledge or "
+                   f"secrets are those of other files. {KEEP}")
 
 
 def not_admitted(said, name, journal, number, context, match):

@@ -7,8 +7,8 @@ from .places import Finding, Spot, quoted
 from .sentences import Refused, nodes_of
 
 CODE = re.compile(r"error ([0-9]+)(?: ([0-9]+) ([0-9]+))?\Z")
-REPLY = re.compile(r"(?:yes|no|refused|undecided|welcome|bye|error [0-9]+(?: [0-9]+ [0-9]+)?)\Z")
-BATCH = re.compile(r"([A-Za-z][A-Za-z0-9_]*) ([0-9]+) (.*)\Z")
+REPLY = re.compile(r"(?:yes|no|refused|undecided|protected|unsafe|welcome|bye|error [0-9]+(?: [0-9]+ [0-9]+)?)\Z")
+BATCH = re.compile(r"([A-Za-z][A-Za-z0-9_]*) ([0-9]+|op) (.*)\Z")
 
 CLOSED = ("Reasons: what he knows entails one of his secrets, or for lying that one of them is true; he is of method "
           "lying and has a secrecy; for refusal, the facts contradict what he knows; or the test of it costs more than "
@@ -35,7 +35,7 @@ class Asked:
 def explain(said, code, kind, place, asked, context):
     """The meaning of a reply `error CODE ..`."""
     maker = {20: no_sentence, 21: too_large, 22: full, 23: no_user, 24: closed, 25: no_login, 26: no_line,
-             40: not_appended,
+             27: secrets_full, 40: not_appended,
              41: sealed, 50: no_memory}.get(code)
     if maker is None:
         return Finding(said, f"The reply error {code} isn't one of the formats.")
@@ -143,6 +143,20 @@ def no_line(said, kind, place, asked, context):
         elif word:
             meaning = f"The session knows no line that begins with {quoted(word)} in this form."
     return Finding(said, meaning, asked.spot(), advice)
+
+
+def secrets_full(said, kind, place, asked, context):
+    return Finding(said, f"{who(asked)[0].upper()}{who(asked)[1:]} has 16 secrets, with those that were added, and no "
+                   f"more fit.", asked.spot(),
+                   "join sentences by or before they are added: who can't conclude the whole can't conclude a part")
+
+
+def unsafe(said, asked):
+    """The meaning of the reply `unsafe`."""
+    return Finding(said, f"The secret isn't added: what {who(asked)} knows and was told isn't safe with it, or the "
+                   f"search for that needs more than 4,000,000. Nothing changed.", asked.spot(),
+                   "take the sentence for known to him: close him, or look by an audit at what he was told; for the "
+                   "method lying all his secrets and this one together have to be safe")
 
 
 def not_appended(said, kind, place, asked, context):

@@ -7,7 +7,7 @@ use Rattle.std.proofs.lemmas.Bool.{and_left, or_left, or_right}
 use Rattle.std.proofs.lemmas.List.Sums.{sum_by-append}
 use Rattle.outside.specs.Faults.{Rose}
 use Rattle.outside.proofs.Rises.{rose_wide}
-use Rattle.cqe_base.specs.declared.user.Purpose.TheVariants.{Asking}
+use Rattle.cqe_base.specs.declared.user.Purpose.{Purpose}
 use Rattle.cqe_base.specs.Schema.{DatabaseSchema, Text}
 use Rattle.cqe_base.specs.Facts.{FactSet}
 use Rattle.cqe_base.specs.Formula.{Formula}
@@ -105,49 +105,51 @@ module _ (schema : DatabaseSchema) (world : FactSet) (user : UserProfile) where
   caused-push state [] event all last = (last, tt)
   caused-push state (e ∷ events) event all last = (all.0, caused-push (after_event schema world user state e) events event all.1 last)
 
-  -- ---- one ask
+  -- ---- one call
 
-  -- an ask with an ending that has its cause
-  record Once (is_now : UserState → Type 0) (state : UserState) (text : Text) (told : Reply) : Type 0 where
+  -- a call with an ending that has its cause
+  record Once (is_now : UserState → Type 0) (state : UserState) (purpose : Purpose) (text : Text) (told : Reply) : Type 0 where
     ending : Ending
-    caused : IsCaused schema world user state (call Asking text ending)
-    after : is_now (after_event schema world user state (call Asking text ending))
-    reply : told ≡ reply_to_call schema world user state Asking text ending
+    caused : IsCaused schema world user state (call purpose text ending)
+    after : is_now (after_event schema world user state (call purpose text ending))
+    reply : told ≡ reply_to_call schema world user state purpose text ending
 
-  once : (is_now : UserState → Type 0) (state : UserState) (text : Text) (told : Reply) → IsCallOf schema world user is_now state Asking text told
-      → Once is_now state text told
-  once is_now state text told asked = by asked.ending asked.after asked.reply
+  once : (is_now : UserState → Type 0) (state : UserState) (purpose : Purpose) (text : Text) (told : Reply)
+      → IsCallOf schema world user is_now state purpose text told
+      → Once is_now state purpose text told
+  once is_now state purpose text told asked = by asked.ending asked.after asked.reply
     where
       unadded : (entry : Option AnsweredQuery) → entry ≡ None → record state { entries = state.entries ++ option_to_list entry } ≡ state
       unadded entry none =
           ap (λ e. record state { entries = state.entries ++ option_to_list e }) none ∙ ap (λ es. record state { entries = es }) (append-nil state.entries)
 
-      by_entry : (entry : Option AnsweredQuery) → entry_at schema world user state Asking text ≡ entry
-          → is_now (after_event schema world user state (call Asking text failed))
-          → told ≡ reply_to_call schema world user state Asking text failed → Once is_now state text told
+      by_entry : (entry : Option AnsweredQuery) → entry_at schema world user state purpose text ≡ entry
+          → is_now (after_event schema world user state (call purpose text failed))
+          → told ≡ reply_to_call schema world user state purpose text failed → Once is_now state purpose text told
       by_entry (Some entry) is after reply = record { ending = failed; caused = ap is_some is; after = after; reply = reply }
       by_entry None is after reply = record {
         ending = kept;
         caused = tt;
-        after = subst is_now (ap (λ e. Run.after_failure schema world user state e) is ∙ sym (unadded (entry_at schema world user state Asking text) is)) after;
-        reply = reply ∙ ap (λ e. Run.reply_at_failure schema world user (Run.reply_at schema world user state Asking text) e) is;
+        after = subst is_now (ap (λ e. Run.after_failure schema world user state e) is
+            ∙ sym (unadded (entry_at schema world user state purpose text) is)) after;
+        reply = reply ∙ ap (λ e. Run.reply_at_failure schema world user (Run.reply_at schema world user state purpose text) e) is;
       }
 
-      by : (ending : Ending) → is_now (after_event schema world user state (call Asking text ending))
-          → told ≡ reply_to_call schema world user state Asking text ending
-          → Once is_now state text told
+      by : (ending : Ending) → is_now (after_event schema world user state (call purpose text ending))
+          → told ≡ reply_to_call schema world user state purpose text ending
+          → Once is_now state purpose text told
       by want after reply = record { ending = want; caused = tt; after = after; reply = reply }
       by kept after reply = record { ending = kept; caused = tt; after = after; reply = reply }
-      by failed after reply = by_entry (entry_at schema world user state Asking text) refl after reply
+      by failed after reply = by_entry (entry_at schema world user state purpose text) refl after reply
 
   -- a state in which an append failed adds nothing
-  broken_adds : (state : UserState) (text : Text) → state.broken ≡ true → entry_at schema world user state Asking text ≡ None
-  broken_adds state text broken =
-      ap (λ b. Run.entry_added text (reading schema text) (Run.reply schema world user state.entries state.standing b Asking text)) broken ∙
+  broken_adds : (state : UserState) (purpose : Purpose) (text : Text) → state.broken ≡ true → entry_at schema world user state purpose text ≡ None
+  broken_adds state purpose text broken =
+      ap (λ b. Run.entry_added text (reading schema text) (Run.reply schema world user state.entries state.standing b purpose text)) broken ∙
       by state.standing (reading schema text)
     where
       by : (standing : Run.Standing) (read : Result Formula Refusal)
-          → Run.entry_added text read (Run.reply_by schema world user state.entries standing true Asking text read) ≡ None
+          → Run.entry_added text read (Run.reply_by schema world user state.entries standing true purpose text read) ≡ None
       by Run.standing_open (Ok query) = refl
       by Run.standing_open (Err why) = refl
       by Run.standing_closed (Ok query) = refl
@@ -217,6 +219,7 @@ module _ (schema : DatabaseSchema) (world : FactSet) (user : UserProfile) where
     sealed_on now later on (Journal journal_error.NotAJournal) is = is
     sealed_on now later on (Journal journal_error.OtherPolicy) is = is
     sealed_on now later on (Journal (journal_error.Damaged number)) is = is
+    sealed_on now later on (Journal journal_error.OldVersion) is = is
     sealed_on now later on (Stale number) is = is
     sealed_on now later on (Unlawful number stored computed) is = is
     sealed_on now later on (Size number) is = is
@@ -260,22 +263,23 @@ module _ (schema : DatabaseSchema) (world : FactSet) (user : UserProfile) where
     -- ---- an ask
 
     -- a state whose journal was refused adds nothing
-    pub adds_none : (state : UserState) (text : Text) → state.standing ≡ standing_sealed → entry_at schema world user state Asking text ≡ None
-    adds_none state text sealed =
-        ap (λ s. Run.entry_added text (reading schema text) (Run.reply schema world user state.entries s state.broken Asking text)) sealed
+    pub adds_none : (state : UserState) (purpose : Purpose) (text : Text) → state.standing ≡ standing_sealed
+        → entry_at schema world user state purpose text ≡ None
+    adds_none state purpose text sealed =
+        ap (λ s. Run.entry_added text (reading schema text) (Run.reply schema world user state.entries s state.broken purpose text)) sealed
         ∙ by (reading schema text)
       where
         by : (read : Result Formula Refusal) → Run.entry_added text read Run.desk_sealed ≡ None
         by (Ok query) = refl
         by (Err why) = refl
 
-    sealed_still : (state : UserState) (text : Text) (ending : Ending) → state.standing ≡ standing_sealed
-        → after_event schema world user state (call Asking text ending) ≡ state
-    sealed_still state text want sealed = refl
-    sealed_still state text kept sealed =
-        ap (λ e. record state { entries = state.entries ++ option_to_list e }) (adds_none state text sealed)
+    sealed_still : (state : UserState) (purpose : Purpose) (text : Text) (ending : Ending) → state.standing ≡ standing_sealed
+        → after_event schema world user state (call purpose text ending) ≡ state
+    sealed_still state purpose text want sealed = refl
+    sealed_still state purpose text kept sealed =
+        ap (λ e. record state { entries = state.entries ++ option_to_list e }) (adds_none state purpose text sealed)
         ∙ ap (λ es. record state { entries = es }) (append-nil state.entries)
-    sealed_still state text failed sealed = ap (λ e. Run.after_failure schema world user state e) (adds_none state text sealed)
+    sealed_still state purpose text failed sealed = ap (λ e. Run.after_failure schema world user state e) (adds_none state purpose text sealed)
 
     -- the state of a desk that isn't sealed is the one that it shows
     shown_is : (standing : Standing) (desk_state state : UserState) → is_sealed standing ≡ false → IsState standing desk_state state → state ≡ desk_state
@@ -289,8 +293,8 @@ module _ (schema : DatabaseSchema) (world : FactSet) (user : UserProfile) where
     sealed_is (Closed admission) desk_state state sealed is = absurd cc
     sealed_is (Sealed why) desk_state state sealed is = is
 
-    none_refused : (text : Text) (ending : Ending) → is_refused (call Asking text ending) ≡ false
-    none_refused text ending = refl
+    none_refused : (purpose : Purpose) (text : Text) (ending : Ending) → is_refused (call purpose text ending) ≡ false
+    none_refused purpose text ending = refl
 
     -- The count of his disk at its desk's opening rose for each failure; or for all but the last, an append that failed since.
     pub data RoseBut (events : List Event) (standing : Standing) (state : UserState) (now : ℕ) : Type 0 where
@@ -414,37 +418,37 @@ module _ (schema : DatabaseSchema) (world : FactSet) (user : UserProfile) where
         by (inl (opens, was, rose)) = inl (opens, held was (is_sealed standing) refl, rises rose)
         by (inr (none, empty, is, never)) = inr (none, empty, (same (inl (living.shut none))).0 ∙ is, never)
 
-    -- an ask of the user at his desk, with some ending
+    -- a call for the user at his desk, with some ending
     pub record Asked (opened : History) (events : List Event) (standing : Standing) (state : UserState) (image : List ℕ → Type 0) (reads : List ℕ) (now : ℕ)
-        (refusal : Option DeskError) (text : Text) (told : Reply) : Type 0 where
+        (refusal : Option DeskError) (purpose : Purpose) (text : Text) (told : Reply) : Type 0 where
       pub ending : Ending
-      pub reply : told ≡ reply_to_call schema world user (after_events schema world user (opening schema world user opened) events) Asking text ending
-      pub living : IsLiving opened (events ++ call Asking text ending ∷ []) standing state image reads now refusal
+      pub reply : told ≡ reply_to_call schema world user (after_events schema world user (opening schema world user opened) events) purpose text ending
+      pub living : IsLiving opened (events ++ call purpose text ending ∷ []) standing state image reads now refusal
 
     pub ask_step : (opened : History) (events : List Event) (standing : Standing) (old new : UserState) (image : List ℕ → Type 0) (reads : List ℕ) (now : ℕ)
-        (refusal : Option DeskError) (text : Text) (told : Reply)
+        (refusal : Option DeskError) (purpose : Purpose) (text : Text) (told : Reply)
         → IsLiving opened events standing old image reads now refusal
-        → ((state : UserState) → IsState standing old state → IsCallOf schema world user (IsState standing new) state Asking text told)
-        → Asked opened events standing new image reads now refusal text told
-    ask_step opened events standing old new image reads now refusal text told living settles =
-        let one = once (IsState standing new) state text told (settles state living.is_in) in
+        → ((state : UserState) → IsState standing old state → IsCallOf schema world user (IsState standing new) state purpose text told)
+        → Asked opened events standing new image reads now refusal purpose text told
+    ask_step opened events standing old new image reads now refusal purpose text told living settles =
+        let one = once (IsState standing new) state purpose text told (settles state living.is_in) in
         record {
           ending = one.ending;
           reply = one.reply;
           living = record {
             is_in = subst (IsState standing new) (sym (pushed one.ending)) one.after;
             later = living.later;
-            caused = caused-push (opening schema world user opened) events (call Asking text one.ending) living.caused one.caused;
-            refused = refusal_on now now (omega arith) events (call Asking text one.ending) (none_refused text one.ending) refusal living.refused;
+            caused = caused-push (opening schema world user opened) events (call purpose text one.ending) living.caused one.caused;
+            refused = refusal_on now now (omega arith) events (call purpose text one.ending) (none_refused purpose text one.ending) refusal living.refused;
             shut = living.shut;
             fits = fits_on one.ending one.caused one.after living.fits;
-            held = λ served. any-push is_opened events (call Asking text one.ending) ∙ or_left (list_any is_opened events) false (living.held served);
+            held = λ served. any-push is_opened events (call purpose text one.ending) ∙ or_left (list_any is_opened events) false (living.held served);
             stands = λ sealed some c at.
                 subst (λ s. Holds schema world user header s c)
-                (sym (pushed one.ending ∙ sealed_still state text one.ending (sealed_is standing old state sealed living.is_in)))
+                (sym (pushed one.ending ∙ sealed_still state purpose text one.ending (sealed_is standing old state sealed living.is_in)))
                 (living.stands sealed (sym (unopened one.ending) ∙ some) c at);
             size = λ whole. subst (λ (s : UserState). IsNoLonger bytes s.entries reads) (sym (pushed one.ending))
-                (no_longer_on state (call Asking text one.ending) bytes reads (living.size (unfailed-push events (call Asking text one.ending) whole)));
+                (no_longer_on state (call purpose text one.ending) bytes reads (living.size (unfailed-push events (call purpose text one.ending) whole)));
             kept = λ idle. living.kept (never_opened one.ending idle);
           };
         }
@@ -453,77 +457,78 @@ module _ (schema : DatabaseSchema) (world : FactSet) (user : UserProfile) where
         state = after_events schema world user (opening schema world user opened) events
 
         pushed : (ending : Ending)
-            → after_events schema world user (opening schema world user opened) (events ++ call Asking text ending ∷ [])
-            ≡ after_event schema world user state (call Asking text ending)
-        pushed ending = after_events-push schema world user (opening schema world user opened) events (call Asking text ending)
+            → after_events schema world user (opening schema world user opened) (events ++ call purpose text ending ∷ [])
+            ≡ after_event schema world user state (call purpose text ending)
+        pushed ending = after_events-push schema world user (opening schema world user opened) events (call purpose text ending)
 
-        unopened : (ending : Ending) → list_any is_opened (events ++ call Asking text ending ∷ []) ≡ list_any is_opened events
-        unopened ending = any-push is_opened events (call Asking text ending) ∙ or-false (list_any is_opened events)
+        unopened : (ending : Ending) → list_any is_opened (events ++ call purpose text ending ∷ []) ≡ list_any is_opened events
+        unopened ending = any-push is_opened events (call purpose text ending) ∙ or-false (list_any is_opened events)
 
         -- behind an ask the disk is promised to be as it was only where no opening held
-        never_opened : (ending : Ending) → (list_any is_opened (events ++ call Asking text ending ∷ []) && list_any is_call
-            (events ++ call Asking text ending ∷ [])) ≡ false
+        never_opened : (ending : Ending) → (list_any is_opened (events ++ call purpose text ending ∷ []) && list_any is_call
+            (events ++ call purpose text ending ∷ [])) ≡ false
             → (list_any is_opened events && list_any is_call events) ≡ false
         never_opened ending idle =
             and_left (list_any is_opened events) (list_any is_call events)
             (sym (and-true (list_any is_opened events))
-            ∙ (λ i. sym (unopened ending) i && sym (any-push is_call events (call Asking text ending) ∙ or-true (list_any is_call events)) i) ∙ idle)
+            ∙ (λ i. sym (unopened ending) i && sym (any-push is_call events (call purpose text ending) ∙ or-true (list_any is_call events)) i) ∙ idle)
 
         -- a desk whose append failed is still so
-        broken_still : (ending : Ending) → IsState standing new (after_event schema world user state (call Asking text ending)) → is_sealed standing ≡ false
-            → old.broken ≡ true → (after_event schema world user state (call Asking text ending)).broken ≡ state.broken → new.broken ≡ true
+        broken_still : (ending : Ending) → IsState standing new (after_event schema world user state (call purpose text ending)) → is_sealed standing ≡ false
+            → old.broken ≡ true → (after_event schema world user state (call purpose text ending)).broken ≡ state.broken → new.broken ≡ true
         broken_still ending after served broken same =
             ap (λ (s : UserState). s.broken) (sym (shown_is standing new _ served after)) ∙ same
             ∙ ap (λ (s : UserState). s.broken) (shown_is standing old state served living.is_in) ∙ broken
 
-        more : (ending : Ending) (n : ℕ) → failures_in (call Asking text ending) ≡ n → failures (events ++ call Asking text ending ∷ []) ≡ failures events + n
-        more ending n is = failures-push events (call Asking text ending) ∙ ap (λ k. failures events + k) is
+        more : (ending : Ending) (n : ℕ) → failures_in (call purpose text ending) ≡ n → failures (events ++ call purpose text ending ∷ []) ≡ failures events + n
+        more ending n is = failures-push events (call purpose text ending) ∙ ap (λ k. failures events + k) is
 
-        unfailed : (ending : Ending) → failures_in (call Asking text ending) ≡ 0
-            → (after_event schema world user state (call Asking text ending)).broken ≡ state.broken
-            → IsState standing new (after_event schema world user state (call Asking text ending))
-            → RoseBut events standing old now → RoseBut (events ++ call Asking text ending ∷ []) standing new now
+        unfailed : (ending : Ending) → failures_in (call purpose text ending) ≡ 0
+            → (after_event schema world user state (call purpose text ending)).broken ≡ state.broken
+            → IsState standing new (after_event schema world user state (call purpose text ending))
+            → RoseBut events standing old now → RoseBut (events ++ call purpose text ending ∷ []) standing new now
         unfailed ending none same after (all_rose rose) = all_rose (subst (λ n. RoseBy n before now) (omega arith ∙ sym (more ending 0 none)) rose)
         unfailed ending none same after (last_flies earlier count rose served broken) =
             last_flies earlier (let e = more ending 0 none in omega (arith, e, count)) rose served (broken_still ending after served broken same)
 
         -- the entry in flight shows that no append had failed before, and that the desk isn't sealed
-        flew : is_some (entry_at schema world user state Asking text) ≡ true
-            → IsState standing new (after_event schema world user state (call Asking text failed))
+        flew : is_some (entry_at schema world user state purpose text) ≡ true
+            → IsState standing new (after_event schema world user state (call purpose text failed))
             → RoseBut events standing old now → (b : Bool) → is_sealed standing ≡ b
-            → RoseBut (events ++ call Asking text failed ∷ []) standing new now
+            → RoseBut (events ++ call purpose text failed ∷ []) standing new now
         flew some after rose true sealed =
             let e : false ≡ true =
-            sym (ap (λ (o : Option AnsweredQuery). is_some o) (adds_none state text (sealed_is standing old state sealed living.is_in))) ∙ some in absurd cc
+            sym (ap (λ (o : Option AnsweredQuery). is_some o) (adds_none state purpose text (sealed_is standing old state sealed living.is_in)))
+            ∙ some in absurd cc
         flew some after (all_rose rose) false served =
             last_flies (failures events) (more failed 1 refl) rose served
-            (by_entry (entry_at schema world user state Asking text) some (shown_is standing new _ served after))
+            (by_entry (entry_at schema world user state purpose text) some (shown_is standing new _ served after))
           where
             by_entry : (entry : Option AnsweredQuery) → is_some entry ≡ true → Run.after_failure schema world user state entry ≡ new → new.broken ≡ true
             by_entry (Some entry) some is = ap (λ (s : UserState). s.broken) (sym is)
             by_entry None some is = absurd cc
         flew some after (last_flies earlier count rose served' broken) false served =
             let broke : state.broken ≡ true = ap (λ (s : UserState). s.broken) (shown_is standing old state served living.is_in) ∙ broken in
-            let e : false ≡ true = sym (ap (λ (o : Option AnsweredQuery). is_some o) (broken_adds state text broke)) ∙ some in absurd cc
+            let e : false ≡ true = sym (ap (λ (o : Option AnsweredQuery). is_some o) (broken_adds state purpose text broke)) ∙ some in absurd cc
 
-        rises : (ending : Ending) → IsCaused schema world user state (call Asking text ending)
-            → IsState standing new (after_event schema world user state (call Asking text ending)) → RoseBut events standing old now
-            → RoseBut (events ++ call Asking text ending ∷ []) standing new now
+        rises : (ending : Ending) → IsCaused schema world user state (call purpose text ending)
+            → IsState standing new (after_event schema world user state (call purpose text ending)) → RoseBut events standing old now
+            → RoseBut (events ++ call purpose text ending ∷ []) standing new now
         rises want caused after rose = unfailed want refl refl after rose
         rises kept caused after rose = unfailed kept refl refl after rose
         rises failed caused after rose = flew caused after rose (is_sealed standing) refl
 
-        fits_on : (ending : Ending) → IsCaused schema world user state (call Asking text ending)
-            → IsState standing new (after_event schema world user state (call Asking text ending))
-            → FitsLiving opened events standing old reads now → FitsLiving opened (events ++ call Asking text ending ∷ []) standing new reads now
+        fits_on : (ending : Ending) → IsCaused schema world user state (call purpose text ending)
+            → IsState standing new (after_event schema world user state (call purpose text ending))
+            → FitsLiving opened events standing old reads now → FitsLiving opened (events ++ call purpose text ending ∷ []) standing new reads now
         fits_on ending caused after (inl (opens, was, rose)) = inl (
           opens,
           λ sealed. subst (λ s. Holds schema world user header s reads)
-              (sym (pushed ending ∙ sealed_still state text ending (sealed_is standing old state sealed living.is_in))) (was sealed),
+              (sym (pushed ending ∙ sealed_still state purpose text ending (sealed_is standing old state sealed living.is_in))) (was sealed),
           rises ending caused after rose,
         )
         fits_on ending caused after (inr (none, empty, is, never)) =
-            inr (none, empty, is, any-push is_opened events (call Asking text ending) ∙ ap (λ b. b || false) never)
+            inr (none, empty, is, any-push is_opened events (call purpose text ending) ∙ ap (λ b. b || false) never)
 
     -- ---- an opening
 
@@ -551,6 +556,8 @@ module _ (schema : DatabaseSchema) (world : FactSet) (user : UserProfile) where
         absurd (exclusive entries c (Journal journal_error.OtherPolicy) opens (is t))
     faulty exclusive entries c opens T t start now later a b on (Journal (journal_error.Damaged number)) is =
         absurd (exclusive entries c (Journal (journal_error.Damaged number)) opens (is t))
+    faulty exclusive entries c opens T t start now later a b on (Journal journal_error.OldVersion) is =
+        absurd (exclusive entries c (Journal journal_error.OldVersion) opens (is t))
     faulty exclusive entries c opens T t start now later a b on (Stale number) is = absurd (exclusive entries c (Stale number) opens (is t))
     faulty exclusive entries c opens T t start now later a b on (Unlawful number stored computed) is =
         absurd (exclusive entries c (Unlawful number stored computed) opens (is t))
@@ -570,6 +577,8 @@ module _ (schema : DatabaseSchema) (world : FactSet) (user : UserProfile) where
         λ u. subst (λ b. Refuses schema world user header b (Journal journal_error.OtherPolicy)) same (is t)
     shown_by T t c same now later a on (Journal (journal_error.Damaged number)) is =
         λ u. subst (λ b. Refuses schema world user header b (Journal (journal_error.Damaged number))) same (is t)
+    shown_by T t c same now later a on (Journal journal_error.OldVersion) is =
+        λ u. subst (λ b. Refuses schema world user header b (Journal journal_error.OldVersion)) same (is t)
     shown_by T t c same now later a on (Stale number) is = λ u. subst (λ b. Refuses schema world user header b (Stale number)) same (is t)
     shown_by T t c same now later a on (Unlawful number stored computed) is =
         λ u. subst (λ b. Refuses schema world user header b (Unlawful number stored computed)) same (is t)

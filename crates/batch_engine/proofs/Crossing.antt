@@ -6,6 +6,7 @@ use Rattle.std.proofs.Crossing.{crosses}
 use Rattle.desk_counter.specs.declared.ticketed_desk.Owned as owned
 use Rattle.desk_crew.proofs.Crossing.{seat_send}
 use Rattle.batch_engine.proofs.answer.Answer.TheSendSync as answer
+use Rattle.batch_engine.proofs.line.Caller.TheSendSync as caller
 use Rattle.batch_engine.specs.contracts.batch.BatchAsk as BatchAsk
 use Rattle.batch_engine.specs.contracts.post.Post as Post
 
@@ -13,4 +14,4 @@ pub post_send : (w : NamedLft) (V I F : RattleType) (o : owned.Ghosts V.Denot I.
 post_send w V I F o r s = search (sendable, crosses, seat_send, answer.the_send) depth 60
 
 pub ask_sync : IsSync BatchAsk.the_row
-ask_sync = search (sendable, crosses) depth 60
+ask_sync = search (sendable, crosses, caller.the_field_sync) depth 60

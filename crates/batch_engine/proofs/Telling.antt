@@ -8,7 +8,7 @@ use Rattle.cqe_base.specs.Facts.{FactSet}
 use Rattle.cqe_base.specs.History.{UserProfile}
 use Rattle.cqe_base.specs.Run
 use Rattle.cqe_base.specs.Run.{Reply}
-use Rattle.cqe_base.specs.Transcript.{NamedUser, ScriptEvent, Caller, by_session, script_call, script_restart, Line, reply_line, restart_line, written_after}
+use Rattle.cqe_base.specs.Transcript.{NamedUser, ScriptEvent, Caller, script_call, script_restart, Line, reply_line, restart_line, written_after}
 use Rattle.cqe_base.specs.Transcript.{lines_after}
 use Rattle.cqe_base.specs.Transcript.{transcript, line_text}
 use Rattle.batch_engine.specs.BatchLines.{BatchItem, asked, restarted}
@@ -167,19 +167,19 @@ module _ (schema : DatabaseSchema) (world : FactSet) (users : List NamedUser) wh
           → OneMore events item line new says_broken
       one_more events old new says_broken (asked ask) line seated (told, tells, is, says) =
           let script = with_opening found opened events in
-          let next : Next schema world header directory Disk t read_is_image clock bytes before images script ask.name ask.session ask.text
+          let next : Next schema world header directory Disk t read_is_image clock bytes before images script ask.name ask.caller ask.text
           users new
           told =
-          told_next schema world header directory Disk t read_is_image clock bytes before images script ask.name ask.session ask.text
+          told_next schema world header directory Disk t read_is_image clock bytes before images script ask.name ask.caller ask.text
           users old new
           told distinct seated tells in
           record {
-            event = script_call ask.name (by_session ask.session) ask.text next.ending;
+            event = script_call ask.name ask.caller ask.text next.ending;
             is_event = (refl, refl, refl);
-            said = reply_line ask.name (by_session ask.session) told;
-            one = ap (λ r. reply_line ask.name (by_session ask.session) r ∷ []) next.replied;
+            said = reply_line ask.name ask.caller told;
+            one = ap (λ r. reply_line ask.name ask.caller r ∷ []) next.replied;
             line_is = is;
-            says_is = says ∙ sym (broken_told ask.name (by_session ask.session) told);
+            says_is = says ∙ sym (broken_told ask.name ask.caller told);
             seated = next.seated;
           }
       one_more events old new says_broken restarted line seated (again, is, says) =

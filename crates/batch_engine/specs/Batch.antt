@@ -7,7 +7,7 @@ use Rattle.cqe_base.specs.Facts.{FactSet}
 use Rattle.cqe_base.specs.Censor.{IsLegal, admitted}
 use Rattle.cqe_base.specs.Headline.{HidesInScript}
 use Rattle.cqe_base.specs.Run.{Event, desk_broken, opening, replies, final_history}
-use Rattle.cqe_base.specs.Transcript.{NamedUser, ScriptEvent, by_session, script_call}
+use Rattle.cqe_base.specs.Transcript.{NamedUser, ScriptEvent, script_call}
 use Rattle.cqe_base.specs.Transcript.{script_restart}
 use Rattle.cqe_base.specs.Transcript.{script_opening, Line, reply_line, own_events, own_replies}
 use Rattle.cqe_base.specs.Transcript.{state_after, transcript, line_text}
@@ -34,11 +34,11 @@ use Rattle.batch_engine.specs.declared.run.BatchEnd.{BatchEnd}
 use Rattle.batch_engine.specs.declared.run.BatchEnd.TheVariants.{Done, Script as Refused, ReadFault}
 use Rattle.batch_engine.specs.declared.run.BatchEnd.TheVariants.{WriteFault, ShelfFault, Memory}
 
--- an event is of an item: a session's ask with some ending, or a restart with some choice for each
+-- an event is of an item: a call with some ending, or a restart with some choice for each
 -- name
 abbrev pub IsEventOf : BatchItem → ScriptEvent → Type 0
 IsEventOf (asked ask) (script_call name caller text ending) =
-    (name ≡ ask.name) × (caller ≡ by_session ask.session) × (text ≡ ask.text)
+    (name ≡ ask.name) × (caller ≡ ask.caller) × (text ≡ ask.text)
 IsEventOf restarted (script_restart found opened) = Unit {0}
 IsEventOf item event = ⊥
 
@@ -48,7 +48,7 @@ AreEventsOf [] [] = Unit {0}
 AreEventsOf (item ∷ items) (event ∷ events) = IsEventOf item event × AreEventsOf items events
 AreEventsOf items events = ⊥
 
--- items of one stretch: asks, and maybe the restart that ends it
+-- items of one stretch: calls, and maybe the restart that ends it
 abbrev pub IsStretch : List BatchItem → Type 0
 IsStretch [] = Unit {0}
 IsStretch (asked ask ∷ items) = IsStretch items

@@ -4,7 +4,9 @@ use Rattle.std.specs.Prelude.{Option, Some, None, is_some, option_to_list}
 use Rattle.std.proofs.lemmas.List.{append-nil}
 use Rattle.std.proofs.lemmas.List.Sums.{sum_by-append}
 use Rattle.cqe_base.specs.declared.user.Mark as base
+use Rattle.cqe_base.specs.declared.user.Mark.TheVariants.{Protected}
 use Rattle.cqe_base.specs.declared.user.Purpose.{Purpose}
+use Rattle.cqe_base.specs.declared.user.Purpose.TheVariants.{Protecting}
 use Rattle.cqe_base.specs.Schema.{Text}
 use Rattle.cqe_base.specs.Formula.{Formula}
 use Rattle.cqe_base.specs.History.{AnsweredQuery}
@@ -17,6 +19,7 @@ use Rattle.turnstile.specs.Views.{turn_view, outside_view}
 use Rattle.turnstile.specs.Passes.{view_of, seen, mine, shares, tickets}
 use Rattle.user_log.specs.declared.reply.Reply.{Reply}
 use Rattle.user_log.specs.declared.reply.Reply.TheVariants.{Mark, Syntax, Full, Size, Closed, Sealed, Broken, Memory, Secrets, Unsafe}
+use Rattle.user_log.proofs.Keeping.{secret_means}
 use Rattle.desk_counter.specs.declared.item.TurnItem.{TurnItem}
 use Rattle.desk_counter.specs.declared.item.TurnItem.TheVariants.{Kept, Broke}
 use Rattle.desk_counter.specs.declared.item.Fixed.{Fixed}
@@ -102,6 +105,16 @@ module _ {D : Type 0} (fixed : Fixed D) where
   adds_reply {purpose = purpose} {text = text} {found = found} {after = after} {reply = reply} (coded none replied same) =
       inr (sym (ap (λ ps. reply_at fixed.schema fixed.world fixed.user (state_shown fixed ps) purpose text) (behind_code reply after none ∙ same) ∙ replied))
   adds_reply (wanted same) = inl refl
+
+  -- what is told of a secret that was added is its own mark
+  pub protected_mark : {ticket : ℕ} {text : Text} {found after : Entries TurnItem} {reply : Reply} → Adds fixed ticket Protecting text found after reply
+      → (mark : base.Mark) → reply ≡ Mark mark → mark ≡ Protected
+  protected_mark {text = text} {found = found} (answered {query = query} {mark = told} served answer added) mark is =
+      let same : told ≡ mark = cc in
+      sym same ∙ (secret_means fixed.schema fixed.world fixed.user (history_of found) text query told answer).4
+  protected_mark (broke served answer added) mark is = absurd cc
+  protected_mark (coded none replied same) mark is = absurd (subst (λ r. NoMark r) is none)
+  protected_mark (wanted same) mark is = absurd cc
 
   -- a mark is told with its entry
   pub asked_tells : {old new : Pass TurnItem (Fixed D)} {purpose : Purpose} {text : Text} (reply : Reply) → Asked fixed old new purpose text reply

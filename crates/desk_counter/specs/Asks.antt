@@ -92,6 +92,13 @@ module _ {D : Type 0} (fixed : Fixed D) where
     pub own : AddsAlike found (seen new) (mine old) (mine new)
     pub drew : tickets new ≡ tickets old ++ option_to_list looked ++ ticket ∷ []
 
+  -- What a call does with a pass in the turn that settles it: whatever it did with the pass before,
+  -- if it only looked, the whole is what a call does.
+  abbrev pub AskedBehind : Pass TurnItem (Fixed D) → Pass TurnItem (Fixed D) → Purpose → Text
+      → Reply → Type 0
+  AskedBehind mid new purpose text reply = (old : Pass TurnItem (Fixed D)) → Looked old mid
+      → Asked old new purpose text reply
+
   -- the pairs without the last one
   abbrev pub all_but_last : Entries TurnItem → Entries TurnItem
   all_but_last [] = []

@@ -7,6 +7,7 @@ ghost use Rattle.desk_counter.specs.Items.{pairs_of};
 ghost use Rattle.desk_counter.specs.Desks.{fixed_of};
 
 use crate::item::{Fixed, TurnItem};
+use cqe_base::user::Purpose;
 use entailment::GroundSentence;
 use outside::Disk;
 use std::alloc::{AllocError, Global};
@@ -57,7 +58,6 @@ impl<'w, D: Disk> TicketedDesk<'w, D> {
     ghost use Rattle.entailment.specs.GroundSentences.{sentence_of};
     ghost use Rattle.user_log.specs.Examiners.{examiner_schema, examiner_user};
     ghost use Rattle.user_log.specs.Examining.{IsExamined, IsLent};
-    ghost use Rattle.cqe_base.specs.declared.user.Purpose.TheVariants.{Asking};
     ghost use Rattle.cqe_base.specs.Censor.{IsLegal};
     ghost use Rattle.cqe_base.specs.Limits.{KeepsSizes};
     ghost use Rattle.cqe_base.specs.Run.{after_event, stop};
@@ -142,13 +142,14 @@ impl<'w, D: Disk> TicketedDesk<'w, D> {
         self.desk.lend(alloc, text, query)
     }
 
-    /// Settles a text in the turn of this ticket, with what was found of it before, if that was
-    /// done. The disk stays as it is where nothing is to be written, and where an append had failed
-    /// before; at every moment of the turn a crash leaves what it may leave of this ask.
+    /// Settles a text in the turn of this ticket, with what was found of a query before, if that
+    /// was done. The disk stays as it is where nothing is to be written, and where an append had
+    /// failed before; at every moment of the turn a crash leaves what it may leave of this call.
     pub(crate) fn settle(
         &mut self,
         alloc: Global,
         ticket: u64,
+        purpose: Purpose,
         text: &str,
         examined: Option<Examined<'w>>,
     ) -> Reply
@@ -157,7 +158,7 @@ impl<'w, D: Disk> TicketedDesk<'w, D> {
             (IsExamined (fixed_in self.old).schema (fixed_in self.old).user
             (history_of (pairs_in self.old)) text.now) }
         ensures fixed { fixed_in self.new ≡ fixed_in self.old }
-        ensures adds { Adds (fixed_in self.old) ticket Asking text.now (pairs_in self.old)
+        ensures adds { Adds (fixed_in self.old) ticket purpose text.now (pairs_in self.old)
             (pairs_in self.new) result }
         ensures broken { (result ≡ Reply.Broken) ↔ IsTrue (has_broke (pairs_in self.new)) }
         ensures untouched { HasNoWrite result
@@ -172,7 +173,7 @@ impl<'w, D: Disk> TicketedDesk<'w, D> {
             (desk_user (desk_of self.old)) (desk_header (desk_of self.old))
             (after_event (desk_schema (desk_of self.old)) (desk_world (desk_of self.old))
             (desk_user (desk_of self.old)) (state_of (desk_of self.old))
-            (stop Asking text.now)) c }
+            (stop purpose text.now)) c }
     {
         self.desk.known();
         if self.desk.broken() {
@@ -181,7 +182,7 @@ impl<'w, D: Disk> TicketedDesk<'w, D> {
         if self.tickets.reserve(1).is_err() {
             return Reply::Memory;
         }
-        let reply = self.desk.settle(alloc, text, examined);
+        let reply = self.desk.settle(alloc, purpose, text, examined);
         self.desk.known();
         match reply {
             Reply::Mark(_) => self.tickets.push_reserved(ticket),

@@ -111,14 +111,14 @@ of_users seed users some [] = tt
 of_users seed users some (t ∷ numbers) =
     (has_user seed (t % users) 0 users (omega arith) (let less = mod-lt t {m = users} some in omega (arith, less)), of_users seed users some numbers)
 
--- the name of an ask is one word
+-- an ask is a session's, and its name is one word
 abbrev IsPlainItem : BatchItem → Type 0
-IsPlainItem (asked ask) = list_all is_inside ask.name ≡ true
+IsPlainItem (asked ask) = (list_all is_inside ask.name ≡ true) × (purpose_of ask.caller ≡ Asking)
 IsPlainItem restarted = Unit {0}
 
 plain_asks : (seed users : ℕ) (numbers : List ℕ) → AllByRecursion IsPlainItem (map (workload_ask seed users) numbers)
 plain_asks seed users [] = tt
-plain_asks seed users (t ∷ numbers) = (decimal_inside (t % users), plain_asks seed users numbers)
+plain_asks seed users (t ∷ numbers) = ((decimal_inside (t % users), refl), plain_asks seed users numbers)
 
 -- what a session is told is the answer to an ask
 answer_told : (schema : DatabaseSchema) (world : FactSet) (user : UserProfile) (state : UserState) (text : Text) (ending : Ending)
@@ -147,8 +147,8 @@ plain_lines : (schema : DatabaseSchema) (world : FactSet) (users : List NamedUse
 plain_lines schema world users earlier [] items of plain = tt
 plain_lines schema world users earlier (event ∷ events) [] of plain = absurd of
 plain_lines schema world users earlier (script_call name caller text ending ∷ events) (asked one ∷ items) of plain = (
-  plain_told schema world name caller earlier text ending (find (λ u. bytes_eq u.name name) users) (ap (list_all is_inside) of.0.0 ∙ plain.0)
-      (ap purpose_of of.0.1),
+  plain_told schema world name caller earlier text ending (find (λ u. bytes_eq u.name name) users) (ap (list_all is_inside) of.0.0 ∙ plain.0.0)
+      (ap purpose_of of.0.1 ∙ plain.0.1),
   plain_lines schema world users (earlier ++ script_call name caller text ending ∷ []) events items of.1 plain.1,
 )
 plain_lines schema world users earlier (script_restart found opened ∷ events) (restarted ∷ items) of plain =

@@ -68,6 +68,7 @@ module _ (schema : DatabaseSchema) (world : FactSet) (user : UserProfile) (heade
   sealed_wide first before now last a b (Journal journal_error.NotAJournal) is = λ u. is t
   sealed_wide first before now last a b (Journal journal_error.OtherPolicy) is = λ u. is t
   sealed_wide first before now last a b (Journal (journal_error.Damaged number)) is = λ u. is t
+  sealed_wide first before now last a b (Journal journal_error.OldVersion) is = λ u. is t
   sealed_wide first before now last a b (Stale number) is = λ u. is t
   sealed_wide first before now last a b (Unlawful number stored computed) is = λ u. is t
   sealed_wide first before now last a b (Size number) is = λ u. is t

@@ -1,18 +1,16 @@
 -- What a call makes of a user's state, and what its moments stand for.
 use Rattle.std.proofs.Common.{◌≡◌, ◌⊎◌, ℕ, Bool, true, false, List, [], ◌∷◌, ◌++◌, length, refl, sym, ap, ◌∙◌, subst, inl, inr}
-use Rattle.std.specs.Prelude.{Option, Some, None, Result, Ok, Err, option_to_list, not}
+use Rattle.std.specs.Prelude.{Option, Some, None, Result, Ok, Err, option_to_list}
 use Rattle.std.proofs.lemmas.List.{append-nil}
 use Rattle.cqe_base.specs.declared.user.Mark.{Mark}
 use Rattle.cqe_base.specs.declared.user.Purpose.{Purpose}
-use Rattle.cqe_base.specs.declared.user.Purpose.TheVariants.{Asking}
 use Rattle.cqe_base.specs.Schema.{DatabaseSchema, Text}
 use Rattle.cqe_base.specs.Facts.{FactSet}
 use Rattle.cqe_base.specs.Formula.{Formula}
 use Rattle.cqe_base.specs.Reading.{Refusal, reading}
-use Rattle.cqe_base.specs.History.{UserProfile, AnsweredQuery, History, is_added}
+use Rattle.cqe_base.specs.History.{UserProfile, AnsweredQuery, History}
 use Rattle.cqe_base.specs.Run
 use Rattle.cqe_base.specs.Run.{UserState, standing_open, standing_closed, standing_sealed, want, kept, failed, call, stop, after_event, after_failure, reply_at}
-use Rattle.cqe_base.specs.Run.{AsksAreAnswered, is_answer}
 use Rattle.cqe_base.specs.Run.{entry_at, entry_added, marked, reply_by, user_closed, desk_sealed, desk_broken, no_memory, entries_found}
 use Rattle.outside.specs.Faults.{Rose}
 use Rattle.user_log.specs.Asked.{IsAnswer}
@@ -24,16 +22,6 @@ adds_none : (text : Text) (read : Result Formula Refusal) → (entry_added text 
     × (entry_added text read desk_broken ≡ None)
 adds_none text (Ok query) = (refl, refl, refl)
 adds_none text (Err why) = (refl, refl, refl)
-
--- a mark that answers a text that was asked is none of an addition
-pub asked_mark : (schema : DatabaseSchema) (world : FactSet) (user : UserProfile) (entries : History) (text : Text) (query : Formula) (mark : Mark)
-    → AsksAreAnswered → IsAnswer schema world user entries Asking text query mark → is_added mark ≡ false
-asked_mark schema world user entries text query mark answered answer =
-    by (is_added mark) (ap is_answer (sym answer.answer) ∙ answered schema world user entries standing_open false text)
-  where
-    by : (added : Bool) → not added ≡ true → added ≡ false
-    by true e = absurd cc
-    by false e = refl
 
 module _ (schema : DatabaseSchema) (world : FactSet) (user : UserProfile) where
   -- a code leaves the state

@@ -161,7 +161,7 @@ module _ (schema : DatabaseSchema) (world : FactSet) (user : UserProfile) where
   journal_or_not header bytes = same
       (λ p. (journals_are_walked header (records bytes) bytes).1 (record { long = p.0; begins = p.1.0; whole = p.1.1; are = refl }))
       (λ is. let walk = (journals_are_walked header (records bytes) bytes).0 is in (walk.long, (walk.begins, walk.whole)))
-      (both (at_least 73 (length bytes)) (both (lists (take 72 bytes) header) (none (damaged 0 0 (drop 72 bytes)))))
+      (both (at_least 73 (length bytes)) (both (lists (take 72 bytes) header) (none (damaged 5 0 0 (drop 72 bytes)))))
 
   -- of one list of entries
   of_entries : (header bytes : List ℕ) (entries : History) → StandsFor schema header entries bytes → OrNot (Opens schema world user header entries bytes)

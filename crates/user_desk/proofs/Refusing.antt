@@ -24,7 +24,7 @@ use Rattle.log_journal.specs.Opening as journal
 use Rattle.log_journal.specs.Opening.{header_bytes, first_eight}
 use Rattle.log_journal.specs.declared.header.Header.{Header}
 use Rattle.log_journal.specs.declared.header.OpenError.{OpenError}
-use Rattle.log_journal.specs.declared.header.OpenError.TheVariants.{NotAJournal, OtherPolicy, Damaged, DiskFault, Memory}
+use Rattle.log_journal.specs.declared.header.OpenError.TheVariants.{NotAJournal, OtherPolicy, Damaged, DiskFault, Memory, OldVersion}
 use Rattle.user_desk.specs.Entries.{mark_of, purpose_by, entry_by, entry_of}
 use Rattle.user_desk.specs.Causes.{Opens, is_beyond, RefusesRecord, RefusesRecords, Refuses, IsSealedBy, IsStanding, IsReplay}
 use Rattle.user_desk.specs.declared.standing.DeskError.{DeskError}
@@ -164,7 +164,8 @@ module _ (schema : DatabaseSchema) (world : FactSet) (user : UserProfile) where
   -- bytes that open a desk show no reason to refuse them
   pub not_refused : (header : Header) (bytes : List ℕ) (entries : History) (why : DeskError) → Opens schema world user (header_bytes header) entries bytes
       → Refuses schema world user (header_bytes header) bytes why → ⊥
-  not_refused header bytes entries (Journal why) opens refused = unrefused header (records bytes) bytes opens.stands.journal why refused
+  not_refused header bytes entries (Journal why) opens refused =
+      unrefused 5 (header_bytes header) (records bytes) bytes (opens.stands.journal, opens.stands.journal.each) why refused
   not_refused header bytes entries (NotAdmitted admission) opens refused =
       refused.3 (no_records (records bytes) entries opens.stands.are (opens.none refused.1))
   not_refused header bytes entries (Stale number) opens refused =
@@ -188,6 +189,8 @@ module _ (schema : DatabaseSchema) (world : FactSet) (user : UserProfile) where
       absurd (not_refused header bytes entries (Journal OtherPolicy) opens (sealed is))
   sealed_by_fault told header bytes entries before now (Journal (Damaged number)) is opens sealed =
       absurd (not_refused header bytes entries (Journal (Damaged number)) opens (sealed is))
+  sealed_by_fault told header bytes entries before now (Journal OldVersion) is opens sealed =
+      absurd (not_refused header bytes entries (Journal OldVersion) opens (sealed is))
   sealed_by_fault told header bytes entries before now (NotAdmitted admission) is opens sealed =
       absurd (not_refused header bytes entries (NotAdmitted admission) opens (sealed is))
   sealed_by_fault told header bytes entries before now (Stale number) is opens sealed =

@@ -6,7 +6,6 @@ ghost use Rattle.outside.specs.Disk.{Elapses};
 ghost use Rattle.outside.specs.Faults.{Rose};
 ghost use Rattle.cqe_base.specs.Formula.{formula_of};
 ghost use Rattle.cqe_base.specs.History.{answered_query_of, profile_of};
-ghost use Rattle.cqe_base.specs.declared.user.Purpose.TheVariants.{Asking};
 ghost use Rattle.cqe_base.specs.Limits.{KeepsLimits, KeepsSizes};
 ghost use Rattle.cqe_base.specs.Censor.{IsLegal, admitted};
 ghost use Rattle.cqe_base.specs.Run.{UserState, after_event, stop};
@@ -21,7 +20,6 @@ ghost use Rattle.user_desk.specs.Standings.{is_open, is_sealed};
 use crate::kinds::kind_of;
 use crate::standing::Standing;
 use crate::store::Store;
-use cqe_base::laws::law_asks_are_answered;
 use cqe_base::sentence::Sentence;
 use cqe_base::user::{Entry, Mark, Purpose, User};
 use entailment::GroundSentence;
@@ -190,11 +188,17 @@ impl<'w, D: Disk> Desk<'w, D> {
         self.log.lend(alloc, text, query)
     }
 
-    /// The reply to a text that is asked, by the items so far, with what was found of it before, if
-    /// that was done. A mark comes once its item is on the disk, and adds it; want of memory and a
-    /// code change nothing, and from the first write on the answer is a mark or that the append
-    /// failed. Once one had failed before, the disk stays as it is.
-    pub fn settle(&mut self, alloc: Global, text: &str, examined: Option<Examined<'w>>) -> Reply
+    /// The reply to a call by the items so far, with what was found of a query before, if that was
+    /// done. A mark comes once its item is on the disk, and adds it; want of memory and a code
+    /// change nothing, and from the first write on the answer is a mark or that the append failed.
+    /// Once one had failed before, the disk stays as it is.
+    pub fn settle(
+        &mut self,
+        alloc: Global,
+        purpose: Purpose,
+        text: &str,
+        examined: Option<Examined<'w>>,
+    ) -> Reply
         requires short { length text.now ≤ 4096 }
         requires examined { IfSome examined (IsExamined (desk_schema self.old) (desk_user self.old)
             (desk_history self.old) text.now) }
@@ -204,7 +208,7 @@ impl<'w, D: Disk> Desk<'w, D> {
         // It is a call of the run, with its reply and its ending.
         ensures settled { (state : UserState) → IsIn self.old state
             → Settles (desk_schema self.old) (desk_world self.old) (desk_user self.old)
-            (IsIn self.new) state Asking text.now
+            (IsIn self.new) state purpose text.now
             (reply_of result) (D.faults (desk_disk self.old)) (D.faults (desk_disk self.new)) }
         ensures broken { (result ≡ Reply.Broken) ↔ IsTrue (is_broken_desk self.new) }
         ensures untouched { HasNoWrite result → desk_disk self.new ≡ desk_disk self.old }
@@ -219,7 +223,7 @@ impl<'w, D: Disk> Desk<'w, D> {
             (desk_header self.old)
             (after_event (desk_schema self.old) (desk_world self.old) (desk_user self.old)
             (state_of self.old)
-            (stop Asking text.now)) c }
+            (stop purpose text.now)) c }
         ensures time { Elapses (D.moment (desk_disk self.old)) (D.moment (desk_disk self.new))
             (D.image_since (desk_disk self.old)) (D.image_since (desk_disk self.new)) }
     {
@@ -227,8 +231,8 @@ impl<'w, D: Disk> Desk<'w, D> {
         if let Some(code) = self.refusal() {
             return code;
         }
-        match self.log.weigh(alloc, Purpose::Asking, text, examined) {
-            Ok(Weighed::Answer(query, mark)) => self.record(alloc, text, query, mark),
+        match self.log.weigh(alloc, purpose, text, examined) {
+            Ok(Weighed::Answer(query, mark)) => self.record(alloc, purpose, text, query, mark),
             Ok(Weighed::Code(code)) => code,
             Err(_) => Reply::Memory,
         }
@@ -255,17 +259,25 @@ impl<'w, D: Disk> Desk<'w, D> {
         }
     }
 
-    // Appends the item of a text that was asked and weighed to the journal, and adds it to the log.
-    fn record(&mut self, alloc: Global, text: &str, query: Sentence, mark: Mark) -> Reply
+    // Appends the item of a text that was weighed to the journal, and adds it to the log. What the
+    // call was made for is what its clauses speak of.
+    fn record(
+        &mut self,
+        alloc: Global,
+        purpose: Purpose,
+        text: &str,
+        query: Sentence,
+        mark: Mark,
+    ) -> Reply
         requires short { length text.now ≤ 4096 }
         requires opened { desk_standing self.old ≡ Standing.Open }
         requires whole { entry_in_flight self.old ≡ None }
         requires answer { IsAnswer (desk_schema self.old) (desk_world self.old) (desk_user self.old)
-            (desk_history self.old) Asking text.now (formula_of query) mark }
+            (desk_history self.old) purpose text.now (formula_of query) mark }
         ensures same { IsOfSame self.old self.new }
         ensures opening { IsOfOneOpening self.old self.new }
         ensures settled { Settles (desk_schema self.old) (desk_world self.old) (desk_user self.old)
-            (λ state. state ≡ state_of self.new) (state_of self.old) Asking text.now
+            (λ state. state ≡ state_of self.new) (state_of self.old) purpose text.now
             (reply_of result) (D.faults (desk_disk self.old)) (D.faults (desk_disk self.new)) }
         ensures broken { (result ≡ Reply.Broken) ↔ IsTrue (is_broken_desk self.new) }
         ensures untouched { HasNoWrite result → desk_disk self.new ≡ desk_disk self.old }
@@ -276,11 +288,10 @@ impl<'w, D: Disk> Desk<'w, D> {
             (desk_header self.old)
             (after_event (desk_schema self.old) (desk_world self.old) (desk_user self.old)
             (state_of self.old)
-            (stop Asking text.now)) c }
+            (stop purpose text.now)) c }
         ensures time { Elapses (D.moment (desk_disk self.old)) (D.moment (desk_disk self.new))
             (D.image_since (desk_disk self.old)) (D.image_since (desk_disk self.new)) }
     {
-        law_asks_are_answered();
         self.log.known();
         self.store.known();
         let Ok(prepared) = self.log.prepare(alloc, text, query, mark) else {

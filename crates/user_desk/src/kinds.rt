@@ -1,6 +1,5 @@
 //! The kinds of records and the marks that they stand for.
-ghost use Rattle.std.specs.Prelude.{◌≡◌, ◌≤◌, false, Some};
-ghost use Rattle.cqe_base.specs.History.{is_added};
+ghost use Rattle.std.specs.Prelude.{◌≡◌, ◌≤◌, Some};
 ghost use Rattle.user_desk.specs.Entries.{kind_of, mark_of, purpose_by};
 
 use cqe_base::user::{Mark, Purpose};
@@ -11,7 +10,6 @@ pub(crate) fn kind_of(mark: Mark) -> u8
     ensures back { mark_of result ≡ Some mark }
     ensures low { 1 ≤ result }
     ensures high { result ≤ 5 }
-    ensures asked { is_added mark ≡ false → result ≤ 4 }
 {
     match mark {
         Mark::Yes => 1,

@@ -32,7 +32,7 @@ pub(crate) fn replay<'w>(
 ) -> Result<(UserLog<'w>, Standing), AllocError>
     requires limits { KeepsLimits schema.now (profile_of user.now) }
     requires admission { admission ≡ admission_of schema.now world.now (profile_of user.now) }
-    requires each { All IsRecord records.now }
+    requires each { All (IsRecord 5) records.now }
     ensures log { IfOk result (λ r. IsLogOf schema.now world.now (profile_of user.now) r.0) }
     ensures replay { IfOk result (λ r.
         IsReplay schema.now world.now (profile_of user.now) (map recorded records.now)
@@ -57,7 +57,7 @@ fn replay_records<'w>(
     records: &[Record],
 ) -> Result<(UserLog<'w>, Standing), AllocError>
     requires limits { KeepsLimits schema.now (profile_of user.now) }
-    requires each { All IsRecord records.now }
+    requires each { All (IsRecord 5) records.now }
     requires admitted { admitted schema.now world.now (profile_of user.now) ≡ true }
     ensures log { IfOk result (λ r. IsLogOf schema.now world.now (profile_of user.now) r.0) }
     ensures replay { IfOk result (λ r.
@@ -81,7 +81,7 @@ fn take_record(
     log: &mut UserLog<'_>,
     next: &Record,
 ) -> Result<Option<DeskError>, AllocError>
-    requires { IsRecord next.now }
+    requires { IsRecord 5 next.now }
     ensures same { IsOfSame log.old log.new }
     ensures taken { IfOk result
         (IsTaken (kept_schema log.old) (kept_world log.old) (kept_user log.old)

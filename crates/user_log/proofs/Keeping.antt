@@ -12,7 +12,7 @@ use Rattle.cqe_base.specs.Schema.{DatabaseSchema, Text}
 use Rattle.cqe_base.specs.Reading.{ReadingsAreSentences}
 use Rattle.cqe_base.specs.Run.{marked, history_full, too_large, reply_by, protection_by, standing_open, is_full, is_too_large}
 use Rattle.cqe_base.specs.Run.{is_too_large_secret, has_all_secrets}
-use Rattle.user_log.specs.Asked.{IsSomeAnswer}
+use Rattle.user_log.specs.Asked.{IsAnswer, IsSomeAnswer}
 use Rattle.cqe_base.specs.Facts.{FactSet}
 use Rattle.cqe_base.specs.Formula.{Formula}
 use Rattle.cqe_base.specs.Truth.{true_in}
@@ -151,6 +151,15 @@ protection_means false false true safe mark e = absurd cc
 protection_means false false false false mark e = absurd cc
 protection_means false false false true mark e = (refl, refl, refl, refl, cc)
 
+pub secret_means : (schema : DatabaseSchema) (world : FactSet) (user : UserProfile) (entries : History) (text : Text) (secret : Formula) (mark : Mark)
+    → IsAnswer schema world user entries Protecting text secret mark
+    → (is_full entries (length text) ≡ false) × (is_too_large_secret schema user entries secret ≡ false) × (has_all_secrets user entries ≡ false)
+    × (safe_after schema user entries secret ≡ true) × (mark ≡ Protected)
+secret_means schema world user entries text secret mark is =
+    protection_means (is_full entries (length text)) (is_too_large_secret schema user entries secret) (has_all_secrets user entries)
+    (safe_after schema user entries secret) mark
+    (ap (reply_by schema world user entries standing_open false Protecting text) (sym is.read) ∙ is.answer)
+
 -- the item of an answer came within the limits, and is legal
 pub answer_fits : (schema : DatabaseSchema) (world : FactSet) (user : UserProfile) (entries : History) (text : Text) (query : Formula) (mark : Mark)
     → ReadingsAreSentences → RulesAddNone → IsSomeAnswer schema world user entries text query mark
@@ -172,11 +181,7 @@ answer_fits schema world user entries text query mark sentences none (Asking, is
       record { has_mark = λ _. means.2; is_safe = λ added. absurd (both_ways (is_added mark) asked added) },
     )
 answer_fits schema world user entries text query mark sentences none (Protecting, is) =
-    let told : reply_by schema world user entries standing_open false Protecting text (Ok query) ≡ marked mark =
-    ap (reply_by schema world user entries standing_open false Protecting text) (sym is.read) ∙ is.answer in
-    let means =
-    protection_means (is_full entries (length text)) (is_too_large_secret schema user entries query) (has_all_secrets user entries)
-    (safe_after schema user entries query) mark told in (
+    let means = secret_means schema world user entries text query mark is in (
       record {
         sentence = sentences schema text query is.read;
         room = means.0;

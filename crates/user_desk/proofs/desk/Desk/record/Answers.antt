@@ -2,7 +2,6 @@ use Rattle.std.proofs.Common.{◌≡◌, ◌++◌, ◌∷◌, [], List, ℕ, len
 use Rattle.std.specs.Prelude.{Option, Some, is_some, ◌⊎◌}
 use Rattle.std.proofs.lemmas.List.{take-append-le}
 use Rattle.outside.specs.Faults.{Rose}
-use Rattle.cqe_base.specs.declared.user.Purpose.TheVariants.{Asking}
 use Rattle.cqe_base.specs.Formula.{formula_of}
 use Rattle.cqe_base.specs.History.{AnsweredQuery, History}
 use Rattle.log_journal.specs.Records.{Recorded, KeepsOrAdds}
@@ -13,7 +12,7 @@ use Rattle.user_desk.specs.Desks.{entry_in_flight, state_of}
 use Rattle.user_desk.specs.Lives.{shown}
 use Rattle.user_desk.specs.Standings.{is_sealed, standing_of}
 use Rattle.user_desk.specs.Stored.{stored_disk, opened_disk}
-use Rattle.user_desk.proofs.Asking.{asked_mark, failure_settles}
+use Rattle.user_desk.proofs.Asking.{failure_settles}
 use Rattle.user_desk.proofs.Recording.{still_holds, record_of_answer, legal_back, sizes_back, IsGrowing, growing, kept_added, kept_flying, moment_holds}
 use Rattle.user_desk.proofs.Sizes.{size_added}
 use Rattle.user_desk.proofs.Since.{split_moments, since_added, since_flying, some_not_none}
@@ -60,22 +59,15 @@ split g c told =
     c.reserve.ensures.disk (c.append.ensures.opened ∙ c.reserve.ensures.opened) c.known-2.ensures.time.later c.append.ensures.time
     (c.append.ensures.moments told)
 
-pub append-requires-clause-high : goal.append-requires-clause-high
-append-requires-clause-high g c =
-    let log = c.args.self.now.log in
-    c.kind_of.ensures.asked
-    (asked_mark (kept_schema log) (kept_world log) (kept_user log) (kept_history log) c.args.text.now (formula_of c.args.query) c.args.mark
-    c.law_asks_are_answered.ensures c.requires.answer)
-
 -- ---- where there was no room
 
 pub prepare-requires-clause-answer : goal.prepare-requires-clause-answer
-prepare-requires-clause-answer g c = (Asking, c.requires.answer)
+prepare-requires-clause-answer g c = (c.args.purpose, c.requires.answer)
 
 pub returns-then-is_err-clause-moments : goal.returns-then-is_err-clause-moments
 returns-then-is_err-clause-moments g c told c' here =
     let desk = c.args.self.now in
-    still_holds _ _ _ _ _ _ _ _ _ _ _ desk.kept c.known.ensures.legal c.known.ensures.sizes Asking c.args.text.now
+    still_holds _ _ _ _ _ _ _ _ _ _ _ desk.kept c.known.ensures.legal c.known.ensures.sizes c.args.purpose c.args.text.now
     (ap is_sealed c.requires.opened) c.requires.whole told c'
     (g.met.D.Disk.only_now (stored_disk desk.store) c'
     (subst (λ d. g.D.Disk.image_since d (g.D.Disk.moment (stored_disk desk.store)) c') c.reserve.ensures.disk here))
@@ -112,7 +104,7 @@ invariant_of-self-in-Ok-append g c =
 
 pub returns-in-Ok-append-clause-moments : goal.returns-in-Ok-append-clause-moments
 returns-in-Ok-append-clause-moments g c told c' here =
-    moment_holds (grows g (goal.at.returns-in-Ok-append-clause-moments g c).After-append) Asking c.args.text.now (formula_of c.args.query) c.args.mark
+    moment_holds (grows g (goal.at.returns-in-Ok-append-clause-moments g c).After-append) c.args.purpose c.args.text.now (formula_of c.args.query) c.args.mark
     c.requires.answer refl told c' (c.append.ensures.moments told c'
     (subst (λ d. g.D.Disk.image_since (stored_disk c.append.new.self) (g.D.Disk.moment d) c') (sym c.reserve.ensures.disk) here))
 
@@ -150,14 +142,14 @@ returns-in-Err-clause-settled g c =
     let rose = subst (λ d. Rose (g.D.Disk.faults d) (g.D.Disk.faults (stored_disk c.append.new.self))) c.reserve.ensures.disk c.in-Err.ensures.cause in
     let flies = ap (λ (h : History). shown h standing (Some (prepared_entry c.in-Ok.prepared))) c.in-Ok.ensures.unchanged
     ∙ ap (λ (e : AnsweredQuery). shown (kept_history desk.log) standing (Some e)) c.in-Ok.ensures.entry in
-    failure_settles (kept_schema desk.log) (kept_world desk.log) (kept_user desk.log) (state_of desk) _ Asking c.args.text.now
+    failure_settles (kept_schema desk.log) (kept_world desk.log) (kept_user desk.log) (state_of desk) _ c.args.purpose c.args.text.now
     (formula_of c.args.query) c.args.mark _ _
     (ap standing_of c.requires.opened) (ap (λ (o : Option AnsweredQuery). is_some o) c.requires.whole) c.requires.answer rose
     (ap (λ (e : AnsweredQuery). shown (kept_history c.prepare.new.self) standing (Some e)) c.into_entry.ensures ∙ flies)
 
 pub returns-in-Err-clause-moments : goal.returns-in-Err-clause-moments
 returns-in-Err-clause-moments g c told c' here =
-    moment_holds (grows g (goal.at.returns-in-Err-clause-moments g c).After-append) Asking c.args.text.now (formula_of c.args.query) c.args.mark
+    moment_holds (grows g (goal.at.returns-in-Err-clause-moments g c).After-append) c.args.purpose c.args.text.now (formula_of c.args.query) c.args.mark
     c.requires.answer refl told c' (c.append.ensures.moments told c'
     (subst (λ d. g.D.Disk.image_since (stored_disk c.append.new.self) (g.D.Disk.moment d) c') (sym c.reserve.ensures.disk) here))
 
