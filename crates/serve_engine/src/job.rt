@@ -8,6 +8,7 @@ use outside::{Disk, Gate, Sink, Source};
 use session_core::{Counters, CountersOf, Passes, serve_session};
 use std::alloc::Global;
 use std::sync::Wait;
+use std::thread::Threads;
 use worker_pool::Job;
 
 /// What a worker does with each connection. It stands for a `SessionJob` wherever a thread is to
@@ -98,7 +99,7 @@ impl<'a, 'w, D: Disk, G: Gate, Src: Source, Snk: Sink> Job<Src, Snk>
           (passes_in (job_passes after)) first.1 second.1,
     ) };
 
-    fn run<R: Wait>(
+    fn run<R: Threads + Wait + Sync>(
         &mut self,
         rt: &R,
         alloc: Global,

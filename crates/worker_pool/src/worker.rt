@@ -6,6 +6,7 @@ ghost use Rattle.worker_pool.specs.Jobs.{AreUntouchedEnds};
 use outside::{Sink, Source};
 use std::alloc::Global;
 use std::sync::Wait;
+use std::thread::Threads;
 
 /// What a worker does with each connection.
 pub trait Job<Src: Source, Snk: Sink> {
@@ -28,8 +29,15 @@ pub trait Job<Src: Source, Snk: Sink> {
     /// What each run keeps: the job before and after.
     ghost keeps: { Self → Self → Type 0 };
 
-    /// Serves a connection. It may wait for another thread.
-    fn run<R: Wait>(&mut self, rt: &R, alloc: Global, number: u64, source: &mut Src, sink: &mut Snk)
+    /// Serves a connection. It may start threads, and wait for another thread.
+    fn run<R: Threads + Wait + Sync>(
+        &mut self,
+        rt: &R,
+        alloc: Global,
+        number: u64,
+        source: &mut Src,
+        sink: &mut Snk,
+    )
         requires room { 1 ≤ room self.old }
         requires few { ran self.old < 2 ^ 31 }
         ensures room { room self.old ≤ room self.new + 1 }
