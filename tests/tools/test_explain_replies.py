@@ -176,6 +176,13 @@ class Codes(InDirectory):
                                       policy=POLICY)
         self.assertSays(finding, "logged in already")
 
+    def test_sentences_that_cannot_be_listed(self):
+        table = [("error 28 1", "exists"), ("error 28 2", "256"), ("error 28 3", "too long")]
+        for reply, words in table:
+            with self.subTest(reply):
+                self.assertSays(self.explained_once("list 1 hiv(ann)", reply, policy=POLICY), "can't be listed", words)
+        self.assertSays(self.explained_once("list 5 hiv(ann)", "error 26", policy=POLICY), "list K SENTENCE")
+
     @program.needed
     def test_the_program_says_so(self):
         closed = POLICY + '[[users]]\nname = "tom"\nmethod = "refusal"\nknow = ["hiv(bob)"]\nsecrets = ["hiv(ann)"]\n'

@@ -138,7 +138,7 @@ class Explainer:
             self.said.append(("reply", line))
             self.replies += 1
             return True
-        if re.match(r"(login|ask)( |\Z)|quit\Z", line):
+        if re.match(r"(login|ask|list)( |\Z)|quit\Z", line):
             self.said.append(("request", line))
             return True
         return False
@@ -192,7 +192,7 @@ class Explainer:
         if code is None:
             return None
         ask = ask or replies.Asked(user)
-        kind, place = (int(code[2]), int(code[3])) if code[2] else (None, None)
+        kind, place = (int(number) if number else None for number in code.group(2, 3))
         return replies.explain(line, int(code[1]), kind, place, ask, self.context)
 
     def of_item(self, item, user):

@@ -6,8 +6,9 @@ from . import schemas, texts
 from .places import Finding, Spot, quoted
 from .sentences import Refused, nodes_of
 
-CODE = re.compile(r"error ([0-9]+)(?: ([0-9]+) ([0-9]+))?\Z")
-REPLY = re.compile(r"(?:yes|no|refused|undecided|welcome|bye|error [0-9]+(?: [0-9]+ [0-9]+)?)\Z")
+CODE = re.compile(r"error ([0-9]+)(?: ([0-9]+)(?: ([0-9]+))?)?\Z")
+# Of the lines of a list that was opened the last one stands for its reply.
+REPLY = re.compile(r"(?:yes|no|refused|undecided|welcome|bye|done [0-9]+|error [0-9]+(?: [0-9]+){0,2})\Z")
 BATCH = re.compile(r"([A-Za-z][A-Za-z0-9_]*) ([0-9]+) (.*)\Z")
 
 CLOSED = ("Reasons: what he knows entails one of his secrets, or for lying that one of them is true; he is of method "
@@ -32,10 +33,21 @@ class Asked:
         return Spot(self.source, self.start + begin, self.start + (len(whole) if end is None else end))
 
 
+# The words that begin a session's lines.
+WORDS = (b"ask", b"list", b"login", b"quit")
+
+# Why a sentence can't be listed so, and what to do, by the number behind the code.
+SHAPES = {
+    1: ("it doesn't begin with as many exists as are to be listed", "write each exists at the front, or list fewer"),
+    2: ("their domains give more than 256 instances", "list fewer quantifiers, or ask for each constant instead"),
+    3: ("some instance would be too long or too deep to be asked", "write a shorter sentence, or ask for each constant"),
+}
+
+
 def explain(said, code, kind, place, asked, context):
     """The meaning of a reply `error CODE ..`."""
     maker = {20: no_sentence, 21: too_large, 22: full, 23: no_user, 24: closed, 25: no_login, 26: no_line,
-             40: not_appended,
+             28: no_list, 40: not_appended,
              41: sealed, 50: no_memory}.get(code)
     if maker is None:
         return Finding(said, f"The reply error {code} isn't one of the formats.")
@@ -47,7 +59,7 @@ def who(asked):
 
 
 def no_sentence(said, kind, place, asked, context):
-    if kind is None:
+    if place is None:
         return Finding(said, "The text of the question is no sentence.", asked.spot(), texts.ADVICE[2])
     if asked.text is None:
         return Finding(said, f"The text of the question is no sentence: "
@@ -127,16 +139,24 @@ def login_fault(said, asked, context):
                    advice)
 
 
+def no_list(said, kind, place, asked, context):
+    """A sentence that can't be listed so: `kind` is the number behind the code."""
+    meaning, advice = SHAPES.get(kind, ("for a reason that no format names", None))
+    return Finding(said, f"The sentence can't be listed so: {meaning}.", asked.spot(), advice)
+
+
 def no_line(said, kind, place, asked, context):
-    advice = ("a session has the lines login NAME PHRASE (once), ask SENTENCE and quit, in small letters, with one "
-              "blank, in ASCII, of at most 4,096 bytes")
+    advice = ("a session has the lines login NAME PHRASE (once), ask SENTENCE, list K SENTENCE and quit, in small "
+              "letters, with one blank, in ASCII, of at most 4,096 bytes")
     meaning = "The session doesn't know this line, or it is a second login."
     if asked.request is not None:
         word = asked.request.split(b" ")[0]
         if word == b"login":
             meaning = ("Somebody is logged in already, or the line isn't login NAME PHRASE with a phrase of 1 to 256 "
                        "bytes.")
-        elif word.lower() in (b"ask", b"login", b"quit") and word not in (b"ask", b"login", b"quit"):
+        elif word == b"list":
+            meaning = "The line isn't list K SENTENCE with one digit from 1 to 4."
+        elif word.lower() in WORDS and word not in WORDS:
             meaning = f"The session doesn't know {quoted(word)}: its words are in small letters."
         elif not asked.request.isascii():
             meaning = "The line has bytes that aren't ASCII, and a session knows ASCII alone."

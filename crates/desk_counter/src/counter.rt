@@ -11,6 +11,7 @@ use crate::item::{Fixed, TurnItem};
 use crate::ticketed_desk::{Owned, TicketedDesk};
 use censors::LentViews;
 use cqe_base::laws::law_logs;
+use cqe_base::schema::Schema;
 use cqe_base::user::User;
 use entailment::GroundSentence;
 use outside::{Disk, Gate, Point};
@@ -108,6 +109,13 @@ impl<'w, D: Disk> CounterOf<'w, TicketedDesk<'w, D>> {
         ensures { profile_of result.now ≡ (kept_by self.now).user }
     {
         self.examiner.user()
+    }
+
+    /// The schema of its texts.
+    pub fn schema(&self) -> &'w Schema
+        ensures { result.now ≡ (kept_by self.now).schema }
+    {
+        self.examiner.schema()
     }
 
     /// Splits off a pass with one share and 2^57 turns, which has seen as much. It takes no memory.

@@ -47,6 +47,7 @@ pub fn request_text(alloc: Global, line: &str) -> Result<String, AllocError> {
     match read_request(line.as_bytes()) {
         Request::Login { user, phrase } => format!(in alloc; "login <{user}> <{phrase}>"),
         Request::Ask(text) => format!(in alloc; "ask <{text}>"),
+        Request::List { count, text } => format!(in alloc; "list {count} <{text}>"),
         Request::Quit => String::from_str(alloc, "quit"),
         Request::Other => String::from_str(alloc, "other"),
     }

@@ -148,6 +148,8 @@ fn replies_are_lines(rt: HostRuntime) -> Result<(), Fail> {
         (greatest, "error 20 255 4294967295\n"),
         (Reply::Code(25), "error 25\n"),
         (Reply::Code(7), "error 7\n"),
+        (Reply::Shape(1), "error 28 1\n"),
+        (Reply::Done(256), "done 256\n"),
         (Reply::Welcome, "welcome\n"),
         (Reply::Bye, "bye\n"),
     ];

@@ -74,6 +74,13 @@ impl<'w> Examiner<'w> {
         self.user
     }
 
+    /// The schema of his texts.
+    pub fn schema(&self) -> &'w Schema
+        ensures { result.now ≡ examiner_schema self.now }
+    {
+        self.schema
+    }
+
     /// The query that a text is, with its ground formula. There is none where the text is no
     /// sentence or a large one, or memory is wanting.
     pub fn read(&self, alloc: Global, text: &str) -> Option<GroundSentence>

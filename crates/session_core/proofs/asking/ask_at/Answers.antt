@@ -11,7 +11,7 @@ use Rattle.desk_counter.proofs.Pairs.{broke_last}
 use Rattle.session_core.proofs.Replying.{asks_once}
 use Rattle.session_core.proofs.Legality.{legal_set}
 use Rattle.session_core.proofs.Passing.{passes_many, pass_at, passes_set, asked_at, turns_at}
-use Rattle.session_core.proofs.session.ask_at.Goals as goal
+use Rattle.session_core.proofs.asking.ask_at.Goals as goal
 
 pub index_mut-pass-requires : goal.index_mut-pass-requires
 index_mut-pass-requires g c =
