@@ -1,5 +1,0 @@
-pub mod Probing
-pub mod Found
-pub mod Objections
-pub mod Costs
-pub mod Crossing

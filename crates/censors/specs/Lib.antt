@@ -1,6 +1,0 @@
-pub mod Guards
-pub mod GuardsInside
-pub mod Found
-pub mod Asked
-pub mod Admitting
-pub mod Costs

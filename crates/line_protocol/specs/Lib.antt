@@ -1,7 +1,0 @@
-pub mod Buffer
-pub mod Feeds
-pub mod Logins
-pub mod Reads
-pub mod Replies
-pub mod Requests
-pub mod Words
