@@ -12,4 +12,3 @@ pub mod Ordering
 pub mod Ending
 pub mod Failing
 pub mod Joining
-pub mod Crossing
