@@ -12,3 +12,4 @@ pub mod Ordering
 pub mod Ending
 pub mod Failing
 pub mod Joining
+pub mod Crossing

@@ -1,8 +1,14 @@
+use denote.Param.Send.{sendable}
 use Rattle.std.proofs.Common.{subst}
 use Rattle.std.specs.Prelude.{slice_index_or}
+use Rattle.desk_counter.proofs.Crossing.{ticketed_desk_send}
 use Rattle.batch_engine.specs.Batches.{asks_in}
 use Rattle.batch_engine.specs.Posts.{RunsOwn}
+use Rattle.batch_engine.proofs.Crossing.{post_send}
 use Rattle.batch_engine.proofs.post.answer_each.Goals as goal
+
+pub for_each_mut-requires-send-T : goal.for_each_mut-requires-send-T
+for_each_mut-requires-send-T g c κs within = search (sendable, post_send, ticketed_desk_send) depth 30
 
 pub returns-clause-own : goal.returns-clause-own
 returns-clause-own g c = λ k d low.

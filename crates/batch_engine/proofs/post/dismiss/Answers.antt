@@ -1,4 +1,4 @@
-use Rattle.std.proofs.Common.{◌+◌, ◌∷◌, ◌++◌, [], length, map, refl, sym, ap, ◌∙◌, append_assoc, append-nil, length-append, arith, rules}
+use Rattle.std.proofs.Common.{◌∷◌, ◌++◌, [], length, map, refl, sym, ap, ◌∙◌, append_assoc, append-nil, length-append, arith, rules}
 use Rattle.std.specs.List.{flat_map}
 use Rattle.std.proofs.lemmas.List.{map-append, length-map}
 use Rattle.worker_pool.proofs.Seating.{read_on, read_more, read_all}
