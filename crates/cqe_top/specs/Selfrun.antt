@@ -1,6 +1,6 @@
 -- The command `selfrun`: a workload, run over nothing but memory, and its summary to the output.
 -- Ends: Selfrun, Memory.
-use Rattle.std.specs.Prelude.{ℕ}
+use Rattle.std.specs.Prelude.{◌≡◌, ℕ}
 use Rattle.selfrun_engine.specs.Runs.{EndsSelfrun}
 use Rattle.selfrun_engine.specs.declared.end.SelfrunEnd.{SelfrunEnd}
 use Rattle.selfrun_engine.specs.declared.end.SelfrunEnd.TheVariants as selfrun_end
