@@ -3,7 +3,8 @@
 # The options of a command of cqe.
 _cqe_options() {
     case $1 in
-        init | batch) echo --policy --facts --journals ;;
+        init) echo --policy --facts --journals ;;
+        batch) echo --policy --facts --journals --workers ;;
         audit) echo --policy --facts --journals --user --json ;;
         selfrun) echo --seed --users --asks ;;
         serve) echo --policy --facts --journals --listen --workers --sessions ;;

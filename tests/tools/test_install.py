@@ -210,6 +210,7 @@ class Completion(Temporary):
         self.assertEqual(self.completed("cqe", "audit", "--policy", "ward.policy", "--user", ""), ["nurse", "clerk"])
         self.assertEqual(self.completed("cqe", "audit", "--policy", "=", "ward.policy", "--user", "=", "n"), ["nurse"])
         self.assertEqual(self.completed("cqe", "serve", "--workers", ""), [])
+        self.assertEqual(self.completed("cqe", "batch", "--w"), ["--workers"])
 
     def test_the_options_of_cqe_ask_are_its_own(self) -> None:
         said = self.run_at(TOP / "clients/python/cqe-ask", "--help").stdout

@@ -1,5 +1,5 @@
 -- What the audit of a desk writes, as what the bytes of the journal say.
-use Rattle.std.proofs.Common.{◌≡◌, ◌⊎◌, inl, inr, ℕ, Bool, List, [], refl, subst}
+use Rattle.std.proofs.Common.{◌≡◌, ◌⊎◌, inl, inr, ℕ, Bool, false, List, [], refl, subst}
 use Rattle.outside.specs.Faults.{Rose}
 use Rattle.cqe_base.specs.Schema.{DatabaseSchema, Text}
 use Rattle.cqe_base.specs.Facts.{FactSet}
@@ -8,13 +8,14 @@ use Rattle.log_journal.specs.Opening.{header_bytes}
 use Rattle.log_journal.specs.declared.header.Header.{Header}
 use Rattle.log_journal.specs.declared.header.OpenError.TheVariants.{NotAJournal, OtherPolicy, Damaged, DiskFault, Memory}
 use Rattle.user_desk.specs.Causes.{Opens, OpensOrNot, OpensUnrefused, IsSealedBy, IsStanding}
+use Rattle.user_desk.specs.Standings.{is_sealed}
 use Rattle.user_desk.specs.declared.standing.DeskError.{DeskError}
 use Rattle.user_desk.specs.declared.standing.DeskError.TheVariants.{Journal, Stale, Unlawful, Size, NotAdmitted}
 use Rattle.user_desk.specs.declared.standing.Standing.{Standing}
 use Rattle.user_desk.specs.declared.standing.Standing.TheVariants.{Open, Closed, Sealed}
 use Rattle.audit_text.specs.Said.{AuditSaid}
 use Rattle.audit_print.specs.Audits.{Audits}
-use Rattle.audit_engine.specs.Printed.{IsPrinted}
+use Rattle.audit_engine.specs.Printed.{IsPrinted, end_of}
 use Rattle.audit_engine.specs.Ends.{IsAuditOf, EndsAudit}
 use Rattle.audit_engine.specs.declared.end.AuditEnd.{AuditEnd}
 use Rattle.audit_engine.specs.declared.end.AuditEnd.TheVariants as ends
@@ -113,3 +114,9 @@ module _ (schema : DatabaseSchema) (world : FactSet) (header : Header) (name : T
     ends_so ends.WriteFault standing stands (said, audits, part) = (standing, said, says told is entries standing said stands audits, part)
     ends_so ends.ShelfFault standing stands printed = absurd printed
     ends_so ends.Memory standing stands printed = printed
+
+-- an audit that was written of a user who isn't refused
+pub done_served : (standing : Standing) → end_of standing ≡ ends.Done → is_sealed standing ≡ false
+done_served Open is = refl
+done_served (Closed admission) is = refl
+done_served (Sealed why) is = absurd cc

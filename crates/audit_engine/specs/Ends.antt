@@ -57,3 +57,11 @@ module _ (schema : DatabaseSchema) (world : FactSet) (header : List ℕ) (name :
       × AppendsPart old new (audit_text json said)
   EndsAudit json ShelfFault old new = new ≡ old
   EndsAudit json Memory old new = new ≡ old
+
+-- the end of an audit of which nothing was written
+abbrev pub IsSilent : AuditEnd → Type 0
+IsSilent Done = ⊥
+IsSilent (Refused why) = ⊥
+IsSilent WriteFault = ⊥
+IsSilent ShelfFault = Unit {0}
+IsSilent Memory = Unit {0}

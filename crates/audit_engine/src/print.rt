@@ -1,10 +1,12 @@
 //! The audit of one disk.
-ghost use Rattle.std.specs.Prelude.{◌≡◌, ◌≤◌, List, ℕ, string_bytes};
+ghost use Rattle.std.specs.Prelude.{◌≡◌, ◌≤◌, List, ℕ, false, string_bytes};
+ghost use Rattle.outside.specs.Disk.{Only};
 ghost use Rattle.outside.specs.Faults.{Rose};
 ghost use Rattle.cqe_base.specs.History.{profile_of};
 ghost use Rattle.cqe_base.specs.Limits.{KeepsLimits};
 ghost use Rattle.log_journal.specs.Opening.{header_bytes};
 ghost use Rattle.user_desk.specs.Desks.{desk_schema, desk_user, desk_standing, desk_history};
+ghost use Rattle.user_desk.specs.Standings.{is_sealed};
 ghost use Rattle.audit_engine.specs.Printed.{IsPrinted};
 ghost use Rattle.audit_engine.specs.Ends.{EndsAudit};
 ghost use Rattle.audit_engine.specs.declared.end.AuditEnd.{AuditEnd};
@@ -36,7 +38,10 @@ pub(crate) fn audit_disk<'w, D: Disk, K: Sink>(
         (K.written sink.new) }
     ensures reads { D.reads result.0 ≡ D.reads disk }
     ensures images { (c : List ℕ) → D.image result.0 c → D.image disk c }
+    ensures moments { (c : List ℕ) → D.image_since result.0 (D.moment disk) c → D.image disk c }
+    ensures durable { result.1 ≡ AuditEnd.Done → Only (D.reads disk) (D.image result.0) }
     ensures count { D.faults disk ≤ D.faults result.0 }
+    ensures silent { result.1 ≡ AuditEnd.Memory → sink.new ≡ sink.old }
     ensures later { K.faults sink.old ≤ K.faults sink.new }
     ensures cause { result.1 ≡ AuditEnd.WriteFault → Rose (K.faults sink.old) (K.faults sink.new) }
     ensures shelf { result.1 ≡ AuditEnd.ShelfFault → ⊥ }
@@ -77,6 +82,8 @@ fn print_desk<D: Disk, K: Sink>(
         → IsPrinted schema.now (string_bytes user.now.name) (profile_of user.now)
         (desk_standing desk.now) (desk_history desk.now) json result (K.written sink.old)
         (K.written sink.new) }
+    ensures served { result ≡ AuditEnd.Done → is_sealed (desk_standing desk.now) ≡ false }
+    ensures silent { result ≡ AuditEnd.Memory → sink.new ≡ sink.old }
     ensures later { K.faults sink.old ≤ K.faults sink.new }
     ensures cause { result ≡ AuditEnd.WriteFault → Rose (K.faults sink.old) (K.faults sink.new) }
     ensures shelf { result ≡ AuditEnd.ShelfFault → ⊥ }

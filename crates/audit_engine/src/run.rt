@@ -1,12 +1,13 @@
 //! The audit of a user whose journal lies on a shelf.
 ghost use Rattle.std.specs.Prelude.{◌≡◌, ◌≤◌, List, ℕ, false, string_bytes};
+ghost use Rattle.outside.specs.Disk.{Only};
 ghost use Rattle.outside.specs.Faults.{Rose};
 ghost use Rattle.outside.specs.Shelf.{bytes_on, image_on, SameOthers, SameNames};
 ghost use Rattle.cqe_base.specs.History.{profile_of};
 ghost use Rattle.cqe_base.specs.Limits.{KeepsLimits};
 ghost use Rattle.log_journal.specs.Names.{journal_name};
 ghost use Rattle.log_journal.specs.Opening.{header_bytes};
-ghost use Rattle.outside.specs.Shelf.{NoneOut, NoneFell, SameBytes, NoNewImages};
+ghost use Rattle.outside.specs.Shelf.{NoneOut, NoneFell, SameBytes, NoNewImages, NoNewMoments};
 ghost use Rattle.audit_engine.specs.Ends.{EndsAudit};
 ghost use Rattle.audit_engine.specs.declared.end.AuditEnd.{AuditEnd};
 
@@ -41,15 +42,29 @@ pub fn run_audit<'w, F: Shelf, K: Sink>(
         (F.disk_faults shelf.new
         (journal_name registry.now.directory.now (string_bytes user.now.name)))
         json result (K.written sink.old) (K.written sink.new) }
+    ensures silent_fault { result ≡ AuditEnd.ShelfFault → sink.new ≡ sink.old }
+    ensures silent_memory { result ≡ AuditEnd.Memory → sink.new ≡ sink.old }
     ensures disks { SameOthers
         (journal_name registry.now.directory.now (string_bytes user.now.name)) (F.disk shelf.old)
         (F.disk shelf.new) }
     ensures bytes { F.tells → SameBytes F.D.reads (F.disk shelf.old) (F.disk shelf.new) }
     ensures images { F.tells → NoNewImages F.D.image (F.disk shelf.old) (F.disk shelf.new) }
+    ensures moments { F.tells → NoNewMoments F.D.moment F.D.image_since F.D.image
+        (F.disk shelf.old) (F.disk shelf.new) }
+    ensures durable { F.tells → result ≡ AuditEnd.Done → Only
+        (bytes_on F.D.reads
+        (F.disk shelf.old
+        (journal_name registry.now.directory.now (string_bytes user.now.name))))
+        (image_on F.D.image
+        (F.disk shelf.new
+        (journal_name registry.now.directory.now (string_bytes user.now.name)))) }
     ensures inside { NoneOut (F.is_out shelf.new) }
     ensures files { SameNames (F.file shelf.old) (F.file shelf.new) }
     ensures looked { F.looked shelf.new ≡ F.looked shelf.old }
     ensures counts { NoneFell (F.disk_faults shelf.old) (F.disk_faults shelf.new) }
+    ensures other_counts { SameOthers
+        (journal_name registry.now.directory.now (string_bytes user.now.name))
+        (F.disk_faults shelf.old) (F.disk_faults shelf.new) }
     ensures shelf_later { F.faults shelf.old ≤ F.faults shelf.new }
     ensures sink_later { K.faults sink.old ≤ K.faults sink.new }
     ensures write_cause { result ≡ AuditEnd.WriteFault
@@ -80,15 +95,24 @@ fn audit_journal<'w, F: Shelf, K: Sink>(
         (bytes_on F.D.reads (F.disk shelf.old journal.now)) (F.disk_faults shelf.old journal.now)
         (F.disk_faults shelf.new journal.now)
         json result (K.written sink.old) (K.written sink.new) }
+    ensures silent_fault { result ≡ AuditEnd.ShelfFault → sink.new ≡ sink.old }
+    ensures silent_memory { result ≡ AuditEnd.Memory → sink.new ≡ sink.old }
     ensures disks { SameOthers journal.now (F.disk shelf.old) (F.disk shelf.new) }
     ensures bytes { F.tells → bytes_on F.D.reads (F.disk shelf.new journal.now)
         ≡ bytes_on F.D.reads (F.disk shelf.old journal.now) }
     ensures images { F.tells → (c : List ℕ) → image_on F.D.image (F.disk shelf.new journal.now) c
         → image_on F.D.image (F.disk shelf.old journal.now) c }
+    ensures moments { F.tells → NoNewMoments F.D.moment F.D.image_since F.D.image
+        (F.disk shelf.old) (F.disk shelf.new) }
+    ensures durable { F.tells → result ≡ AuditEnd.Done
+        → Only (bytes_on F.D.reads (F.disk shelf.old journal.now))
+        (image_on F.D.image (F.disk shelf.new journal.now)) }
     ensures inside { NoneOut (F.is_out shelf.new) }
     ensures files { SameNames (F.file shelf.old) (F.file shelf.new) }
     ensures looked { F.looked shelf.new ≡ F.looked shelf.old }
     ensures counts { NoneFell (F.disk_faults shelf.old) (F.disk_faults shelf.new) }
+    ensures other_counts { SameOthers journal.now (F.disk_faults shelf.old)
+        (F.disk_faults shelf.new) }
     ensures shelf_later { F.faults shelf.old ≤ F.faults shelf.new }
     ensures sink_later { K.faults sink.old ≤ K.faults sink.new }
     ensures write_cause { result ≡ AuditEnd.WriteFault

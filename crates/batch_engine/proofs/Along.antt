@@ -1,7 +1,7 @@
 -- What a crash could leave of a user's journal at each moment of a call.
 use Rattle.std.proofs.Common.{◌≡◌, ◌⊎◌, inl, inr, ⊎_elim, ℕ, ◌+◌, ◌≤◌, Bool, true, false, List, [], ◌∷◌, ◌++◌, length, take, refl, sym, ap, subst, ◌∙◌, arith}
 use Rattle.std.proofs.Common.{append_assoc, append-nil, length-append}
-use Rattle.std.specs.Prelude.{Option, Some, None, is_some, option_to_list, ◌||◌}
+use Rattle.std.specs.Prelude.{Option, Some, None, is_some, option_to_list, ◌||◌, ◌&&◌}
 use Rattle.std.specs.List.{list_any}
 use Rattle.std.proofs.lemmas.Bool.{or_left}
 use Rattle.std.proofs.lemmas.List.{take-append-le, take_all, take_at}
@@ -18,7 +18,7 @@ use Rattle.user_desk.specs.Standings.{is_sealed}
 use Rattle.user_desk.specs.declared.standing.Standing.{Standing}
 use Rattle.user_desk.specs.declared.standing.Standing.TheVariants.{Open, Closed, Sealed}
 use Rattle.std.proofs.lemmas.List.Folds.{list_any-append}
-use Rattle.batch_engine.specs.Lives.{is_opened, is_opening, IsStretchEnd}
+use Rattle.batch_engine.specs.Lives.{is_ask, is_opened, is_opening, IsStretchEnd}
 use Rattle.batch_engine.proofs.Courses.{any-push}
 
 -- The clock of the disks: since its own moment a disk has no image but those it has now; and the moment at which the call began, of the journal of each name.
@@ -368,19 +368,31 @@ module _ (schema : DatabaseSchema) (world : FactSet) (user : UserProfile) where
       -- ---- a call
 
       -- By the clock of his disk the call began at the first moment, and an opening held first at another one. Up to that no crash could leave anything new;
-      -- since then each leaves bytes amid his events; and where none held, nothing new. At each further opening a stretch had ended.
+      -- since then each leaves bytes amid his events; and unless one held and he asked, nothing new. At each further opening a stretch had ended.
       pub record IsAlong (opens_at : ℕ) (events : List Event) (now : ℕ) (since : ℕ → List ℕ → Type 0) : Type 0 where
         pub begun : first ≤ opens_at
         pub passed : opens_at ≤ now
         pub before : (c : List ℕ) → since first c → first_image c ⊎ since opens_at c
         pub behind : list_any is_opened events ≡ true → (c : List ℕ) → since opens_at c → Amid events c
-        pub never : list_any is_opened events ≡ false → (c : List ℕ) → since opens_at c → first_image c
+        pub kept : (list_any is_opened events && list_any is_ask events) ≡ false → (c : List ℕ) → since opens_at c → first_image c
         pub closed : AreClosed opens_at events now since
 
       -- the same where a stretch ends now
       pub record IsAlongClosed (opens_at : ℕ) (events : List Event) (now : ℕ) (since : ℕ → List ℕ → Type 0) : Type 0 where
         pub along : IsAlong opens_at events now since
         pub last : list_any is_opened events ≡ true → IsClosedBehind opens_at events [] now since
+
+      -- where no opening held or he didn't ask behind an event, it was so before it
+      idle_before : (events : List Event) (event : Event)
+          → (list_any is_opened (events ++ event ∷ []) && list_any is_ask (events ++ event ∷ [])) ≡ false
+          → (list_any is_opened events && list_any is_ask events) ≡ false
+      idle_before events event idle = by (list_any is_opened events) (is_opened event) (list_any is_ask events) (is_ask event)
+          ((λ i. sym (any-push is_opened events event) i && sym (any-push is_ask events event) i) ∙ idle)
+        where
+          by : (o p a x : Bool) → ((o || p) && (a || x)) ≡ false → (o && a) ≡ false
+          by false p a x is = refl
+          by true p false x is = refl
+          by true p true x is = is
 
       -- as the call begins
       pub along_first : (since : ℕ → List ℕ → Type 0) → ((c : List ℕ) → since first c → first_image c) → IsAlongClosed first [] first since
@@ -390,7 +402,7 @@ module _ (schema : DatabaseSchema) (world : FactSet) (user : UserProfile) where
           passed = omega arith;
           before = λ c here. inr here;
           behind = λ some. absurd cc;
-          never = λ none. only;
+          kept = λ idle. only;
           closed = none_closed first first since;
         };
         last = λ some. absurd cc;
@@ -420,7 +432,7 @@ module _ (schema : DatabaseSchema) (world : FactSet) (user : UserProfile) where
         before = along.before;
         behind = λ some c here.
             amid_more (opening schema world user opened) events (event ∷ []) c (along.behind (sym same ∙ some) c here);
-        never = λ none. along.never (sym same ∙ none);
+        kept = λ idle. along.kept (idle_before events event idle);
         closed = closed_push opens_at events event now since along.closed last;
       }
         where
@@ -431,12 +443,13 @@ module _ (schema : DatabaseSchema) (world : FactSet) (user : UserProfile) where
               or_none true = refl
               or_none false = refl
 
-      -- time goes on, and at its moments a crash leaves bytes amid the events and behind each stretch that ended, or where no opening held nothing new
+      -- time goes on, and at its moments a crash leaves bytes amid the events and behind each stretch that ended; unless an opening held and he asked,
+      -- nothing new
       pub along_on : (opens_at : ℕ) (events : List Event) (now later : ℕ) (since since' : ℕ → List ℕ → Type 0) → Elapses now later since since'
           → (list_any is_opened events ≡ true → (c : List ℕ) → since' now c → Amid events c)
           → ((front rest : List Event) → events ≡ front ++ rest → BeginsLife rest → list_any is_opened front ≡ true → (c : List ℕ) → since' now c
           → Behind front rest c)
-          → (list_any is_opened events ≡ false → (c : List ℕ) → since' now c → first_image c)
+          → ((list_any is_opened events && list_any is_ask events) ≡ false → (c : List ℕ) → since' now c → first_image c)
           → IsAlong opens_at events now since → IsAlong opens_at events later since'
       along_on opens_at events now later since since' time amid behind new along =
           let passed = along.passed in
@@ -449,7 +462,7 @@ module _ (schema : DatabaseSchema) (world : FactSet) (user : UserProfile) where
                 (λ now_is. inr (time.adds opens_at c passed now_is))
                 (time.nothing_else first c (before_now along.begun passed) here);
             behind = λ some c here. ⊎_elim (along.behind some c) (amid some c) (time.nothing_else opens_at c passed here);
-            never = λ none c here. ⊎_elim (along.never none c) (new none c) (time.nothing_else opens_at c passed here);
+            kept = λ idle c here. ⊎_elim (along.kept idle c) (new idle c) (time.nothing_else opens_at c passed here);
             closed = λ front rest split begins some.
                 closed_on opens_at front rest now later since since' time (behind front rest split begins some) (along.closed front rest split begins some);
           }
@@ -466,10 +479,10 @@ module _ (schema : DatabaseSchema) (world : FactSet) (user : UserProfile) where
           ap (list_any is_opened) split ∙ list_any-append is_opened front rest ∙ or_left (list_any is_opened front) (list_any is_opened rest) some in
           behind_all (opening schema world user opened) events front rest c split (held all c here)
 
-      -- time goes on behind a stretch that ended, and at its moments a crash leaves all events, or where no opening held nothing new
+      -- time goes on behind a stretch that ended, and at its moments a crash leaves all events; unless an opening held and he asked, nothing new
       pub along_still : (opens_at : ℕ) (events : List Event) (now later : ℕ) (since since' : ℕ → List ℕ → Type 0) → Elapses now later since since'
           → (list_any is_opened events ≡ true → (c : List ℕ) → since' now c → AllHeld events c)
-          → (list_any is_opened events ≡ false → (c : List ℕ) → since' now c → first_image c)
+          → ((list_any is_opened events && list_any is_ask events) ≡ false → (c : List ℕ) → since' now c → first_image c)
           → IsAlongClosed opens_at events now since → IsAlongClosed opens_at events later since'
       along_still opens_at events now later since since' time held new at = record {
         along = along_on opens_at events now later since since' time
@@ -485,15 +498,17 @@ module _ (schema : DatabaseSchema) (world : FactSet) (user : UserProfile) where
           (image : List ℕ → Type 0)
           → Elapses now later since since' → ((c : List ℕ) → since' now c → image c)
           → (list_any is_opened events ≡ true → (c : List ℕ) → image c → AllHeld events c)
-          → (list_any is_opened events ≡ false → (c : List ℕ) → image c → first_image c)
+          → ((list_any is_opened events && list_any is_ask events) ≡ false → (c : List ℕ) → image c → first_image c)
           → (opens ≡ true → (c : List ℕ) → since' later c → Amid (events ++ restart found opens ∷ []) c)
+          → ((list_any is_opened (events ++ restart found opens ∷ []) && list_any is_ask (events ++ restart found opens ∷ [])) ≡ false → (c : List ℕ)
+          → since' later c → first_image c)
           → IsAlongClosed opens_at events now since
           → (opens_at' : ℕ) × IsAlong opens_at' (events ++ restart found opens ∷ []) later since'
-      along_open opens_at events found opens now later since since' image time rests held new here at = by (list_any is_opened events) opens refl refl
+      along_open opens_at events found opens now later since since' image time rests held new here still at = by (list_any is_opened events) opens refl refl
         where
           on : IsAlongClosed opens_at events later since'
           on = along_still opens_at events now later since since' time (λ some c since_now. held some c (rests c since_now))
-              (λ none c since_now. new none c (rests c since_now)) at
+              (λ idle c since_now. new idle c (rests c since_now)) at
 
           pushed : (a b : Bool) → list_any is_opened events ≡ a → opens ≡ b → list_any is_opened (events ++ restart found opens ∷ []) ≡ (a || b)
           pushed a b some held = any-push is_opened events (restart found opens) ∙ (λ i. some i || held i)
@@ -509,7 +524,7 @@ module _ (schema : DatabaseSchema) (world : FactSet) (user : UserProfile) where
               passed = on.along.passed;
               before = on.along.before;
               behind = λ is c there. amid_more (opening schema world user opened) events (restart found opens ∷ []) c (on.along.behind some c there);
-              never = λ none. let e : true ≡ false = sym (pushed true true some held) ∙ none in absurd cc;
+              kept = λ idle. on.along.kept (idle_before events (restart found opens) idle);
               closed = closed_push opens_at events (restart found opens) later since' on.along.closed (λ begins. on.last);
             },
           )
@@ -520,9 +535,10 @@ module _ (schema : DatabaseSchema) (world : FactSet) (user : UserProfile) where
                 record {
                   begun = omega (arith, begun, passed);
                   passed = omega arith;
-                  before = λ c there. ⊎_elim (λ early. inl early) (λ late. inl (on.along.never none_yet c late)) (on.along.before c there);
+                  before = λ c there. ⊎_elim (λ early. inl early) (λ late. inl (on.along.kept (ap (λ b. b && list_any is_ask events) none_yet) c late))
+                      (on.along.before c there);
                   behind = λ is. here held;
-                  never = λ none. let e : true ≡ false = sym (pushed false true none_yet held) ∙ none in absurd cc;
+                  kept = still;
                   closed = closed_push later events (restart found opens) later since' (no_opening none_yet)
                       (λ begins some. let e : true ≡ false = sym some ∙ none_yet in absurd cc);
                 },

@@ -1,15 +1,13 @@
 -- The stretches of a batch in memory, with one more ask or restart.
-use Rattle.std.proofs.Common.{◌≡◌, ℕ, ◌+◌, ◌<◌, ◌≤◌, Bool, true, false, if◌then◌else◌, List, [], ◌∷◌, ◌++◌, map, length, take, get_or, All, refl, sym, ap}
-use Rattle.std.proofs.Common.{subst, ◌∙◌, append_assoc, append-nil, arith}
+use Rattle.std.proofs.Common.{◌≡◌, Bool, true, false, if◌then◌else◌, List, [], ◌∷◌, ◌++◌, map, All, refl, sym, ap, ◌∙◌, append_assoc, append-nil}
 use Rattle.std.specs.Prelude.{◌&&◌}
 use Rattle.std.specs.Prelude.{Vec}
 use Rattle.std.specs.List.{list_all, AllByRecursion}
 use Rattle.std.specs.declared.alloc.Global.{Global}
 use Rattle.std.proofs.lemmas.Bool.{and_parts}
-use Rattle.std.proofs.lemmas.List.{map-append, take_more}
+use Rattle.std.proofs.lemmas.List.{map-append}
 use Rattle.std.proofs.lemmas.List.Elements.{All-from_recursion}
 use Rattle.std.proofs.lemmas.List.Folds.{list_all-append}
-use Rattle.cqe_base.proofs.Lists.{all_push}
 use Rattle.batch_engine.specs.BatchLines.{BatchItem, asked, restarted}
 use Rattle.batch_engine.specs.Said.{is_short_ask, is_short_item}
 use Rattle.batch_engine.specs.Batches.{ask_in, asks_in, AreShort, stretch_in, stretches_in, items_in}
@@ -36,26 +34,6 @@ pub restart_more : (ended new : List (Vec BatchAsk Global)) (last : Vec BatchAsk
 restart_more ended new last is =
     append-nil (stretches_in new) ∙ ap stretches_in is ∙ stretches-append ended (last ∷ [])
     ∙ sym (append_assoc (stretches_in ended) (stretch_in last.items) (restarted ∷ []))
-
--- ---- the longest of the stretches
-
--- of one more the longest is this or one of the others
-pub longest_more : (ended : List (Vec BatchAsk Global)) (i : ℕ) (asks : Vec BatchAsk Global) (most now : ℕ) → i < length ended → asks ≡ get_or ended i asks
-    → most ≤ now → length asks.items ≤ now → AllByRecursion (λ (a : Vec BatchAsk Global). length a.items ≤ most) (take i ended)
-    → AllByRecursion (λ (a : Vec BatchAsk Global). length a.items ≤ now) (take (i + 1) ended)
-longest_more ended i asks most now low is grows one all =
-    subst (AllByRecursion (λ (a : Vec BatchAsk Global). length a.items ≤ now))
-    (sym (take_more ended i asks low ∙ ap (λ a. take i ended ++ a ∷ []) (sym is)))
-    (all_push (λ (a : Vec BatchAsk Global). length a.items ≤ now) (take i ended) asks (still (take i ended) all) one)
-  where
-    still : (es : List (Vec BatchAsk Global)) → AllByRecursion (λ (a : Vec BatchAsk Global). length a.items ≤ most) es
-        → AllByRecursion (λ (a : Vec BatchAsk Global). length a.items ≤ now) es
-    still [] all = tt
-    still (e ∷ es) all = (omega (arith, all.0, grows), still es all.1)
-
-pub longest_all : (ended : List (Vec BatchAsk Global)) (most : ℕ) → AllByRecursion (λ (a : Vec BatchAsk Global). length a.items ≤ most) ended
-    → All (λ (a : Vec BatchAsk Global). length a.items ≤ most) ended
-longest_all ended most all = All-from_recursion (λ (a : Vec BatchAsk Global). length a.items ≤ most) ended all
 
 -- ---- short asks
 

@@ -1,10 +1,10 @@
 -- What the lines of a batch mean for its users, once their disks are back.
 use Rattle.std.proofs.Common.{◌≡◌, inl, inr, ℕ, ◌≤◌, Bool, true, false, List, [], ◌∷◌, ◌++◌, take, map, refl, sym, ap, subst, ◌∙◌, append_assoc}
-use Rattle.std.proofs.Common.{append-nil}
+use Rattle.std.proofs.Common.{append-nil, ⊎_elim}
 use Rattle.std.specs.Prelude.{length, Option, Some, find, bytes_eq, All, if◌then◌else◌, option_map, IfSome, ◌⊎◌, ◌&&◌}
 use Rattle.std.specs.List.{list_any, AllByRecursion}
 use Rattle.std.proofs.lemmas.List.Elements.{All-head, All-tail}
-use Rattle.outside.specs.Shelf.{bytes_on, image_on}
+use Rattle.outside.specs.Shelf.{bytes_on, image_on, since_on}
 use Rattle.outside.specs.declared.disk.Disk.{Ghosts as DiskGhosts}
 use Rattle.cqe_base.specs.Schema.{Text, DatabaseSchema, is_valid_schema, has_duplicate}
 use Rattle.cqe_base.specs.Facts.{FactSet}
@@ -26,7 +26,7 @@ use Rattle.batch_engine.specs.Batch.{StandsAmid, StandsBehind, ServesUser, Answe
 use Rattle.batch_engine.specs.Batch.{line_bytes, unopened, with_opening}
 use Rattle.desk_crew.specs.Crew.{named_user, seat_standing, seat_state, IsLeft}
 use Rattle.cqe_base.specs.Run.{Event}
-use Rattle.desk_crew.specs.Shelved.{Journals, since_on, journals_by, StandsAllAlong, ClosedBehind, IsBack, AreBack}
+use Rattle.desk_crew.specs.Shelved.{Journals, journals_by, StandsAllAlong, ClosedBehind, IsBack, AreBack}
 use Rattle.batch_engine.proofs.Along.{Clock, IsAlongClosed, IsClosedBehind, BeginsLife, at_end, along_still}
 use Rattle.desk_crew.proofs.Lasting.{if_some_on}
 use Rattle.desk_crew.specs.Seats.{DeskSeat}
@@ -170,7 +170,7 @@ module _ (schema : DatabaseSchema) (world : FactSet) (users : List NamedUser) (h
             (own_events user.name script)
             (Disk.moment left.closed) (Disk.moment is.now) (Disk.image_since left.closed) (Disk.image_since is.now) left.left.time
             (λ some c at. running.stays.stands some c (left.left.rests c at))
-            (λ none c at. (running.stays.kept (ap (λ b. b && list_any is_ask (own_events user.name script)) none)).1 c (left.left.rests c at))
+            (λ idle c at. (running.stays.kept idle).1 c (left.left.rests c at))
             (along_at schema world header directory Disk t read_is_image
             (clock_of Disk only_now directory disk) (bytes_of Disk.reads directory disk) (count_of directory count)
             (images_of Disk.image directory disk) user (own_events user.name script) seat left.closed seated left.is_closed);
@@ -230,10 +230,26 @@ module _ (schema : DatabaseSchema) (world : FactSet) (users : List NamedUser) (h
                     ⊎ since_on Disk.image_since o at.opens_at c) (sym at.held) along.before,
               )) at.began_is;
           behind = λ some c here. along.behind some c (subst (λ o. since_on Disk.image_since o at.opens_at c) at.held here);
-          never = λ none c here. along.never none c (subst (λ o. since_on Disk.image_since o at.opens_at c) at.held here);
+          never = λ none c here. along.kept (ap (λ b. b && list_any is_ask (own_events user.name script)) none) c
+              (subst (λ o. since_on Disk.image_since o at.opens_at c) at.held here);
         };
         closings = λ front rest split ends some. closed_at user script seat at front rest (closed_by user script seat at front rest split ends some);
       }
+
+  -- unless an opening held and he asked, no moment of the call left anything new
+  kept_along : (user : NamedUser) (script : List ScriptEvent) (seat : DeskSeat D g h) (at : Back user script seat)
+      → (list_any is_opened (own_events user.name script) && list_any is_ask (own_events user.name script)) ≡ false
+      → IfSome (option_map Disk.moment (disk (journal_name directory user.name))) (λ begun. (c : List ℕ)
+      → since_on Disk.image_since (disk' (journal_name directory user.name)) begun c → image_on Disk.image (disk (journal_name directory user.name)) c)
+  kept_along user script seat at idle =
+      let along = at.all_along.along in
+      if_some_on (option_map Disk.moment (disk (journal_name directory user.name))) (λ begun. begun ≡ at.began)
+      (λ begun. (c : List ℕ) → since_on Disk.image_since (disk' (journal_name directory user.name)) begun c
+      → image_on Disk.image (disk (journal_name directory user.name)) c)
+      (λ begun same. subst (λ b. (c : List ℕ) → since_on Disk.image_since (disk' (journal_name directory user.name)) b c
+      → image_on Disk.image (disk (journal_name directory user.name)) c) (sym same)
+      (λ c here. ⊎_elim (λ early. early) (λ late. along.kept idle c late)
+      (along.before c (subst (λ o. since_on Disk.image_since o at.began c) at.held here)))) at.began_is
 
   module _ (empty : EmptyHistoryIsLegal) (runs : RunsStayLegal) (hide : ScriptsHide) (alone : TranscriptIsPrivate) (valid : is_valid_schema schema ≡ true) where
     serves : (user : NamedUser) (script : List ScriptEvent) (seat : DeskSeat D g h) → Finds users user → KeepsLimits schema user.profile
@@ -262,6 +278,7 @@ module _ (schema : DatabaseSchema) (world : FactSet) (users : List NamedUser) (h
                 ap (bytes_on Disk.reads) at.held ∙ (at.stays.kept idle).0,
                 λ c here. (at.stays.kept idle).1 c (subst
                     (λ o. image_on Disk.image o c) at.held here),
+                kept_along user script seat at idle,
               );
           moments = all.moments;
           closings = all.closings;
@@ -357,25 +374,27 @@ module _ (schema : DatabaseSchema) (world : FactSet) (users : List NamedUser) (h
           (clock_of Disk only_now directory disk) (bytes_of Disk.reads directory disk) (count_of directory count)
           (images_of Disk.image directory disk) found opened so_far.events (earlier ++ stretch) (length stretch) lines seats is_broken
           → AreBack S Disk disk' count' seats → new ≡ (old ++ output) ++ take n lines → all ≡ (earlier ++ stretch) ++ back → IsStretch stretch
-          → AppendsSome schema world header (journals_by Disk.reads Disk.image Disk.moment Disk.image_since directory disk disk' count count')
-          policy all old new
+          → (some : AppendsSome schema world header
+          (journals_by Disk.reads Disk.image Disk.moment Disk.image_since directory disk disk' count count') policy all old new) × (some.part ≡ n)
       answered_some earlier stretch back all n old output lines new mid seats was is_broken so_far adds is appended split one =
           let whole = transcript schema world users (with_opening found opened so_far.events) in
           let both = joined schema world users header directory Disk t read_is_image
           (clock_of Disk only_now directory disk) (bytes_of Disk.reads directory disk) (count_of directory count)
-          (images_of Disk.image directory disk) found opened earlier (earlier ++ stretch) output lines mid seats was is_broken (length stretch) so_far adds in
-          record {
-            earlier = earlier;
-            stretch = stretch;
-            back = back;
-            split = split;
-            one = one;
-            whole = whole;
-            last = adds.said;
-            each = adds.each;
-            part = n;
-            appended = appended ∙ append_assoc old output (take n lines) ∙ ap (λ o. old ++ (o ++ take n lines)) so_far.lines
-                ∙ ap (λ l. old ++ (line_bytes whole ++ take n l)) adds.lines_are;
-            answers = answers (earlier ++ stretch) (line_bytes (whole ++ adds.said)) seats is_broken both.so_far is;
-            lines = both.lines;
-          }
+          (images_of Disk.image directory disk) found opened earlier (earlier ++ stretch) output lines mid seats was is_broken (length stretch) so_far adds in (
+            record {
+              earlier = earlier;
+              stretch = stretch;
+              back = back;
+              split = split;
+              one = one;
+              whole = whole;
+              last = adds.said;
+              each = adds.each;
+              part = n;
+              appended = appended ∙ append_assoc old output (take n lines) ∙ ap (λ o. old ++ (o ++ take n lines)) so_far.lines
+                  ∙ ap (λ l. old ++ (line_bytes whole ++ take n l)) adds.lines_are;
+              answers = answers (earlier ++ stretch) (line_bytes (whole ++ adds.said)) seats is_broken both.so_far is;
+              lines = both.lines;
+            },
+            refl,
+          )

@@ -58,18 +58,10 @@ module _ (schema : DatabaseSchema) (world : FactSet) (header : List ℕ) {D : Ty
         appended = λ w. (0, refl);
       }
 
-pub to_alone : (schema : DatabaseSchema) (world : FactSet) (header : List ℕ) {D : Type 0} {g h : _} (Disk : DiskGhosts D)
-    (wrote : Type 0) (items : List BatchItem) (old new : List (DeskSeat D g h)) (before after : List ℕ)
-    (to : RunsTo schema world header Disk wrote items old new before after)
-    → RunsTo schema world header Disk (Unit {0}) items old new [] to.all.output
-to_alone schema world header Disk wrote items old new before after to =
-    record {
-      front = to.front;
-      rest = to.rest;
-      split = to.split;
-      is_broken = to.is_broken;
-      all = all_alone schema world header Disk wrote to.front old new before after to.is_broken to.all;
-    }
+  pub to_alone : (to : RunsTo schema world header Disk wrote items old new before after)
+      → RunsTo schema world header Disk (Unit {0}) items old new [] (to.0.output ++ take 0 to.0.lines)
+  unfolding some_alone
+  to_alone to = (some_alone to.0, λ w. refl)
 
 -- what answers items over an output of its own answers them where this was appended
 pub told_all : (schema : DatabaseSchema) (world : FactSet) (header : List ℕ) (journals : Journals) (policy : List NamedUser) (items : List BatchItem)
@@ -181,23 +173,13 @@ module _ (schema : DatabaseSchema) (world : FactSet) (header directory : List �
         so_far_run st items new all.output is_broken all.runs,
       ) back
 
-  -- the items before a restart were
-  finish_to : (wrote : Type 0) → wrote → (items : List BatchItem) (new : List (DeskSeat D g h)) (before after : List ℕ)
-      → RunsTo schema world header Disk wrote items seats new before after
+  -- some first stretches were, of the last one maybe only a part written
+  finish_part : (wrote : Type 0) (w : wrote) (items : List BatchItem) (new : List (DeskSeat D g h)) (before after : List ℕ)
+      (some : RunsSome schema world header Disk wrote items seats new before after)
       → AreBack S Disk disk' count' new
-      → AppendsTo schema world header (journals_by Disk.reads Disk.image Disk.moment Disk.image_since directory disk disk' count count') (map named_user users)
-      items before after
-  finish_to wrote w items new before after to back =
-      let all = finish_all wrote w to.front new to.is_broken before after to.all back in
-      record { front = to.front; rest = to.rest; split = to.split; written = all.written; appended = all.appended; answers = all.answers }
-
-  -- some first stretches were
-  finish_some : (wrote : Type 0) → wrote → (items : List BatchItem) (new : List (DeskSeat D g h)) (before after : List ℕ)
-      → RunsSome schema world header Disk wrote items seats new before after
-      → AreBack S Disk disk' count' new
-      → AppendsSome schema world header (journals_by Disk.reads Disk.image Disk.moment Disk.image_since directory disk disk' count count')
-      (map named_user users) items before after
-  finish_some wrote w items new before after some back =
+      → (appends : AppendsSome schema world header (journals_by Disk.reads Disk.image Disk.moment Disk.image_since directory disk disk' count count')
+      (map named_user users) items before after) × (appends.part ≡ (some.appended w).0)
+  finish_part wrote w items new before after some back =
       let st = start in
       let part = some.appended w in
       let so_far = so_far_run st some.earlier some.mid some.output some.was_broken some.first in
@@ -210,6 +192,23 @@ module _ (schema : DatabaseSchema) (world : FactSet) (header directory : List �
       (clock_of Disk only_now directory disk) (bytes_of Disk.reads directory disk) (count_of directory count)
       (images_of Disk.image directory disk) st.found st.opened exclusive st.differ some.earlier some.stretch some.output some.lines some.mid new
       some.was_broken some.says_broken so_far some.last) back part.1 some.split some.one
+
+  finish_some : (wrote : Type 0) → wrote → (items : List BatchItem) (new : List (DeskSeat D g h)) (before after : List ℕ)
+      → RunsSome schema world header Disk wrote items seats new before after
+      → AreBack S Disk disk' count' new
+      → AppendsSome schema world header (journals_by Disk.reads Disk.image Disk.moment Disk.image_since directory disk disk' count count')
+      (map named_user users) items before after
+  finish_some wrote w items new before after some back = (finish_part wrote w items new before after some back).0
+
+  -- of the last one nothing was written
+  finish_to : (wrote : Type 0) → wrote → (items : List BatchItem) (new : List (DeskSeat D g h)) (before after : List ℕ)
+      → RunsTo schema world header Disk wrote items seats new before after
+      → AreBack S Disk disk' count' new
+      → AppendsTo schema world header (journals_by Disk.reads Disk.image Disk.moment Disk.image_since directory disk disk' count count') (map named_user users)
+      items before after
+  finish_to wrote w items new before after to back =
+      let both = finish_part wrote w items new before after to.0 back in
+      (both.0, both.1 ∙ to.1 w)
 
   pub finishes : Finishes schema world header S Disk
       (journals_by Disk.reads Disk.image Disk.moment Disk.image_since directory disk disk' count count') (map named_user users) seats disk' count'

@@ -26,7 +26,8 @@ use Rattle.desk_crew.specs.Shelved.{AreLater}
 use Rattle.desk_crew.specs.Seats.{DeskSeat}
 use Rattle.desk_crew.proofs.Rising.{AtSome, HasFailed, some_weaker}
 use Rattle.batch_engine.specs.BatchLines.{BatchItem, asked, restarted}
-use Rattle.batch_engine.specs.Steps.{is_broken_reply, Carries, Runs, nothing, more}
+use Rattle.batch_engine.specs.Answers.{is_broken_reply}
+use Rattle.batch_engine.specs.Steps.{Carries, Runs, nothing, more}
 use Rattle.batch_engine.proofs.Running.{stay_run}
 
 module _ (schema : DatabaseSchema) (world : FactSet) (user : UserProfile) where

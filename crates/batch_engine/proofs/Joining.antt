@@ -8,7 +8,7 @@ use Rattle.cqe_base.specs.Facts.{FactSet}
 use Rattle.cqe_base.specs.History.{UserProfile}
 use Rattle.cqe_base.specs.Run
 use Rattle.cqe_base.specs.Run.{Event, UserState, standing_open, opening, after_events, final_history}
-use Rattle.cqe_base.specs.Transcript.{NamedUser, ScriptEvent, own_events}
+use Rattle.cqe_base.specs.Transcript.{NamedUser, ScriptEvent, own_events, transcript}
 use Rattle.cqe_base.proofs.Scripts.{runs_stay_legal}
 use Rattle.user_desk.specs.Lives.{Holds, shown}
 use Rattle.user_desk.specs.Causes.{Opens}
@@ -16,13 +16,14 @@ use Rattle.user_desk.specs.Joining.{Call, IsCallOver, IsSpanOver, AreOneRun}
 use Rattle.user_desk.proofs.Joining.{calls_join}
 use Rattle.desk_crew.specs.Openings.{OpensWith}
 use Rattle.desk_crew.specs.Shelved.{Journals}
-use Rattle.batch_engine.specs.Batch.{ServesUser, AnswersBatch, unopened}
+use Rattle.batch_engine.specs.Batch.{ServesUser, AnswersBatch, line_bytes, unopened}
 use Rattle.batch_engine.specs.BatchLines.{BatchItem}
 use Rattle.std.proofs.lemmas.List.Folds.{list_any-append}
 use Rattle.std.proofs.lemmas.Bool.{or_left}
 use Rattle.batch_engine.specs.Lives.{is_opened}
 use Rattle.batch_engine.specs.Joining.{call_of, cut_call_of, cut_span_of, BatchesAreCalls, BatchesAreSpans, IsCutBatch, CutBatchesAreCalls, LaterCutsAreCalls}
 use Rattle.batch_engine.specs.Joining.{IsNamed, script_of, IsOpenedTo, IsAnsweredTo, IsCutRun, BatchesJoin, CutBatchesJoin, LateBatchesJoin}
+use Rattle.batch_engine.specs.Joining.{SameEventsSameLines}
 use Rattle.batch_engine.proofs.Along.{goes_on}
 
 -- what holds a state holds its entries and the one in flight at any standing
@@ -269,3 +270,9 @@ late_batches_join schema world header policy journals journals' items items' wri
           (subst (λ n. IsCallOver schema world first.profile header (journals.bytes n)
           (cut_call_of schema world first (front ++ cut.more) (journals'.bytes name))) same cut.over);
     }
+
+-- the same events have the same lines
+pub same_events : (schema : DatabaseSchema) (world : FactSet) (header : List ℕ) (policy : List NamedUser) (journals journals' : Journals)
+    → SameEventsSameLines schema world header policy journals journals'
+same_events schema world header policy journals journals' items items' written written' one two users events =
+    two.lines ∙ (λ i. line_bytes (transcript schema world (users i) (events i))) ∙ sym one.lines

@@ -6,6 +6,10 @@ pub mod Telling
 pub mod Closing
 pub mod Shorts
 pub mod Running
+pub mod Merging
+pub mod Posts
+pub mod Ordering
 pub mod Ending
 pub mod Failing
 pub mod Joining
+pub mod Crossing

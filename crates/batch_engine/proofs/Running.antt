@@ -1,16 +1,14 @@
 -- The items of a batch, carried out one after the other: what stays of the seats.
 use Rattle.std.proofs.Common.{◌≡◌, ℕ, zero, suc, ◌≤◌, ◌<◌, ◌+◌, Bool, true, false, List, [], ◌∷◌, ◌++◌, length, take, drop, get_or, map, refl, sym, ap}
 use Rattle.std.proofs.Common.{subst, ◌∙◌, append-nil, append_assoc, arith}
-use Rattle.std.specs.Prelude.{Option, ◌||◌}
+use Rattle.std.specs.Prelude.{Option, ◌||◌, if◌then◌else◌}
 use Rattle.std.specs.List.{AllByRecursion}
-use Rattle.std.proofs.lemmas.List.{map-append}
 use Rattle.outside.specs.declared.disk.Disk.{Ghosts as DiskGhosts}
 use Rattle.cqe_base.specs.Schema.{Text, DatabaseSchema}
 use Rattle.cqe_base.specs.Facts.{FactSet}
 use Rattle.cqe_base.specs.History.{profile_of}
 use Rattle.cqe_base.specs.Limits.{KeepsLimits}
 use Rattle.cqe_base.specs.Run.{Reply}
-use Rattle.desk_crew.proofs.Taken.{map_more}
 use Rattle.std.specs.Prelude.{Vec}
 use Rattle.std.specs.declared.alloc.Global.{Global}
 use Rattle.std.proofs.Math.Bool.{or-false}
@@ -20,14 +18,13 @@ use Rattle.std.proofs.Common.{All}
 use Rattle.std.proofs.lemmas.List.Elements.{recursion_from_All}
 use Rattle.batch_engine.specs.BatchLines.{BatchItem, asked, restarted}
 use Rattle.batch_engine.specs.Batch.{IsStretch}
-use Rattle.batch_engine.specs.Batches.{ask_in, stretch_in, stretches_in, items_in}
-use Rattle.batch_engine.specs.Outputs.{output_bytes}
+use Rattle.batch_engine.specs.Batches.{stretch_in, stretches_in, items_in}
 use Rattle.batch_engine.specs.declared.batch.BatchAsk.{BatchAsk}
-use Rattle.batch_engine.specs.declared.output.OutputLine.{OutputLine}
 use Rattle.batch_engine.proofs.Batches.{stretches-append}
-use Rattle.batch_engine.proofs.Seating.{flat_map-append}
 use Rattle.desk_counter.specs.declared.item.Fixed.{Fixed}
-use Rattle.desk_crew.specs.Crew.{seat_user, seat_journal, seat_disk, IsSeatAsOpened, IsSeatServed, AreReopened, Tells, nobody, here, further}
+use Rattle.std.specs.Prelude.{string_bytes}
+use Rattle.cqe_base.specs.declared.user.User.{User}
+use Rattle.desk_crew.specs.Crew.{seat_user, seat_name, seat_journal, seat_disk, IsSeatAsOpened, IsSeatServed, AreReopened, Tells, nobody, here, further}
 use Rattle.desk_crew.specs.Shelved.{journals, AreLater}
 use Rattle.batch_engine.specs.Steps.{restart_bytes, MaybeReopened, Carries, Runs, nothing, more, RunsAll, RunsSome, RunsTo}
 use Rattle.desk_crew.proofs.Asking.{still_served}
@@ -46,16 +43,18 @@ module _ (schema : DatabaseSchema) (world : FactSet) (header : List ℕ) {D : Ty
   -- what stays of the seats: their journals, and with their users their limits; and their counts didn't fall
   pub record Stay (old new : List (DeskSeat D g h)) : Type 0 where
     pub names : journals new ≡ journals old
+    pub users : map seat_name new ≡ map seat_name old
     pub limits : Limits old → Limits new
     pub served : AllByRecursion (IsSeatServed schema world header) old → AllByRecursion (IsSeatServed schema world header) new
     pub later : (count : Text → ℕ) → AreLater Disk.faults count old → AreLater Disk.faults count new
 
   stay : (seats : List (DeskSeat D g h)) → Stay seats seats
-  stay seats = record { names = refl; limits = λ l. l; served = λ s. s; later = λ count l. l }
+  stay seats = record { names = refl; users = refl; limits = λ l. l; served = λ s. s; later = λ count l. l }
 
   stay_on : (a b c : List (DeskSeat D g h)) → Stay a b → Stay b c → Stay a c
   stay_on a b c first second = record {
     names = second.names ∙ first.names;
+    users = second.users ∙ first.users;
     limits = λ l. second.limits (first.limits l);
     served = λ s. second.served (first.served s);
     later = λ count l. second.later count (first.later count l);
@@ -75,6 +74,7 @@ module _ (schema : DatabaseSchema) (world : FactSet) (header : List ℕ) {D : Ty
       let kept = answer.kept_is in
       record {
         names = ap (λ j. j ∷ journals others) answer.journal_is;
+        users = ap (λ (u : User). string_bytes u.name ∷ map seat_name others) answer.user_is;
         limits = λ l. (limit_at first next answer.user_is l.0, l.1);
         served = λ s. (still_served schema world header first next text _ answer s.0, s.1);
         later = λ count l. (
@@ -87,6 +87,7 @@ module _ (schema : DatabaseSchema) (world : FactSet) (header : List ℕ) {D : Ty
       let tail : Stay others after = stay_told name text others after told_reply rest in
       record {
         names = ap (λ js. seat_journal seat ∷ js) tail.names;
+        users = ap (λ ns. seat_name seat ∷ ns) tail.users;
         limits = λ l. (l.0, tail.limits l.1);
         served = λ s. (s.0, tail.served s.1);
         later = λ count l. (l.0, tail.later count l.1);
@@ -100,6 +101,7 @@ module _ (schema : DatabaseSchema) (world : FactSet) (header : List ℕ) {D : Ty
       let tail : Stay old new = stay_reopened old new are.1 in
       record {
         names = ap (λ j. j ∷ journals new) are.0.journal_is ∙ ap (λ js. seat_journal o ∷ js) tail.names;
+        users = ap (λ (u : User). string_bytes u.name ∷ map seat_name new) are.0.user_is ∙ ap (λ ns. seat_name o ∷ ns) tail.users;
         limits = λ l. (limit_at o n are.0.user_is l.0, tail.limits l.1);
         served = λ s. (are.0.opened.served, tail.served s.1);
         later = λ count l.
@@ -201,12 +203,73 @@ module _ (schema : DatabaseSchema) (world : FactSet) (header : List ℕ) {D : Ty
       (subst (λ n. Runs schema world header Disk asks mid (lines ++ []) n says) (sym same)
       (subst (λ o. Runs schema world header Disk asks mid o last says) (sym (append-nil lines)) runs)) part
 
-  -- memory was wanting at a restart
-  pub to_restart : (wrote : Type 0) (items front rest : List BatchItem) (old new : List (DeskSeat D g h)) (is_broken : Bool) (before after : List ℕ)
-      → items ≡ front ++ restarted ∷ rest → RunsAll schema world header Disk wrote front old new is_broken before after
+  -- memory was wanting where a stretch began
+  pub to_here : (wrote : Type 0) (items front back : List BatchItem) (old new : List (DeskSeat D g h)) (is_broken : Bool) (before after : List ℕ)
+      → items ≡ front ++ back → RunsAll schema world header Disk wrote front old new is_broken before after
       → RunsTo schema world header Disk wrote items old new before after
-  to_restart wrote items front rest old new is_broken before after split so_far =
-      record { front = front; rest = rest; split = split; is_broken = is_broken; all = so_far }
+  to_here wrote items front back old new is_broken before after split so_far = (
+    record {
+      earlier = front;
+      stretch = [];
+      back = back;
+      split = split ∙ ap (λ l. l ++ back) (sym (append-nil front));
+      one = tt;
+      mid = new;
+      output = so_far.output;
+      lines = [];
+      was_broken = is_broken;
+      says_broken = false;
+      first = so_far.runs;
+      last = nothing new;
+      appended = λ w. (0, so_far.appended w ∙ sym (append-nil (before ++ so_far.output)));
+    },
+    λ w. refl,
+  )
+
+  -- a stretch was carried out, and none of its lines written
+  pub to_unwritten : (wrote : Type 0) (items earlier stretch back : List BatchItem) (old mid new : List (DeskSeat D g h)) (was says : Bool)
+      (before after final lines : List ℕ) → items ≡ (earlier ++ stretch) ++ back → IsStretch stretch
+      → RunsAll schema world header Disk wrote earlier old mid was before after
+      → Runs schema world header Disk stretch mid lines new says → (wrote → final ≡ after)
+      → RunsTo schema world header Disk wrote items old new before final
+  to_unwritten wrote items earlier stretch back old mid new was says before after final lines split one so_far runs same = (
+    record {
+      earlier = earlier;
+      stretch = stretch;
+      back = back;
+      split = split;
+      one = one;
+      mid = mid;
+      output = so_far.output;
+      lines = lines;
+      was_broken = was;
+      says_broken = says;
+      first = so_far.runs;
+      last = runs;
+      appended = λ w. (0, same w ∙ so_far.appended w ∙ sym (append-nil (before ++ so_far.output)));
+    },
+    λ w. refl,
+  )
+
+  -- memory was wanting as a stretch ended
+  pub no_memory : (wrote : Type 0) (items done asks others : List BatchItem) (old mid last : List (DeskSeat D g h)) (was says : Bool)
+      (before after final lines : List ℕ) → items ≡ (done ++ (asks ++ restarted ∷ [])) ++ others → IsStretch asks → IsStretch (asks ++ restarted ∷ [])
+      → RunsAll schema world header Disk wrote done old mid was before after → Runs schema world header Disk asks mid lines last says
+      → (is_again : Bool) (new : List (DeskSeat D g h)) → MaybeReopened schema world header Disk is_again last new → (is_written : Bool)
+      → (wrote → final ≡ after ++ (if is_written then lines else [])) → (is_written ≡ true → is_again ≡ false)
+      → RunsTo schema world header Disk wrote items old new before final
+  no_memory wrote items done asks others old mid last was says before after final lines split one whole so_far runs true new again false written only =
+      to_unwritten wrote items done (asks ++ restarted ∷ []) others old mid new was (says || false) before after final (lines ++ restart_bytes true) split
+      whole so_far (restarted_more asks mid last new lines says runs again) (λ w. written w ∙ append-nil after)
+  no_memory wrote items done asks others old mid last was says before after final lines split one whole so_far runs true new again true written only =
+      let clash : true ≡ false = only refl in absurd cc
+  no_memory wrote items done asks others old mid last was says before after final lines split one whole so_far runs false new same false written only =
+      to_unwritten wrote items done asks (restarted ∷ others) old mid new was says before after final lines (before_restart items done asks others split) one
+      so_far (subst (λ n. Runs schema world header Disk asks mid lines n says) (sym same) runs) (λ w. written w ∙ append-nil after)
+  no_memory wrote items done asks others old mid last was says before after final lines split one whole so_far runs false new same true written only =
+      to_here wrote items (done ++ asks) (restarted ∷ others) old new (was || says) before final (before_restart items done asks others split)
+      (all_more wrote done asks old mid new was says (was || says) before after final lines refl so_far
+      (subst (λ n. Runs schema world header Disk asks mid lines n says) (sym same) runs) written)
 
 -- ---- the asks of a stretch
 
@@ -218,12 +281,6 @@ asks_one (ask ∷ asks) = asks_one asks
 pub ended_one : (asks : List BatchAsk) → IsStretch (stretch_in asks ++ restarted ∷ [])
 ended_one [] = refl
 ended_one (ask ∷ asks) = ended_one asks
-
--- the first of some asks, with one more
-pub stretch_more : (asks : List BatchAsk) (i : ℕ) (ask : BatchAsk) → i < length asks → ask ≡ get_or asks i ask
-    → stretch_in (take (i + 1) asks) ≡ stretch_in (take i asks) ++ asked (ask_in ask) ∷ []
-stretch_more asks i ask low is =
-    ap (map asked) (map_more ask_in asks i ask low is) ∙ map-append asked (map ask_in (take i asks)) (ask_in ask ∷ [])
 
 -- what holds of each stretch holds of the next
 pub asks_at : (P : List BatchAsk → Type 0) (ended : List (Vec BatchAsk Global)) (i : ℕ) (asks : Vec BatchAsk Global) → i < length ended
@@ -239,11 +296,6 @@ all_as_opened schema world header Disk [] [] are = tt
 all_as_opened schema world header Disk [] (n ∷ news) are = absurd are
 all_as_opened schema world header Disk (o ∷ olds) [] are = absurd are
 all_as_opened schema world header Disk (o ∷ olds) (n ∷ news) are = (are.0.opened.fresh, all_as_opened schema world header Disk olds news are.1)
-
--- one more line of the output
-pub output_more : (lines new : List OutputLine) (line : OutputLine) → new ≡ lines ++ line ∷ [] → output_bytes new ≡ output_bytes lines ++ line.text
-output_more lines new line is =
-    ap output_bytes is ∙ flat_map-append (λ (l : OutputLine). l.text) lines (line ∷ []) ∙ ap (λ l. output_bytes lines ++ l) (append-nil line.text)
 
 -- the asks of a stretch in front of others, as items of the batch
 pub stretch_split : (ended : List (Vec BatchAsk Global)) (last : List BatchAsk) (i : ℕ) (asks : Vec BatchAsk Global) → i < length ended

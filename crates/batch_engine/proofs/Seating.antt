@@ -335,6 +335,15 @@ module _ (schema : DatabaseSchema) (world : FactSet) (header directory : List �
           (subst (λ (s : UserState). OpensWithin schema world user.profile header (length (seat_kept seat).opening) (s.entries ++ option_to_list s.pending) c)
           (sym same) (within served c at)))
 
+      -- and nothing new, where he didn't ask at an open desk
+      rests : is_sealed (seat_standing seat) ≡ false → (list_any is_opened events && list_any is_ask events) ≡ false → (c : List ℕ)
+          → Disk.image_since disk (Disk.moment (seat_disk seat)) c → images user.name c
+      rests served idle c at =
+          let none : list_any is_ask events ≡ false = ap (λ b. b && list_any is_ask events) (sym (seated.living.held served)) ∙ idle in
+          (seated.living.kept idle).1 c
+          (clock.only_now (seat_disk seat) c
+          (subst (λ d. Disk.image_since d (Disk.moment (seat_disk seat)) c) (closed.still (seated.fresh none)) at))
+
       by : (b : Bool) → is_sealed (seat_standing seat) ≡ b
           → IsAlong schema world user.profile header (images user.name) user.opened seated.began seated.opens_at events (Disk.moment disk)
           (Disk.image_since disk)
@@ -346,7 +355,7 @@ module _ (schema : DatabaseSchema) (world : FactSet) (header directory : List �
           (Disk.moment disk)
           (Disk.image_since (seat_disk seat)) (Disk.image_since disk) closed.time (λ some. amid served)
           (λ front rest split begins some. behind served front rest split begins)
-          (λ none. let e : true ≡ false = sym (seated.living.held served) ∙ none in absurd cc) seated.along
+          (rests served) seated.along
 
   -- ---- openings
 
@@ -475,10 +484,11 @@ module _ (schema : DatabaseSchema) (world : FactSet) (header directory : List �
         let along = along_open schema world user.profile header (images user.name) user.opened seated.began seated.opens_at events step.found step.opens
         (Disk.moment closed) (Disk.moment (seat_disk new)) (Disk.image_since closed) (Disk.image_since (seat_disk new)) (Disk.image closed) again.left.time
         again.left.rests running.stays.stands
-        (λ none c at. (running.stays.kept (ap (λ b. b && list_any is_ask events) none)).1 c at)
+        (λ idle c at. (running.stays.kept idle).1 c at)
         (λ held c at. amid_all schema world user.profile header (opening schema world user.profile user.opened)
         (events ++ restart step.found step.opens ∷ []) c
         (step.running.stays.stands (opened_behind events step.found step.opens held) c (clock.only_now (seat_disk new) c at)))
+        (λ idle c at. (step.running.stays.kept idle).1 c (clock.only_now (seat_disk new) c at))
         (along_at user events old closed seated again.is_closed) in (
           step.found,
           step.opens,
@@ -572,10 +582,11 @@ module _ (schema : DatabaseSchema) (world : FactSet) (header directory : List �
           let along = along_open schema world (profile_of user) header (images name) opened (Disk.moment is.taken) (Disk.moment is.taken) [] step.found
           step.opens (Disk.moment is.taken) (Disk.moment (seat_disk seat)) (Disk.image_since is.taken) (Disk.image_since (seat_disk seat))
           (Disk.image is.taken) is.left.time is.left.rests
-          (λ some. absurd cc) (λ none c at. first c at)
+          (λ some. absurd cc) (λ idle c at. first c at)
           (λ held c at. amid_all schema world (profile_of user) header (Run.opening schema world (profile_of user) opened)
           ([] ++ restart step.found step.opens ∷ []) c
           (step.running.stays.stands (opened_behind [] step.found step.opens held) c (clock.only_now (seat_disk seat) c at)))
+          (λ idle c at. (step.running.stays.kept idle).1 c (clock.only_now (seat_disk seat) c at))
           (along_first schema world (profile_of user) header (images name) opened (Disk.moment is.taken) (Disk.image_since is.taken)
           (λ c at. first c (clock.only_now is.taken c at))) in
           record {

@@ -1,5 +1,5 @@
 -- What short asks are short of.
-use Rattle.std.proofs.Common.{◌≡◌, ◌≤◌, ℕ, true, List, [], ◌∷◌, length, map, get_or, ◌<◌, zero, suc, arith}
+use Rattle.std.proofs.Common.{◌≡◌, ◌≤◌, ℕ, true, List, [], ◌∷◌, length, map, get_or, ◌<◌, zero, suc, ap, ◌∙◌, arith}
 use Rattle.std.specs.Prelude.{nat_le, decimal}
 use Rattle.std.specs.List.{list_all}
 use Rattle.std.proofs.lemmas.Fmt.{length-decimal-le}
@@ -29,3 +29,8 @@ pub short_at : (asks : List BatchAsk) (i : ℕ) (d : BatchAsk) → i < length as
 short_at [] i d low short = absurd (omega (arith, low))
 short_at (ask ∷ asks) zero d low short = (and_parts _ _ short).0
 short_at (ask ∷ asks) (suc i) d low short = short_at asks i d (omega (arith, low)) (and_parts _ _ short).1
+
+-- and so is one that stands at its place
+pub short_here : (asks : List BatchAsk) (i : ℕ) (ask : BatchAsk) → i < length asks → ask ≡ get_or asks i ask
+    → list_all is_short_ask (map ask_in asks) ≡ true → is_short_ask (ask_in ask) ≡ true
+short_here asks i ask low is short = ap (λ a. is_short_ask (ask_in a)) is ∙ short_at asks i ask low short

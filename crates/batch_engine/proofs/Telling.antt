@@ -14,7 +14,8 @@ use Rattle.batch_engine.specs.BatchLines.{BatchItem, asked, restarted}
 use Rattle.batch_engine.specs.Batch.{IsEventOf, AreEventsOf, line_bytes, is_broken_line, with_opening}
 use Rattle.std.proofs.Math.Bool.{or-false}
 use Rattle.cqe_base.proofs.Lists.{or_assoc}
-use Rattle.batch_engine.specs.Steps.{Carries, is_broken_reply, Runs, nothing, more}
+use Rattle.batch_engine.specs.Answers.{is_broken_reply}
+use Rattle.batch_engine.specs.Steps.{Carries, Runs, nothing, more}
 use Rattle.desk_crew.specs.Seats.{DeskSeat}
 use Rattle.batch_engine.proofs.Courses.{IsExclusive, any-push}
 use Rattle.batch_engine.proofs.Along.{Clock}

@@ -195,21 +195,17 @@ module _ (schema : DatabaseSchema) (world : FactSet) (header : List ℕ) (journa
       pub lines : transcript schema world answers.users
           (with_opening answers.found answers.opened answers.events) ≡ whole ++ last
 
-    -- what was appended answers the items before a restart, and no more
-    pub record AppendsTo (items : List BatchItem) (old new : List ℕ) : Type 0 where
-      pub front : List BatchItem
-      pub rest : List BatchItem
-      pub split : items ≡ front ++ restarted ∷ rest
-      pub written : List ℕ
-      pub appended : new ≡ old ++ written
-      pub answers : AnswersBatch policy front written
+    -- What was appended are the lines that answer some first stretches of these items, each whole;
+    -- one more stretch may have been answered of which nothing was written.
+    abbrev pub AppendsTo : List BatchItem → List ℕ → List ℕ → Type 0
+    AppendsTo items old new = (some : AppendsSome items old new) × (some.part ≡ 0)
 
     -- the bytes are a batch, and some first stretches were answered so
     abbrev pub BreaksBatch : List ℕ → List ℕ → List ℕ → Type 0
     BreaksBatch bytes old new =
         (items : List BatchItem) × (batch_of bytes ≡ Ok items) × AppendsSome items old new
 
-    -- the bytes are a batch, and its items before a restart were answered so
+    -- the bytes are a batch, and its first stretches were answered so
     abbrev pub Stops : List ℕ → List ℕ → List ℕ → Type 0
     Stops bytes old new =
         (items : List BatchItem) × (batch_of bytes ≡ Ok items) × AppendsTo items old new
@@ -253,6 +249,15 @@ IsUnopened ReadFault = Unit {0}
 IsUnopened WriteFault = ⊥
 IsUnopened ShelfFault = ⊥
 IsUnopened Memory = ⊥
+
+-- the end of a batch of which nothing was written; want of memory may come behind a restart
+abbrev pub IsSilent : BatchEnd → Type 0
+IsSilent (Done refusals is_broken) = ⊥
+IsSilent (Refused refusal) = Unit {0}
+IsSilent ReadFault = Unit {0}
+IsSilent WriteFault = ⊥
+IsSilent ShelfFault = Unit {0}
+IsSilent Memory = ⊥
 
 -- the end of a batch in which some ask was answered that an append failed
 abbrev pub IsBroken : BatchEnd → Type 0

@@ -213,3 +213,13 @@ module _ (schema : DatabaseSchema) (world : FactSet) (header : List ℕ)
       → IsLateFor journals one name (journals'.bytes name) first front rest
       → IsAnsweredTo journals' two name left second call'
       → IsLateRun journals one name (journals'.bytes name) first front rest call'
+
+  -- Two batches of one policy were answered, whose users began with the same histories and whose
+  -- events were the same: they wrote the same bytes. So it is with every number of workers.
+  abbrev pub SameEventsSameLines : Journals → Journals → Type 0
+  SameEventsSameLines journals journals' =
+      (items items' : List BatchItem) (written written' : List ℕ)
+      (one : AnswersBatch schema world header journals policy items written)
+      (two : AnswersBatch schema world header journals' policy items' written')
+      → two.users ≡ one.users → script_of journals' two ≡ script_of journals one
+      → written' ≡ written

@@ -2,7 +2,10 @@ pub mod BatchLines
 pub mod Said
 pub mod Batches
 pub mod BatchOf
-pub mod Outputs
+pub mod Answers
+pub mod Ordered
+pub mod Written
+pub mod Posts
 pub mod Lives
 pub mod Batch
 pub mod DeskEnds

@@ -1,10 +1,11 @@
 -- What an item does to the seats, and its line.
 use Rattle.std.specs.Prelude.{◌≡◌, ℕ, Bool, true, false, ◌||◌, List, [], ◌∷◌, ◌++◌, take}
-use Rattle.std.specs.Prelude.{Option, Some, map}
+use Rattle.std.specs.Prelude.{Option, map, if◌then◌else◌}
 use Rattle.outside.specs.declared.disk.Disk.{Ghosts as DiskGhosts}
 use Rattle.cqe_base.specs.Schema.{DatabaseSchema}
 use Rattle.cqe_base.specs.Facts.{FactSet}
-use Rattle.cqe_base.specs.Run.{Reply, desk_broken}
+use Rattle.cqe_base.specs.Run.{Reply}
+use Rattle.batch_engine.specs.Answers.{is_broken_reply}
 use Rattle.cqe_base.specs.Transcript.{reply_line, restart_line, line_text}
 use Rattle.batch_engine.specs.BatchLines.{BatchItem, asked, restarted}
 use Rattle.desk_crew.specs.Crew.{Tells, AreReopened}
@@ -14,11 +15,6 @@ use Rattle.batch_engine.specs.DeskEnds.{DeskEnded}
 use Rattle.batch_engine.specs.declared.run.Answered.{Answered}
 use Rattle.batch_engine.specs.declared.run.Answered.TheVariants.{All, Cut, Memory}
 use Rattle.batch_engine.specs.declared.run.Ended.TheVariants.{Again, CutOff, NoMemory}
-
--- whether a reply says that an append failed
-abbrev pub is_broken_reply : Option Reply → Bool
-is_broken_reply (Some desk_broken) = true
-is_broken_reply reply = false
 
 -- the bytes of a restart's line, where there is one
 abbrev pub restart_bytes : Bool → List ℕ
@@ -73,14 +69,13 @@ module _ (schema : DatabaseSchema) (world : FactSet) (header : List ℕ) {D : Ty
     pub last : Runs stretch mid lines new says_broken
     pub appended : wrote → (n : ℕ) × (after ≡ (before ++ output) ++ take n lines)
 
-  -- the items before a restart were carried out and their lines appended, and no more
-  pub record RunsTo {g h : _} (wrote : Type 0) (items : List BatchItem)
-      (old new : List (DeskSeat D g h)) (before after : List ℕ) : Type 0 where
-    pub front : List BatchItem
-    pub rest : List BatchItem
-    pub split : items ≡ front ++ restarted ∷ rest
-    pub is_broken : Bool
-    pub all : RunsAll wrote front old new is_broken before after
+  -- some first stretches were carried out, and the lines of all of them but the last were appended;
+  -- of the last one none was
+  abbrev pub RunsTo : {g h : _} → Type 0 → List BatchItem → List (DeskSeat D g h)
+      → List (DeskSeat D g h) → List ℕ → List ℕ → Type 0
+  RunsTo wrote items old new before after =
+      (some : RunsSome wrote items old new before after)
+      × ((w : wrote) → (some.appended w).0 ≡ 0)
 
   -- How items were answered. The disks are back as the seats left them; with the first refusal of
   -- each seat, where all items were.
@@ -102,7 +97,7 @@ module _ (schema : DatabaseSchema) (world : FactSet) (header : List ℕ) {D : Ty
 
   -- How a stretch ended whose lines were still to be written. Once its counters were closed they
   -- were, and that of the restart; or a write failed, behind the restart or without it; or memory
-  -- was wanting at the restart.
+  -- was wanting, and none was written, or all but that of the restart, which didn't come.
   abbrev pub IsEnded : {g h : _} → Type 0 → (List (DeskSeat D g h) → Type 0)
       → List (DeskSeat D g h) → List ℕ → List ℕ → List ℕ → DeskEnded D g h → Type 0
   IsEnded wrote are_back old lines before after (Again new) =
@@ -112,8 +107,11 @@ module _ (schema : DatabaseSchema) (world : FactSet) (header : List ℕ) {D : Ty
       (is_again : Bool) × (new : List (DeskSeat D g h)) × MaybeReopened is_again old new
       × are_back new
       × (wrote → (n : ℕ) × (after ≡ before ++ take n (lines ++ restart_bytes is_again)))
-  IsEnded wrote are_back old lines before after NoMemory =
-      are_back old × (wrote → after ≡ before ++ lines)
+  IsEnded {g} {h} wrote are_back old lines before after NoMemory =
+      (is_again : Bool) × (new : List (DeskSeat D g h)) × MaybeReopened is_again old new
+      × are_back new × (is_written : Bool)
+      × (wrote → after ≡ before ++ (if is_written then lines else []))
+      × (is_written ≡ true → is_again ≡ false)
 
 -- a stretch goes on
 abbrev pub GoesOn : {D : Type 0} {g h : _} → DeskEnded D g h → Type 0

@@ -1,6 +1,6 @@
 //! What is to be done in a batch.
 
-ghost use Rattle.std.specs.Prelude.{◌≡◌, ◌≤◌, true, [], ◌∷◌, ◌++◌, length, All, OnOk};
+ghost use Rattle.std.specs.Prelude.{◌≡◌, true, [], ◌∷◌, ◌++◌, All, OnOk};
 ghost use Rattle.std.specs.List.{list_all};
 ghost use Rattle.batch_engine.specs.BatchLines.{asked, restarted};
 ghost use Rattle.batch_engine.specs.Said.{ask_said, is_short_ask, is_short_item};
@@ -57,20 +57,6 @@ impl Batch {
         ensures short { AreShort result.now }
     {
         self.last.as_slice()
-    }
-
-    /// The number of asks in the longest stretch.
-    pub fn longest(&self) -> usize
-        ensures ended { All (λ asks. length asks.items ≤ result) (ended_of self.now) }
-        ensures last { length (last_of self.now) ≤ result }
-    {
-        let mut most = self.last.len();
-        for asks in self.ended.as_slice() {
-            if asks.len() > most {
-                most = asks.len();
-            }
-        }
-        most
     }
 
     // One more ask behind the others.

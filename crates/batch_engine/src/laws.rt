@@ -7,6 +7,7 @@ ghost use Rattle.desk_crew.specs.Shelved.{journals_on};
 ghost use Rattle.batch_engine.specs.Joining.{BatchesAreCalls, BatchesAreSpans, BatchesJoin};
 ghost use Rattle.batch_engine.specs.Joining.{CutBatchesAreCalls, CutBatchesJoin, LaterCutsAreCalls};
 ghost use Rattle.batch_engine.specs.Joining.{LateBatchesJoin};
+ghost use Rattle.batch_engine.specs.Joining.{SameEventsSameLines};
 
 use outside::Shelf;
 
@@ -14,10 +15,11 @@ use outside::Shelf;
 /// journal held, a batch is a call to him over what his journal read as it began, whatever a crash
 /// leaves as it ends; and a batch that a crash cut at any moment since is one with some first of
 /// his events, since the end of a stretch with at least those of the stretch and before it. Each
-/// is a part of his one history, too. So by `user_desk::laws::law_lives_join` any list of batches
-/// and crashes is one run. Of two that were answered, to the end or until a write failed or memory
-/// was wanting, it is said here, with a crash behind the first or in its midst: there, too, with
-/// all events of a stretch that had ended and before it.
+/// is a part of his one history, too. Of two that were answered, to the end or until a write failed
+/// or memory was wanting, it is said here that they are one run, with a crash behind the first or
+/// in its midst (any number of them are by `cqe_top::laws::law_any_batches_join`): there, too, with
+/// all events of a stretch that had ended and before it. And where the events of two are the same,
+/// so is what they wrote, with however many workers.
 pub fn law_batches_join<F: Shelf>(before: &F, behind: &F, later_before: &F, later_behind: &F)
     ensures calls { (directory : Text) → BatchesAreCalls
         (journals_on F.Shelf F.D.Disk directory before.now behind.now) }
@@ -27,6 +29,11 @@ pub fn law_batches_join<F: Shelf>(before: &F, behind: &F, later_before: &F, late
         (journals_on F.Shelf F.D.Disk directory before.now behind.now) }
     ensures late { (directory : Text) → LaterCutsAreCalls
         (journals_on F.Shelf F.D.Disk directory before.now behind.now) }
+    ensures same_lines { (directory : Text) (schema : DatabaseSchema) (world : FactSet)
+        (header : List ℕ) (policy : List NamedUser)
+        → SameEventsSameLines schema world header policy
+        (journals_on F.Shelf F.D.Disk directory before.now behind.now)
+        (journals_on F.Shelf F.D.Disk directory later_before.now later_behind.now) }
     ensures joined { (directory : Text) (schema : DatabaseSchema) (world : FactSet)
         (header : List ℕ) (policy : List NamedUser) → BatchesJoin schema world header policy
         (journals_on F.Shelf F.D.Disk directory before.now behind.now)

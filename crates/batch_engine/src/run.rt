@@ -1,51 +1,48 @@
 //! A batch from its first byte to its last line.
 
-ghost use Rattle.std.specs.Prelude.{◌≡◌, ◌<◌, ◌≤◌, ◌++◌, ◌∷◌, [], true, false, map, length, All};
-ghost use Rattle.std.specs.Prelude.{List, ℕ, option_map, IfOk, vec_len, vec_capacity};
+ghost use Rattle.std.specs.Prelude.{◌≡◌, ◌<◌, ◌≤◌, [], false, map, length, All, List};
+ghost use Rattle.std.specs.Prelude.{vec_len, vec_capacity};
 ghost use Rattle.std.specs.List.{AllByRecursion};
+ghost use Rattle.std.specs.List.Sorted.{IsPermutation};
 ghost use Rattle.outside.specs.Faults.{Rose};
 ghost use Rattle.outside.specs.Shelf.{SameNames};
-ghost use Rattle.cqe_base.specs.Schema.{DatabaseSchema, has_duplicate};
-ghost use Rattle.cqe_base.specs.Facts.{FactSet};
-ghost use Rattle.cqe_base.specs.Transcript.{reply_line, line_text};
+ghost use Rattle.cqe_base.specs.Schema.{has_duplicate};
+ghost use Rattle.line_protocol.specs.Rests.{IsRest};
 ghost use Rattle.log_journal.specs.Opening.{header_bytes};
-ghost use Rattle.user_log.specs.Replies.{reply_of};
-ghost use Rattle.batch_engine.specs.Said.{is_short_ask};
-ghost use Rattle.batch_engine.specs.Batches.{ask_in, stretch_in, AreShort};
-ghost use Rattle.desk_crew.specs.Crew.{named_user, IsSeatServed};
+ghost use Rattle.desk_crew.specs.Crew.{named_user, seat_name, IsSeatServed};
 ghost use Rattle.outside.specs.Shelf.{AllOut, AllIn, NoneOut, NoneFell, SomeRose, SameBeside};
 ghost use Rattle.desk_crew.specs.Shelved.{journals, journals_on};
 ghost use Rattle.desk_crew.specs.Shelved.{AreLater, AreBack};
 ghost use Rattle.desk_crew.specs.Registered.{AllKeepLimits, SeatsKeepLimits};
 ghost use Rattle.desk_crew.specs.Registered.{registered_journals, HaveOwnNames};
-ghost use Rattle.batch_engine.specs.BatchOf.{items_of, ended_of, last_of};
-ghost use Rattle.batch_engine.specs.AnswerTexts.{answer_text};
-ghost use Rattle.batch_engine.specs.Outputs.{output_bytes};
-ghost use Rattle.batch_engine.specs.Steps.{Runs, is_broken_reply, IsAnswered, IsEnded, GoesOn};
-ghost use Rattle.batch_engine.specs.Steps.{IsCutOff};
-ghost use Rattle.batch_engine.specs.Batch.{EndsBatch, LeavesJournals, IsUnopened, IsBroken};
+ghost use Rattle.batch_engine.specs.BatchOf.{items_of};
+ghost use Rattle.batch_engine.specs.Answers.{output_bytes, says_broken};
+ghost use Rattle.batch_engine.specs.Ordered.{AreNumbered};
+ghost use Rattle.batch_engine.specs.Steps.{IsAnswered, IsEnded, GoesOn, IsCutOff};
+ghost use Rattle.batch_engine.specs.Batch.{EndsBatch, LeavesJournals, IsUnopened, IsSilent};
+ghost use Rattle.batch_engine.specs.Batch.{IsBroken};
+ghost use Rattle.batch_engine.specs.declared.answer.Answer.{Answer};
 ghost use Rattle.batch_engine.specs.declared.run.Answered.{Answered};
 ghost use Rattle.batch_engine.specs.declared.run.BatchEnd.{BatchEnd};
 
-use crate::batch::{Batch, BatchAsk};
-use crate::closed::{write_again, write_behind};
-use crate::output::OutputLine;
+use crate::answer::{Answer, restarted};
+use crate::batch::Batch;
+use crate::closed::{Written, write_again, write_behind};
+use crate::post::answer_stretch;
 use cqe_base::laws::{law_legal_grows, law_private, law_runs_legal, law_scripts_hide};
 use cqe_base::text::ScriptError;
 use desk_counter::{Owned, TicketedDesk};
 use desk_crew::{
-    DeskSeat, NotOpened, Registry, Seat, answer, give_back, open_all, refusals_of, reopen_all,
-    room_for,
+    DeskSeat, NotOpened, Registry, Seat, give_back, open_all, refusals_of, reopen_all, room_for,
 };
-use line_protocol::{LineText, text_of};
 use log_journal::law_journals_differ;
-use outside::{Disk, Failed, Gate, Shelf, Sink, Source};
+use outside::{Disk, Gate, Shelf, Sink, Source};
 use script_lines::{Reading, read_script};
-use std::alloc::{AllocError, Global};
+use std::alloc::Global;
 use std::sync::Wait;
+use std::thread::Threads;
 use user_desk::DeskError;
 use user_desk::laws::law_openings;
-use user_log::{Reply, line_reply};
 
 /// How a batch ends.
 #[derive(Debug, Drop)]
@@ -73,7 +70,7 @@ enum Answered {
     All(Vec<Option<DeskError>>, bool),
     /// A write failed.
     Cut,
-    /// Memory was wanting at a restart.
+    /// Memory was wanting where a stretch began or ended.
     Memory,
 }
 
@@ -88,85 +85,29 @@ enum Ended<'w, V: Owned> {
     NoMemory,
 }
 
-/// The text of a reply, or that no user has the name.
-fn answer_text(reply: Option<Reply>) -> LineText
-    ensures text { result ≡ answer_text (option_map reply_of reply) }
-    ensures short { length result ≤ 23 }
+/// Whether one of the lines says that an append failed.
+fn says_broken(answers: &[Answer]) -> bool
+    ensures { result ≡ says_broken answers.now }
 {
-    match reply {
-        Some(reply) => text_of(&line_reply(reply)),
-        None => LineText::new("error 23"),
-    }
+    answers.iter().any(|answer| answer.is_broken)
 }
 
-/// The line of an ask and its reply.
-fn line_of(ask: &BatchAsk, reply: Option<Reply>) -> LineText
-    requires { is_short_ask (ask_in ask.now) ≡ true }
-    ensures { result ≡ line_text (reply_line (ask_in ask.now).name (ask_in ask.now).session
-        (option_map reply_of reply)) ++ 10 ∷ [] }
-{
-    let text = answer_text(reply);
-    let mut line = LineText::new(ask.name.as_str());
-    line.push(" ");
-    line.push_decimal(u32::from(ask.session));
-    line.push(" ");
-    line.push_bytes(text.bytes());
-    line.push("\n");
-    line
-}
-
-/// Whether a reply says that an append failed.
-fn is_broken_reply(reply: Option<Reply>) -> bool
-    ensures { result ≡ is_broken_reply (option_map reply_of reply) }
-{
-    matches!(reply, Some(Reply::Broken))
-}
-
-/// Answers the asks of a stretch, and keeps their lines. It says whether one of them is that an
-/// append failed.
-fn answer_stretch<R: Wait, G: Gate, D: Disk>(
+/// Ends a stretch of so many asks: closes its counters and opens all journals again, and only then
+/// writes its lines and that of the restart. Where it doesn't go on, all disks are back.
+fn restart<'w, R: Threads + Sync, F: Shelf, K: Sink>(
     rt: &R,
     alloc: Global,
-    seats: &mut Vec<DeskSeat<'_, D>>,
-    asks: &[BatchAsk],
-    lines: &mut Vec<OutputLine>,
-    gate: &G,
-) -> bool
-    requires short { AreShort asks.now }
-    requires served { (schema : DatabaseSchema) × (world : FactSet) × (header : List ℕ)
-        × AllByRecursion (IsSeatServed schema world header) seats.old.items }
-    requires room { length asks.now < vec_capacity lines.old }
-    ensures answered { (schema : DatabaseSchema) (world : FactSet) (header : List ℕ)
-        → AllByRecursion (IsSeatServed schema world header) seats.old.items
-        → Runs schema world header D.Disk (stretch_in asks.now)
-        seats.old.items (output_bytes lines.new.items) seats.new.items result }
-    ensures spare { vec_len lines.new < vec_capacity lines.new }
-    ensures capacity { vec_capacity lines.new ≡ vec_capacity lines.old }
-{
-    lines.clear();
-    let mut is_broken = false;
-    for ask in asks {
-        let (name, text) = (ask.name.as_str(), ask.text.as_str());
-        let reply = answer(rt, alloc, seats, name, text, gate);
-        lines.push_reserved(OutputLine {
-            text: line_of(ask, reply),
-        });
-        let is_failed = is_broken_reply(reply);
-        is_broken = is_broken || is_failed;
-    }
-    is_broken
-}
-
-/// Ends a stretch: closes its counters and opens all journals again, and only then writes its lines
-/// and that of the restart. Where it doesn't go on, all disks are back.
-fn restart<'w, F: Shelf, K: Sink>(
-    alloc: Global,
     registry: &Registry<'w>,
+    workers: u32,
     shelf: &mut F,
     seats: Vec<DeskSeat<'w, F::D>>,
-    lines: &mut Vec<OutputLine>,
+    answers: Vec<Answer>,
+    count: usize,
     sink: &mut K,
 ) -> Ended<'w, TicketedDesk<'w, F::D>>
+where
+    F::D: Send,
+    requires some { 1 ≤ workers }
     requires limits { SeatsKeepLimits registry.now.schema.now seats.items }
     requires served { AllByRecursion (IsSeatServed registry.now.schema.now registry.now.world.now
         (header_bytes registry.now.header.now)) seats.items }
@@ -175,13 +116,13 @@ fn restart<'w, F: Shelf, K: Sink>(
     requires distinct { has_duplicate (journals seats.items) ≡ false }
     requires out { AllOut (journals seats.items) (F.is_out shelf.old) }
     requires later { AreLater F.D.faults (F.disk_faults shelf.old) seats.items }
-    requires spare { vec_len lines.old < vec_capacity lines.old }
-    ensures ended { IsEnded registry.now.schema.now registry.now.world.now
+    requires spare { vec_len answers < vec_capacity answers }
+    ensures ended { (lines : List Answer) → AreNumbered lines
+        → All (λ line. line.number < count) lines → IsPermutation lines answers.items
+        → IsEnded registry.now.schema.now registry.now.world.now
         (header_bytes registry.now.header.now) F.D.Disk K.tells
         (λ left. AreBack F.tells F.D.Disk (F.disk shelf.new) (F.disk_faults shelf.new) left)
-        seats.entry.items (output_bytes lines.old.items) (K.written sink.old) (K.written sink.new)
-        result }
-    ensures capacity { vec_capacity lines.new ≡ vec_capacity lines.old }
+        seats.entry.items (output_bytes lines) (K.written sink.old) (K.written sink.new) result }
     ensures untouched { GoesOn result → shelf.new ≡ shelf.old }
     ensures inside { (GoesOn result → ⊥) → AllIn (journals seats.entry.items) (F.is_out shelf.new) }
     ensures others_out { SameBeside (journals seats.entry.items) (F.is_out shelf.old)
@@ -195,49 +136,56 @@ fn restart<'w, F: Shelf, K: Sink>(
     ensures sink_later { K.faults sink.old ≤ K.faults sink.new }
     ensures cause { IsCutOff result → Rose (K.faults sink.old) (K.faults sink.new) }
 {
-    let Some(seats) = reopen_all(alloc, registry, shelf, seats) else {
-        return match write_behind(sink, lines.as_slice(), registry, shelf) {
-            Ok(()) => Ended::NoMemory,
-            Err(Failed) => Ended::CutOff,
+    let mut answers = answers;
+    let Some(seats) = reopen_all(rt, alloc, registry, workers as usize, shelf, seats) else {
+        return match write_behind(rt, alloc, answers, sink, registry, shelf) {
+            Written::All => Ended::NoMemory,
+            Written::Part => Ended::CutOff,
+            Written::Nothing => Ended::NoMemory,
         };
     };
-    lines.push_reserved(OutputLine {
-        text: LineText::new("* restarted\n"),
-    });
-    match write_again(sink, lines.as_slice(), seats.as_slice()) {
-        Ok(()) => Ended::Again(seats),
-        Err(Failed) => {
+    answers.push_reserved(restarted(count));
+    match write_again(rt, alloc, answers, sink, seats.as_slice()) {
+        Written::All => Ended::Again(seats),
+        Written::Part => {
             give_back(shelf, seats);
             Ended::CutOff
+        }
+        Written::Nothing => {
+            give_back(shelf, seats);
+            Ended::NoMemory
         }
     }
 }
 
-/// Answers the items of a batch, stretch by stretch. The lines of a stretch are written once its
-/// counters are closed. All disks are given back.
-fn answer_all<'w, R: Wait, G: Gate, F: Shelf, K: Sink>(
+/// Answers the items of a batch, stretch by stretch, the users of a stretch side by side. The lines
+/// of a stretch are written once its counters are closed. All disks are given back.
+fn answer_all<'w, R: Threads + Wait + Sync, G: Gate + Sync, F: Shelf, K: Sink>(
     rt: &R,
     alloc: Global,
     registry: &Registry<'w>,
+    workers: u32,
     shelf: &mut F,
     seats: Vec<DeskSeat<'w, F::D>>,
     batch: &Batch,
-    rooms: (Vec<Option<DeskError>>, Vec<OutputLine>),
+    room: Vec<Option<DeskError>>,
     sink: &mut K,
     gate: &G,
 ) -> Answered
+where
+    F::D: Send,
+    requires some { 1 ≤ workers }
     requires limits { SeatsKeepLimits registry.now.schema.now seats.items }
     requires served { AllByRecursion (IsSeatServed registry.now.schema.now registry.now.world.now
         (header_bytes registry.now.header.now)) seats.items }
+    requires names { has_duplicate (map seat_name seats.items) ≡ false }
     requires registered { journals seats.items
         ≡ registered_journals registry.now.directory.now registry.now.users.now }
     requires distinct { has_duplicate (journals seats.items) ≡ false }
     requires out { AllOut (journals seats.items) (F.is_out shelf.old) }
     requires later { AreLater F.D.faults (F.disk_faults shelf.old) seats.items }
-    requires empty { rooms.0.items ≡ [] }
-    requires refusals { length seats.items ≤ vec_capacity rooms.0 }
-    requires ended { All (λ asks. length asks.items < vec_capacity rooms.1) (ended_of batch.now) }
-    requires last { length (last_of batch.now) < vec_capacity rooms.1 }
+    requires empty { room.items ≡ [] }
+    requires refusals { length seats.items ≤ vec_capacity room }
     ensures answered { IsAnswered registry.now.schema.now registry.now.world.now
         (header_bytes registry.now.header.now) F.D.Disk K.tells
         (λ left. AreBack F.tells F.D.Disk (F.disk shelf.new) (F.disk_faults shelf.new) left)
@@ -255,53 +203,75 @@ fn answer_all<'w, R: Wait, G: Gate, F: Shelf, K: Sink>(
     ensures cause { result ≡ Answered.Cut → Rose (K.faults sink.old) (K.faults sink.new) }
 {
     let mut seats = seats;
-    let (room, mut lines) = rooms;
     let mut is_broken = false;
     for asks in batch.ended() {
-        let says_broken = answer_stretch(rt, alloc, &mut seats, asks.as_slice(), &mut lines, gate);
+        let asks = asks.as_slice();
+        let (told, answers) = match answer_stretch(rt, alloc, workers, seats, asks, gate) {
+            Ok(told) => told,
+            Err(seats) => {
+                give_back(shelf, seats);
+                return Answered::Memory;
+            }
+        };
+        let says_broken = says_broken(answers.as_slice());
         is_broken = is_broken || says_broken;
-        match restart(alloc, registry, shelf, seats, &mut lines, sink) {
+        match restart(
+            rt,
+            alloc,
+            registry,
+            workers,
+            shelf,
+            told,
+            answers,
+            asks.len(),
+            sink,
+        ) {
             Ended::Again(next) => seats = next,
             Ended::CutOff => return Answered::Cut,
             Ended::NoMemory => return Answered::Memory,
         }
     }
-    let says_broken = answer_stretch(rt, alloc, &mut seats, batch.last(), &mut lines, gate);
-    let refusals = refusals_of(room, seats.as_slice());
-    give_back(shelf, seats);
-    match write_behind(sink, lines.as_slice(), registry, shelf) {
-        Ok(()) => Answered::All(refusals, is_broken || says_broken),
-        Err(Failed) => Answered::Cut,
-    }
-}
-
-/// The room for the lines of each stretch of a batch, one at a time, with that of its restart.
-fn room_for_lines(alloc: Global, batch: &Batch) -> Result<Vec<OutputLine>, AllocError>
-    ensures ended { IfOk result (λ lines.
-        All (λ asks. length asks.items < vec_capacity lines) (ended_of batch.now)) }
-    ensures last { IfOk result (λ lines. length (last_of batch.now) < vec_capacity lines) }
-{
-    match batch.longest().checked_add(1) {
-        Some(count) => room_for(alloc, count),
-        None => Err(AllocError),
+    let (told, answers) = match answer_stretch(rt, alloc, workers, seats, batch.last(), gate) {
+        Ok(told) => told,
+        Err(seats) => {
+            give_back(shelf, seats);
+            return Answered::Memory;
+        }
+    };
+    let says_broken = says_broken(answers.as_slice());
+    let is_broken = is_broken || says_broken;
+    let refusals = refusals_of(room, told.as_slice());
+    give_back(shelf, told);
+    match write_behind(rt, alloc, answers, sink, registry, shelf) {
+        Written::All => Answered::All(refusals, is_broken),
+        Written::Part => Answered::Cut,
+        Written::Nothing => Answered::Memory,
     }
 }
 
 /// Reads the whole script of a batch from the source, refuses it before the first ask, or opens the
 /// journals of all users and answers its asks with one line each, stretch by stretch: a stretch is
-/// what stands between two restarts. Each desk stands under a counter, at which an ask is settled
-/// as those of threads are, and passes the gate. At the end of a stretch all counters are closed,
-/// and only then its lines are written. A restart opens every desk again from its disk. All disks
-/// are given back on every path. It may wait, at the counters and at the gate.
-pub fn run_batch<R: Wait, F: Shelf, S: Source, K: Sink, G: Gate>(
+/// what stands between two restarts. The users of a stretch are answered side by side, by so many
+/// workers, 1 to 64. Each desk stands under a counter, at which an ask is settled as those of
+/// threads are, and passes the gate. At the end of a stretch all counters are closed, and only then
+/// its lines are written, in the order of the script. A restart opens every desk again from its
+/// disk. All disks are given back on every path. It may wait, at the counters and at the gate.
+///
+/// No clause says how many threads run.
+pub fn run_batch<R: Threads + Wait + Sync, F: Shelf, S: Source, K: Sink, G: Gate + Sync>(
     rt: &R,
     alloc: Global,
     registry: &Registry<'_>,
+    workers: u32,
     shelf: &mut F,
     source: &mut S,
     sink: &mut K,
     gate: &G,
 ) -> BatchEnd
+where
+    F::D: Send,
+    requires some { 1 ≤ workers }
+    requires few { workers ≤ 64 }
     requires limits { AllKeepLimits registry.now.schema.now registry.now.users.now }
     requires names { HaveOwnNames registry.now.users.now }
     requires inside { NoneOut (F.is_out shelf.old) }
@@ -327,7 +297,12 @@ pub fn run_batch<R: Wait, F: Shelf, S: Source, K: Sink, G: Gate>(
     ensures files { SameNames (F.file shelf.old) (F.file shelf.new) }
     ensures looked { F.looked shelf.new ≡ F.looked shelf.old }
     ensures counts { NoneFell (F.disk_faults shelf.old) (F.disk_faults shelf.new) }
+    ensures other_counts { SameBeside
+        (registered_journals registry.now.directory.now registry.now.users.now)
+        (F.disk_faults shelf.old) (F.disk_faults shelf.new) }
     ensures unopened { IsUnopened result → shelf.new ≡ shelf.old }
+    ensures silent { IsSilent result → sink.new ≡ sink.old }
+    ensures left { S.tells → IsRest (S.left source.old) (S.left source.new) }
     ensures held { S.held source.new ≡ S.held source.old }
     ensures shelf_later { F.faults shelf.old ≤ F.faults shelf.new }
     ensures source_later { S.faults source.old ≤ S.faults source.new }
@@ -357,16 +332,14 @@ pub fn run_batch<R: Wait, F: Shelf, S: Source, K: Sink, G: Gate>(
     let Ok(room) = room_for(alloc, registry.users.len()) else {
         return BatchEnd::Memory;
     };
-    let Ok(lines) = room_for_lines(alloc, &batch) else {
-        return BatchEnd::Memory;
-    };
-    let seats = match open_all(alloc, registry, shelf) {
+    let seats = match open_all(rt, alloc, registry, workers as usize, shelf) {
         Ok(seats) => seats,
         Err(NotOpened::Shelf) => return BatchEnd::ShelfFault,
         Err(NotOpened::Memory) => return BatchEnd::Memory,
     };
-    let rooms = (room, lines);
-    match answer_all(rt, alloc, registry, shelf, seats, &batch, rooms, sink, gate) {
+    match answer_all(
+        rt, alloc, registry, workers, shelf, seats, &batch, room, sink, gate,
+    ) {
         Answered::All(refusals, is_broken) => BatchEnd::Done(refusals, is_broken),
         Answered::Cut => BatchEnd::WriteFault,
         Answered::Memory => BatchEnd::Memory,

@@ -90,3 +90,11 @@ EndsCase (Refused refusal) before after old new =
 EndsCase ReadFault before after old new = new ≡ old
 EndsCase WriteFault before after old new = (after ≡ []) × BreaksCase before old new
 EndsCase Memory before after old new = new ≡ old
+
+-- the end of a case of which nothing was written
+abbrev pub IsSilent : CaseEnd → Type 0
+IsSilent Done = ⊥
+IsSilent (Refused refusal) = Unit {0}
+IsSilent ReadFault = Unit {0}
+IsSilent WriteFault = ⊥
+IsSilent Memory = Unit {0}

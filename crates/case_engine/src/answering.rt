@@ -12,6 +12,7 @@ ghost use Rattle.cqe_base.specs.Censor.{admitted};
 ghost use Rattle.cqe_base.specs.Limits.{KeepsLimits};
 ghost use Rattle.case_engine.specs.Sound.{is_short};
 ghost use Rattle.case_engine.specs.Answering.{IsTold};
+ghost use Rattle.case_engine.specs.Case.{IsSilent};
 ghost use Rattle.case_engine.specs.Written.{IsAnswered};
 
 use crate::case::CaseEnd;
@@ -24,17 +25,24 @@ use cqe_base::world::World;
 use line_protocol::write_reply;
 use outside::{Failed, Sink};
 use std::alloc::{AllocError, Global};
+use std::thread::Threads;
 use user_log::{Reply, UserLog, line_reply};
 
 /// The reply to one text: by the user's log where he is admitted, else that he isn't.
-fn told(alloc: Global, log: &mut UserLog<'_>, is_open: bool, text: &str) -> Reply
+fn told<R: Threads + Sync>(
+    rt: &R,
+    alloc: Global,
+    log: &mut UserLog<'_>,
+    is_open: bool,
+    text: &str,
+) -> Reply
     requires { length text.now ≤ 4096 }
     ensures same { IsOfSame log.old log.new }
     ensures told { IsTold is_open (kept_schema log.old) (kept_world log.old) (kept_user log.old)
         (kept_history log.old) (kept_history log.new) text.now (reply_of result) }
 {
     if is_open {
-        log.ask(alloc, text)
+        log.ask(rt, alloc, text)
     } else {
         Reply::Closed
     }
@@ -58,7 +66,12 @@ fn is_admitted(
 }
 
 /// Answers the asks of a script. A script without an ask makes no user.
-pub fn answer_all<K: Sink>(alloc: Global, parts: &Parts, sink: &mut K) -> CaseEnd
+pub fn answer_all<R: Threads + Sync, K: Sink>(
+    rt: &R,
+    alloc: Global,
+    parts: &Parts,
+    sink: &mut K,
+) -> CaseEnd
     requires short { list_all is_short (map string_bytes parts.now.asks.items) ≡ true }
     requires sentences { is_user_of parts.now.schema (profile_of parts.now.user) ≡ true }
     requires limits { nat_le 1 (vec_len parts.now.asks) ≡ true
@@ -67,6 +80,7 @@ pub fn answer_all<K: Sink>(alloc: Global, parts: &Parts, sink: &mut K) -> CaseEn
         → IsAnswered parts.now.schema parts.now.facts (profile_of parts.now.user)
         (map string_bytes parts.now.asks.items)
         (K.written sink.old) (K.written sink.new) result }
+    ensures silent { IsSilent result → sink.new ≡ sink.old }
     ensures no_read { result ≡ CaseEnd.ReadFault → ⊥ }
     ensures later { K.faults sink.old ≤ K.faults sink.new }
     ensures cause { result ≡ CaseEnd.WriteFault → Rose (K.faults sink.old) (K.faults sink.new) }
@@ -85,7 +99,7 @@ pub fn answer_all<K: Sink>(alloc: Global, parts: &Parts, sink: &mut K) -> CaseEn
         return CaseEnd::Memory;
     };
     for text in &parts.asks {
-        let reply = told(alloc, &mut log, is_open, text.as_str());
+        let reply = told(rt, alloc, &mut log, is_open, text.as_str());
         match write_reply(sink, &line_reply(reply)) {
             Ok(()) => (),
             Err(Failed) => return CaseEnd::WriteFault,

@@ -2,7 +2,8 @@
 
 ghost use Rattle.std.specs.Prelude.{◌≡◌, ◌≤◌};
 ghost use Rattle.outside.specs.Faults.{Rose};
-ghost use Rattle.case_engine.specs.Case.{EndsCase};
+ghost use Rattle.line_protocol.specs.Rests.{IsRest};
+ghost use Rattle.case_engine.specs.Case.{EndsCase, IsSilent};
 
 use crate::answering::answer_all;
 use crate::script::Script;
@@ -10,6 +11,7 @@ use cqe_base::text::ScriptError;
 use outside::{Sink, Source};
 use script_lines::{Reading, read_script};
 use std::alloc::Global;
+use std::thread::Threads;
 
 /// How a case ends.
 #[derive(Clone, Copy, Debug, PartialEq, Eq)]
@@ -28,10 +30,17 @@ pub enum CaseEnd {
 
 /// Reads the whole script of a case from the source, refuses it before the first ask, or answers
 /// its asks with one line each, which is written before the next is answered.
-pub fn run_case<S: Source, K: Sink>(alloc: Global, source: &mut S, sink: &mut K) -> CaseEnd
+pub fn run_case<R: Threads + Sync, S: Source, K: Sink>(
+    rt: &R,
+    alloc: Global,
+    source: &mut S,
+    sink: &mut K,
+) -> CaseEnd
     ensures ends { S.tells → K.tells
         → EndsCase result (S.left source.old) (S.left source.new) (K.written sink.old)
         (K.written sink.new) }
+    ensures silent { IsSilent result → sink.new ≡ sink.old }
+    ensures left { S.tells → IsRest (S.left source.old) (S.left source.new) }
     ensures held { S.held source.new ≡ S.held source.old }
     ensures source_later { S.faults source.old ≤ S.faults source.new }
     ensures sink_later { K.faults sink.old ≤ K.faults sink.new }
@@ -52,5 +61,5 @@ pub fn run_case<S: Source, K: Sink>(alloc: Global, source: &mut S, sink: &mut K)
     let Ok(parts) = script.into_parts(alloc) else {
         return CaseEnd::Memory;
     };
-    answer_all(alloc, &parts, sink)
+    answer_all(rt, alloc, &parts, sink)
 }

@@ -4,3 +4,5 @@ pub mod Found
 pub mod Asked
 pub mod Admitting
 pub mod Costs
+pub mod Lent
+pub mod Parts

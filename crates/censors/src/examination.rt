@@ -40,22 +40,22 @@ pub struct Findings {
 /// What one probe found, or several against different goals: whether some is spent, and where none
 /// is, whether some goal is entailed.
 #[derive(Clone, Copy)]
-struct Answer {
-    spent: bool,
-    entailed: bool,
+pub(crate) struct Answer {
+    pub(crate) spent: bool,
+    pub(crate) entailed: bool,
 }
 
 /// What the probes of both answers to a query found.
 #[derive(Clone, Copy)]
-struct Harms {
-    spent: bool,
-    yes: bool,
-    no: bool,
+pub(crate) struct Harms {
+    pub(crate) spent: bool,
+    pub(crate) yes: bool,
+    pub(crate) no: bool,
 }
 
 /// The answer to a query that the log entails.
 #[derive(Clone, Copy)]
-struct Implied {
+pub(crate) struct Implied {
     spent: bool,
     answer: Option<bool>,
 }
@@ -95,7 +95,7 @@ pub fn examine(
 }
 
 /// The findings of both answers' harms and, for refusal, of the answer that the log entails.
-fn found(harms: Harms, implied: Option<Implied>) -> Findings
+pub(crate) fn found(harms: Harms, implied: Option<Implied>) -> Findings
     ensures { result ≡ findings_of harms implied }
 {
     match implied {
@@ -115,7 +115,7 @@ fn found(harms: Harms, implied: Option<Implied>) -> Findings
 }
 
 /// For refusal, the answer that the log entails.
-fn ask_implied(
+pub(crate) fn ask_implied(
     alloc: Global,
     view: &mut View<'_>,
     user: &User,
@@ -226,7 +226,7 @@ fn ask_both(
 
 /// Probes the log with a premise against each goal, to the last, whatever the probes before it
 /// found.
-fn ask_each(
+pub(crate) fn ask_each(
     alloc: Global,
     view: &mut View<'_>,
     premise: (&GroundSentence, bool),
@@ -264,7 +264,7 @@ fn ask_each(
 }
 
 /// What two answers say together: some probe is spent, some goal is entailed.
-fn together(first: Answer, second: Answer) -> Answer
+pub(crate) fn together(first: Answer, second: Answer) -> Answer
     ensures { result ≡ together first second }
 {
     Answer {

@@ -3,22 +3,28 @@
 //! They follow Biskup and Bonatti (2004): uniform refusal and uniform lying for known potential
 //! secrets, and the combined censor. `Guards` is what the user's method guards from him, made once
 //! for all of his queries. `examine` makes every probe of a query and looks at no world; its
-//! findings say what the log entails over all worlds. `decide` gives the mark from them and the
-//! query's truth, by the rule of the user's method. `admit` says whether a user can be served in a
-//! world, and else which test fails first. Read `guards`, then `examination`, `marks` and
-//! `admittance`.
+//! findings say what the log entails over all worlds. `examine_beside` finds the same by several
+//! threads, over views that are lent together. `decide` gives the mark from them and the query's
+//! truth, by the rule of the user's method. `admit` says whether a user can be served in a world,
+//! and else which test fails first. Read `guards`, then `examination`, `lent`, `parts`, `beside`,
+//! `marks` and `admittance`.
 #![tactic(auto)]
 
 mod admittance;
+mod beside;
 mod examination;
 mod guards;
 mod laws;
+mod lent;
 mod marks;
+mod parts;
 mod secrets;
 
 pub use admittance::{ADMISSION_BUDGET, Admission, admit};
+pub use beside::{examine_beside, views_for};
 pub use examination::{Findings, examine};
 pub use guards::Guards;
 pub use laws::law_undecided_is_cost;
+pub use lent::LentViews;
 pub use marks::decide;
 pub use secrets::disjunction;

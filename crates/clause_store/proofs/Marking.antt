@@ -1,6 +1,7 @@
 -- The marks of a clause stay those of the clause.
 use Rattle.std.proofs.Common.{◌≡◌, ℕ, ◌<◌, ◌*◌, Bool, true, false, cond, not, ◌||◌, eqb, List, [], ◌∷◌, length, get_or, set, refl, sym, ap, ◌∙◌, inl, inr, ◌⊎◌}
 use Rattle.std.proofs.Common.{arith}
+use Rattle.std.specs.Prelude.{Result, Ok, Err, OnErr}
 use Rattle.std.proofs.lemmas.Bool.{cases_eq, cases_lt, false_from_ne_true, eqb-true, eqb-false}
 use Rattle.std.proofs.lemmas.List.{get_or-set_same, get_or-set_other, length-set, get_or_past, set_past}
 use Rattle.cqe_base.specs.Literal.{Literal, Positive, Negative, variable_of, opposite, same_literal, has_literal, union}
@@ -91,3 +92,8 @@ union_more v c l rest = step (eqb (variable_of l) v)
         → union (union c (cond (not b) (l ∷ []) [])) (without_variable v rest) ≡ union c (cond (not b) (l ∷ without_variable v rest) (without_variable v rest))
     step true = refl
     step false = refl
+
+-- what holds in any case holds of a refusal
+pub at_refusal : {T E P : Type 0} (r : Result T E) → P → OnErr r P
+at_refusal (Ok x) p = tt
+at_refusal (Err x) p = p

@@ -2,7 +2,7 @@
 //! both clauses once.
 
 ghost use Rattle.std.specs.Prelude.{◌≡◌, ◌<◌, ℕ, ◌^◌, ◌++◌, ◌∷◌, [], false, length, slice_set};
-ghost use Rattle.std.specs.Prelude.{slice_index_or, if◌then◌else◌, IfOk, OnErr};
+ghost use Rattle.std.specs.Prelude.{slice_index_or, if◌then◌else◌, IfOk, OnErr, take, drop};
 ghost use Rattle.cqe_base.specs.Literal.{Literal, variable_of, has_literal, union, ClauseBelow};
 ghost use Rattle.cqe_base.specs.Refutation.{without_variable, resolvent};
 ghost use Rattle.clause_store.specs.Codes.{code_of};
@@ -65,10 +65,11 @@ impl MarkedClause {
     /// One more literal.
     fn add(&mut self, literal: Lit) -> Result<(), AllocError>
         requires { variable_of literal < self.old.variables }
-        ensures { IfOk result (λ _. self.new ≡ record self.old {
+        ensures added { IfOk result (λ _. self.new ≡ record self.old {
           clause =
               self.old.clause ++ literal ∷ [];
         }) }
+        ensures refused { OnErr result (self.new ≡ self.old) }
     {
         self.literals.push(literal)?;
         self.marks[code(literal)] = true;
@@ -78,10 +79,11 @@ impl MarkedClause {
     /// One more literal, unless it is of the variable or the clause has it.
     fn join(&mut self, variable: u32, literal: Lit) -> Result<(), AllocError>
         requires { variable_of literal < self.old.variables }
-        ensures { IfOk result (λ _. self.new ≡ record self.old {
+        ensures joined { IfOk result (λ _. self.new ≡ record self.old {
           clause =
               union self.old.clause (without_variable variable (literal ∷ []));
         }) }
+        ensures refused { OnErr result (self.new ≡ self.old) }
     {
         if literal.variable() != variable && !self.has(literal) {
             self.add(literal)?;
@@ -93,6 +95,7 @@ impl MarkedClause {
     pub fn make_room(&mut self, clause: &[Lit]) -> Result<(), AllocError>
         ensures same { IfOk result (λ _. self.new.clause ≡ self.old.clause) }
         ensures room { IfOk result (λ _. ClauseBelow self.new.variables clause.now) }
+        ensures refused { OnErr result (self.new ≡ self.old) }
     {
         let needed = variables_of(clause);
         if self.variables < needed {
@@ -106,20 +109,25 @@ impl MarkedClause {
     pub fn set_variables(&mut self, variables: u32) -> Result<(), AllocError>
         requires fits { variables < 2 ^ 31 }
         requires none { self.old.clause ≡ [] }
-        ensures { IfOk result (λ _. self.new ≡ record self.old { variables = variables }) }
+        ensures set { IfOk result (λ _. self.new ≡ record self.old { variables = variables }) }
+        ensures refused { OnErr result (self.new ≡ self.old) }
     {
         resize(&mut self.marks, 2 * variables as usize)?;
         self.variables = variables;
         Ok(())
     }
 
-    /// Appends a clause to it.
+    /// Appends a clause to it. Where memory is wanting it has some first literals of that.
     pub fn append(&mut self, clause: &[Lit]) -> Result<(), AllocError>
         requires { ClauseBelow self.old.variables clause.now }
-        ensures { IfOk result (λ _. self.new ≡ record self.old {
+        ensures appended { IfOk result (λ _. self.new ≡ record self.old {
           clause =
               self.old.clause ++ clause.now;
         }) }
+        ensures part { OnErr result ((k : ℕ) × (self.new ≡ record self.old {
+          clause =
+              self.old.clause ++ take k clause.now;
+        })) }
     {
         for literal in clause {
             self.add(*literal)?;
@@ -140,13 +148,17 @@ impl MarkedClause {
         self.literals.retain(|l| l.variable() != variable);
     }
 
-    /// Resolves it with a clause on the variable of a literal.
+    /// Resolves it with a clause on the variable of a literal. Where memory is wanting, what is
+    /// there and the rest of that clause make the resolvent.
     pub fn resolve(&mut self, literal: Lit, clause: &[Lit]) -> Result<(), AllocError>
         requires { ClauseBelow self.old.variables clause.now }
-        ensures { IfOk result (λ _. self.new ≡ record self.old {
+        ensures resolved { IfOk result (λ _. self.new ≡ record self.old {
           clause =
               resolvent (variable_of literal) self.old.clause clause.now;
         }) }
+        ensures rest { OnErr result ((k : ℕ)
+            × (union self.new.clause (without_variable (variable_of literal) (drop k clause.now))
+            ≡ resolvent (variable_of literal) self.old.clause clause.now)) }
     {
         self.remove(literal);
         for other in clause {

@@ -1,15 +1,18 @@
 //! Resolution of clauses.
 
-ghost use Rattle.std.specs.Prelude.{◌≡◌, IfOk};
+ghost use Rattle.std.specs.Prelude.{◌≡◌, ℕ, IfOk, OnErr, drop};
 ghost use Rattle.cqe_base.specs.Literal.{union};
 ghost use Rattle.cqe_base.specs.Refutation.{without_variable, resolvent};
 
 use crate::literal::{Lit, has_literal};
 use std::alloc::{AllocError, Global};
 
-/// Appends the literals that aren't there yet, in order.
+/// Appends the literals that aren't there yet, in order. Where memory is wanting, what is there and
+/// the rest of them make the whole.
 pub fn unite(clause: &mut Vec<Lit>, more: &[Lit]) -> Result<(), AllocError>
-    ensures { IfOk result (λ _. clause.new.items ≡ union clause.old.items more.now) }
+    ensures united { IfOk result (λ _. clause.new.items ≡ union clause.old.items more.now) }
+    ensures rest { OnErr result ((k : ℕ)
+        × (union clause.new.items (drop k more.now) ≡ union clause.old.items more.now)) }
 {
     for literal in more {
         if !has_literal(clause, *literal) {

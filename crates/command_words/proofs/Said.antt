@@ -9,8 +9,9 @@ use Rattle.clap.specs.Words.{Row, Text, first_of}
 use Rattle.clap.specs.Walk.{with_default}
 use Rattle.command_words.specs.Uses.{OptionRow, Use, is_flag}
 use Rattle.command_words.specs.Numbers.{number_from, number_or}
-use Rattle.command_words.specs.Readings.{CommandRow, audit_row, audit_said, batch_row, command_of, commands, files_of, files_said, init_row, is_used}
-use Rattle.command_words.specs.Readings.{runs_batch, runs_init, selfrun_row, selfrun_said, serve_row, serve_said, value_of}
+use Rattle.command_words.specs.Readings.{CommandRow, audit_row, audit_said, batch_row, batch_said, command_of, commands, files_of, files_said, init_row}
+use Rattle.command_words.specs.Readings.{is_used}
+use Rattle.command_words.specs.Readings.{runs_init, selfrun_row, selfrun_said, serve_row, serve_said, value_of}
 use Rattle.command_words.specs.Matched.{command_with, files_in, says_true}
 use Rattle.command_words.proofs.Options.{default_is, finished_rows, rows_of_uses, row_of_use, rule_for, text_of, unused_row}
 use Rattle.command_words.proofs.Walks.{rows_at_end}
@@ -138,6 +139,11 @@ files_are options uses policy facts journals =
 abbrev IsSaid : List Use → CommandRow → Type 0
 IsSaid uses row = command_with row.name (rows_at_end row.options uses) ≡ row.says uses
 
+batch_is : (uses : List Use) → IsSaid uses batch_row
+batch_is uses =
+    let options = batch_row.options in
+    λ i. batch_said (files_are options uses refl refl refl i) (number_or 4 1 64 (value_at options uses (codes "workers") refl i))
+
 audit_is : (uses : List Use) → IsSaid uses audit_row
 audit_is uses =
     let options = audit_row.options in
@@ -179,6 +185,6 @@ command_reading word row uses known =
       refl,
       (
         ap (option_map runs_init) (files_are init_row.options uses refl refl refl),
-        (ap (option_map runs_batch) (files_are batch_row.options uses refl refl refl), (audit_is uses, (selfrun_is uses, (serve_is uses, tt)))),
+        (batch_is uses, (audit_is uses, (selfrun_is uses, (serve_is uses, tt)))),
       ),
     )

@@ -7,8 +7,9 @@ use Rattle.clap.specs.Simple.{on_top}
 use Rattle.clap.specs.declared.builder.action.ArgAction.TheVariants.{Set, SetTrue}
 use Rattle.clap.specs.declared.builder.value_parser.ValueParser.TheVariants.{NonEmptyString}
 use Rattle.command_words.specs.Numbers.{number_from, number_or}
-use Rattle.command_words.specs.Readings.{FileNames, Reading, runs_case, runs_init, runs_batch}
-use Rattle.command_words.specs.Readings.{files_said, audit_said, selfrun_said, serve_said}
+use Rattle.command_words.specs.Readings.{FileNames, Reading, runs_case, runs_init}
+use Rattle.command_words.specs.Readings.{files_said, batch_said, audit_said, selfrun_said}
+use Rattle.command_words.specs.Readings.{serve_said}
 
 -- `--`, or a hyphen and a further byte that isn't one: no reading has such a word
 abbrev pub is_short : List ℕ → Bool
@@ -49,6 +50,10 @@ with_settings s = record s {
   subcommand_required = true;
 }
 
+-- the subcommand `batch`
+abbrev pub batch_command : App
+batch_command = with_rule (file_command (codes "batch")) (optional_rule (codes "workers"))
+
 -- the subcommand `audit`
 abbrev pub audit_command : App
 audit_command = with_rule (with_rule (file_command (codes "audit")) (needed_rule (codes "user")))
@@ -73,7 +78,7 @@ abbrev pub program : App
 program = with_subcommand
     (with_subcommand (with_subcommand (with_subcommand (with_subcommand (with_subcommand bare
     (new_app (codes "case")).top) (file_command (codes "init")).top)
-    (file_command (codes "batch")).top) audit_command.top) selfrun_command.top)
+    batch_command.top) audit_command.top) selfrun_command.top)
     serve_command.top
 
 -- the files that the rows that were matched name
@@ -85,6 +90,11 @@ files_in rows = files_said (first_of (codes "policy") rows) (first_of (codes "fa
 abbrev pub says_true : Option (List ℕ) → Bool
 says_true None = false
 says_true (Some text) = bytes_eq text (codes "true")
+
+-- the batch that rows say
+abbrev pub batch_in : List Row → Option Reading
+batch_in rows =
+    batch_said (files_in rows) (number_or 4 1 64 (first_of (codes "workers") rows))
 
 -- the audit that rows say
 abbrev pub audit_in : List Row → Option Reading
@@ -110,7 +120,7 @@ abbrev pub command_with : List ℕ → List Row → Option Reading
 command_with command rows =
     if bytes_eq command (codes "case") then Some runs_case
     else if bytes_eq command (codes "init") then option_map runs_init (files_in rows)
-    else if bytes_eq command (codes "batch") then option_map runs_batch (files_in rows)
+    else if bytes_eq command (codes "batch") then batch_in rows
     else if bytes_eq command (codes "audit") then audit_in rows
     else if bytes_eq command (codes "selfrun") then selfrun_in rows
     else if bytes_eq command (codes "serve") then serve_in rows

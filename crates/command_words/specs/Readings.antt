@@ -23,8 +23,8 @@ pub data Reading : Type 0 where
   runs_case : Reading
   -- the empty journals over these files
   runs_init : FileNames → Reading
-  -- a script with many users over these files
-  runs_batch : FileNames → Reading
+  -- a script with many users over these files, answered by so many workers
+  runs_batch : FileNames → ℕ → Reading
   -- the audit of the user of this name, as JSON or as lines
   runs_audit : FileNames → List ℕ → Bool → Reading
   -- the workload of this seed, with so many users and so many asks
@@ -61,6 +61,11 @@ files_said (Some policy) (Some facts) (Some journals) =
     Some (record { policy = policy; facts = facts; directory = journals })
 files_said _ _ _ = None
 
+-- a batch over these files, with so many workers
+abbrev pub batch_said : Option FileNames → Option ℕ → Option Reading
+batch_said (Some files) (Some workers) = Some (runs_batch files workers)
+batch_said _ _ = None
+
 -- an audit over these files, of this user
 abbrev pub audit_said : Option FileNames → Option (List ℕ) → Bool → Option Reading
 audit_said (Some files) (Some user) is_json = Some (runs_audit files user is_json)
@@ -81,6 +86,11 @@ serve_said _ _ _ _ = None
 abbrev pub files_of : List Use → Option FileNames
 files_of uses = files_said (value_of uses (codes "policy")) (value_of uses (codes "facts"))
     (value_of uses (codes "journals"))
+
+-- the batch that uses say: 1 to 64 workers, else 4
+abbrev pub batch_of : List Use → Option Reading
+batch_of uses =
+    batch_said (files_of uses) (number_or 4 1 64 (value_of uses (codes "workers")))
 
 -- the audit that uses say: as JSON where `--json` is used
 abbrev pub audit_of : List Use → Option Reading
@@ -140,13 +150,13 @@ init_row = record {
       λ uses. option_map runs_init (files_of uses);
 }
 
--- `batch --policy P --facts F --journals DIR`
+-- `batch --policy P --facts F --journals DIR [--workers N]`
 abbrev pub batch_row : CommandRow
 batch_row = record {
   name = codes "batch";
-  options = file_options [];
-  says =
-      λ uses. option_map runs_batch (files_of uses);
+  options =
+      file_options (optional (codes "workers") ∷ []);
+  says = batch_of;
 }
 
 -- `audit --policy P --facts F --journals DIR --user NAME [--json]`
@@ -215,7 +225,7 @@ names_of_files files =
 abbrev pub reading_in : Command → Reading
 reading_in Case = runs_case
 reading_in (Init files) = runs_init (names_of_files files)
-reading_in (Batch files) = runs_batch (names_of_files files)
+reading_in (Batch words) = runs_batch (names_of_files words.files) words.workers
 reading_in (Audit words) = runs_audit (names_of_files words.files) words.user.now words.json
 reading_in (Selfrun words) = runs_selfrun words.seed words.users words.asks
 reading_in (Serve words) =

@@ -4,9 +4,9 @@ ghost use Rattle.std.specs.Prelude.{IfOk};
 ghost use Rattle.std.specs.List.{list_any};
 ghost use Rattle.clap.specs.Words.{found_of, kind_of, rows_of, subcommand_rows_of};
 ghost use Rattle.command_words.specs.Readings.{reading_of, reading_in, names_of_files, files_said};
-ghost use Rattle.command_words.specs.Readings.{audit_said, selfrun_said, serve_said};
-ghost use Rattle.command_words.specs.Matched.{is_short, says_true, files_in, audit_in, selfrun_in};
-ghost use Rattle.command_words.specs.Matched.{serve_in, command_with};
+ghost use Rattle.command_words.specs.Readings.{batch_said, audit_said, selfrun_said, serve_said};
+ghost use Rattle.command_words.specs.Matched.{is_short, says_true, files_in, batch_in, audit_in};
+ghost use Rattle.command_words.specs.Matched.{selfrun_in, serve_in, command_with};
 
 use crate::number::{number_from, number_or, small_number_from, small_number_or};
 use crate::program::program;
@@ -23,6 +23,15 @@ pub struct Files<'a> {
     pub facts: &'a str,
     /// the directory of the journals
     pub journals: &'a str,
+}
+
+/// What a batch is answered over.
+#[derive(Clone, Copy, Debug, PartialEq, Eq)]
+pub struct BatchWords<'a> {
+    /// the files
+    pub files: Files<'a>,
+    /// how many workers answer, 1 to 64, and 4 without the option
+    pub workers: u32,
 }
 
 /// What an audit is of.
@@ -68,7 +77,7 @@ pub enum Command<'a> {
     /// `init`: an empty journal for each user of the policy.
     Init(Files<'a>),
     /// `batch`: a script with many users and sessions.
-    Batch(Files<'a>),
+    Batch(BatchWords<'a>),
     /// `audit`: the history and the other worlds of one user.
     Audit(AuditWords<'a>),
     /// `selfrun`: a workload that the program makes and runs itself.
@@ -149,7 +158,7 @@ fn command_with<'a>(name: &str, given: &ArgMatches<'a>) -> Option<Command<'a>>
     match name {
         "case" => Some(Command::Case),
         "init" => Some(Command::Init(files_in(given)?)),
-        "batch" => Some(Command::Batch(files_in(given)?)),
+        "batch" => batch_in(given),
         "audit" => audit_in(given),
         "selfrun" => selfrun_in(given),
         "serve" => serve_in(given),
@@ -183,6 +192,26 @@ fn files_with<'a>(
             facts,
             journals,
         }),
+        _ => None,
+    }
+}
+
+// The batch that was matched.
+fn batch_in<'a>(given: &ArgMatches<'a>) -> Option<Command<'a>>
+    ensures { option_map reading_in result ≡ batch_in (rows_of (found_of given.now)) }
+{
+    batch_with(
+        files_in(given),
+        small_number_or(4, 1, 64, given.get_str("workers")),
+    )
+}
+
+fn batch_with<'a>(files: Option<Files<'a>>, workers: Option<u32>) -> Option<Command<'a>>
+    ensures { option_map reading_in result
+        ≡ batch_said (option_map names_of_files files.entry) workers }
+{
+    match (files, workers) {
+        (Some(files), Some(workers)) => Some(Command::Batch(BatchWords { files, workers })),
         _ => None,
     }
 }

@@ -15,4 +15,4 @@ mod command;
 mod number;
 mod program;
 
-pub use command::{AuditWords, Command, Files, SelfrunWords, ServeWords, read_words};
+pub use command::{AuditWords, BatchWords, Command, Files, SelfrunWords, ServeWords, read_words};

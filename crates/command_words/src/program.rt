@@ -2,7 +2,8 @@
 ghost use Rattle.std.specs.Prelude.{◌≡◌, false, IfOk};
 ghost use Rattle.clap.specs.Words.{app_of, rule_of};
 ghost use Rattle.clap.specs.declared.builder.command.Command.TheViews.{out-Command};
-ghost use Rattle.command_words.specs.Matched.{audit_command, file_command, flag_rule, needed_rule};
+ghost use Rattle.command_words.specs.Matched.{audit_command, batch_command, file_command};
+ghost use Rattle.command_words.specs.Matched.{flag_rule, needed_rule};
 ghost use Rattle.command_words.specs.Matched.{optional_rule, program, serve_command, three_command};
 
 use clap::builder::ValueParser;
@@ -15,7 +16,7 @@ pub(crate) fn program<'a>(alloc: Global) -> Result<Command<'a>, AllocError>
 {
     let case = Command::new(alloc, "case");
     let init = with_files(alloc, "init")?;
-    let batch = with_files(alloc, "batch")?;
+    let batch = batch(alloc)?;
     let audit = audit(alloc)?;
     let selfrun = with_three(alloc, "selfrun", "seed", "users", "asks")?;
     let serve = serve(alloc)?;
@@ -36,6 +37,17 @@ pub(crate) fn program<'a>(alloc: Global) -> Result<Command<'a>, AllocError>
 
 // What each of these returns has a name first: its goals are then plain equations, and no
 // implications under `IfOk`.
+
+// The batch.
+fn batch<'a>(alloc: Global) -> Result<Command<'a>, AllocError>
+    ensures shape { IfOk result (λ command. app_of command ≡ batch_command) }
+    ensures plain { IfOk result (λ command. (out-Command command).has_globals ≡ false) }
+{
+    let workers = optional(alloc, "workers");
+    let files = with_files(alloc, "batch")?;
+    let command = files.arg(workers)?;
+    Ok(command)
+}
 
 // The audit of a user.
 fn audit<'a>(alloc: Global) -> Result<Command<'a>, AllocError>

@@ -259,7 +259,7 @@ unread s files task.Init end is cause input output links = record {
   writes_nothing = output;
   listens_nowhere = links;
 }
-unread s files task.Batch end is cause input output links = record {
+unread s files (task.Batch workers) end is cause input output links = record {
   ends = (is, input, output);
   succeeds = λ told in_told out_told script says shelf read write.
       read_succeeds s files (CanBeOpened (journals_of s.shelf files)) end (is.refused told) cause says shelf;
@@ -285,7 +285,7 @@ nothing_begun s same None = same
 nothing_begun s same (Some runs_case) = record { ends = same; succeeds = λ told out_told script read write. inr refl }
 nothing_begun s same (Some (runs_init files)) =
     record { ends = same.shelf; succeeds = λ told says shelf. inr refl; reads_nothing = same.input; writes_nothing = same.output; listens_nowhere = same.links }
-nothing_begun s same (Some (runs_batch files)) = record {
+nothing_begun s same (Some (runs_batch files workers)) = record {
   ends = (same.shelf, same.input, same.output);
   succeeds = λ told in_told out_told script says shelf read write. inr refl;
   listens_nowhere = same.links;

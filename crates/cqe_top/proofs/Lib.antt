@@ -8,3 +8,4 @@ mod Failing
 mod Good
 mod Serving
 mod Lives
+mod Calls

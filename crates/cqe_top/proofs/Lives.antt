@@ -3,7 +3,6 @@ use Rattle.std.proofs.Common.{◌≡◌, ◌⊎◌, inl, inr, ℕ, ◌≤◌, Bo
 use Rattle.std.specs.Prelude.{Option, Some, None, IfSome, Vec, string_bytes}
 use Rattle.std.specs.List.{list_any, AllByRecursion}
 use Rattle.std.specs.declared.alloc.Global.{Global}
-use Rattle.outside.specs.Shelf.{bytes_on, image_on}
 use Rattle.outside.specs.declared.disk.Disk.{Ghosts as DiskGhosts}
 use Rattle.outside.specs.declared.shelf.Shelf.{Ghosts as ShelfGhosts}
 use Rattle.cqe_base.specs.Facts.{FactSet}
@@ -23,7 +22,7 @@ use Rattle.batch_engine.specs.declared.run.BatchEnd.{BatchEnd}
 use Rattle.batch_engine.specs.declared.run.BatchEnd.TheVariants as batch_end
 use Rattle.batch_engine.proofs.Joining.{batches_are_spans, cut_batches_are_calls, batches_join, cut_batches_join, late_batches_join}
 use Rattle.command_words.specs.Readings.{Reading, FileNames, reading_of, runs_case, runs_init, runs_batch, runs_audit, runs_selfrun, runs_serve}
-use Rattle.log_journal.specs.Names.{journal_name}
+use Rattle.desk_crew.proofs.Lasting.{keeps_same, keeps_all}
 use Rattle.policy_files.specs.Memory.{policy_user_of}
 use Rattle.policy_files.specs.Policies.{PolicyUser, PolicyValue}
 use Rattle.serve_engine.specs.Joining as serve
@@ -55,9 +54,10 @@ said_once P policy policy' world world' header header' same is =
 -- ---- two batches
 
 answered_over : (words : List Text) (s : Scene) (complaints : Output) (status : ℕ) (files : FileNames) (users : Vec User Global) (engine_end : BatchEnd)
-    (one : Promise words s complaints status) → reading_of words ≡ Some (runs_batch files) → one.end ≡ end.Batch users engine_end → TellsAll s
+    (workers : ℕ) (one : Promise words s complaints status) → reading_of words ≡ Some (runs_batch files workers)
+    → one.end ≡ end.Batch users engine_end → TellsAll s
     → SayOn s.shelf files (λ policy world header. IsEndOf s files policy world header engine_end)
-answered_over words s complaints status files users engine_end one read ends tells =
+answered_over words s complaints status files users engine_end workers one read ends tells =
     let of_batch : OfBatch s files one.end = subst (λ r. OfReading s r one.end) read one.command in
     let runs : RunsBatch s.shelf s.input s.output files users engine_end =
     subst (λ (e : CommandEnd). BatchEnds s.shelf s.input s.output files e) ends of_batch.ends in
@@ -65,9 +65,10 @@ answered_over words s complaints status files users engine_end one read ends tel
     (over.0, over.1, over.2, over.3, over.4.answers tells.1 tells.2)
 
 pub calls_join : (s : Scene) (complaints : Output) (s' : Scene) (complaints' : Output) → BatchCallsJoin s complaints s' complaints'
-calls_join s complaints s' complaints' words words' status status' files users users' engine_end engine_end' one two read read' ends ends' tells tells' same =
-    let at = answered_over words s complaints status files users engine_end one read ends tells in
-    let at' = answered_over words' s' complaints' status' files users' engine_end' two read' ends' tells' in (
+calls_join s complaints s' complaints' words words' status status' files workers workers' users users' engine_end engine_end' one two read read' ends ends'
+    tells tells' same =
+    let at = answered_over words s complaints status files users engine_end workers one read ends tells in
+    let at' = answered_over words' s' complaints' status' files users' engine_end' workers' two read' ends' tells' in (
       at.0,
       at.1,
       at.2,
@@ -113,30 +114,45 @@ module _ (journals : Journals) (policy : PolicyValue) (world : FactSet) (header 
 
   module _ (users : List NamedUser) (script : List ScriptEvent) (user : NamedUser)
       (serves : ServesUser policy.schema world header journals users script user) where
+    -- an opening of his journal held; and this was left of it as the batch ended, or at a moment since it was first opened
+    abbrev pub IsLeftOpened : List ℕ → Type 0
+    IsLeftOpened left = (list_any is_opened (own_events user.name script) ≡ true)
+        × (journals.image user.name left ⊎ journals.since user.name serves.moments.opening left)
+
     ended : (held : Bool) → list_any is_opened (own_events user.name script) ≡ held → (left : List ℕ) → journals.image user.name left
-        → LeavesPart journals policy world header (record { name = user.name; profile = user.profile; token = None }) left
-    ended true held left at =
-        inr (
-          batch.span_of (state_after policy.schema world user script) user left,
-          refl,
-          batches_are_spans journals policy.schema world header users script user serves held left at,
-        )
+        → journals.image_before user.name left ⊎ IsLeftOpened left
+    ended true held left at = inr (held, inl at)
     ended false none left at = inl ((serves.kept (ap (λ b. b && list_any is_ask (own_events user.name script)) none)).1 left at)
 
     amid : (held : Bool) → list_any is_opened (own_events user.name script) ≡ held → (left : List ℕ)
         → journals.image_before user.name left ⊎ journals.since user.name serves.moments.opening left
-        → LeavesPart journals policy world header (record { name = user.name; profile = user.profile; token = None }) left
+        → journals.image_before user.name left ⊎ IsLeftOpened left
     amid held is left (inl old) = inl old
-    amid true held left (inr since) =
-        let cut = cut_batches_are_calls journals policy.schema world header users script user serves held left since in
-        inr (batch.cut_span_of policy.schema world user cut.front left, refl, cut.part)
+    amid true held left (inr since) = inr (held, inr since)
     amid false none left (inr since) = inl (serves.moments.never none left since)
 
-    batch_of_user : OfNamed user
-    batch_of_user left (inl at) = ended (list_any is_opened (own_events user.name script)) refl left at
-    batch_of_user left (inr (begun, began, since)) =
+    -- what a batch left was left so, or a crash could leave it as the batch began
+    pub batch_left : (left : List ℕ) → IsLeft journals user.name left → journals.image_before user.name left ⊎ IsLeftOpened left
+    batch_left left (inl at) = ended (list_any is_opened (own_events user.name script)) refl left at
+    batch_left left (inr (begun, began, since)) =
         let known : Since user.name serves.moments.opening (Some begun) = subst (Since user.name serves.moments.opening) began serves.moments.before in
         amid (list_any is_opened (own_events user.name script)) refl left (known.1 left since)
+
+    batch_of_user : OfNamed user
+    batch_of_user left is = by (batch_left left is)
+      where
+        by : journals.image_before user.name left ⊎ IsLeftOpened left
+            → LeavesPart journals policy world header (record { name = user.name; profile = user.profile; token = None }) left
+        by (inl old) = inl old
+        by (inr (held, inl at)) =
+            inr (
+              batch.span_of (state_after policy.schema world user script) user left,
+              refl,
+              batches_are_spans journals policy.schema world header users script user serves held left at,
+            )
+        by (inr (held, inr since)) =
+            let cut = cut_batches_are_calls journals policy.schema world header users script user serves held left since in
+            inr (batch.cut_span_of policy.schema world user cut.front left, refl, cut.part)
 
   batch_parts : (items : List BatchItem) (written : List ℕ) → AnswersBatch policy.schema world header journals (new_users policy) items written
       → LeavesParts journals policy world header
@@ -156,7 +172,7 @@ module _ (journals : Journals) (policy : PolicyValue) (world : FactSet) (header 
   batch_leaves batch_end.WriteFault (items, written, some) = batch_parts (some.earlier ++ some.stretch) _ some.answers
   batch_leaves batch_end.ShelfFault kept = inl kept
   batch_leaves batch_end.Memory (inl kept) = inl kept
-  batch_leaves batch_end.Memory (inr (items, written, to)) = batch_parts to.front _ to.answers
+  batch_leaves batch_end.Memory (inr (items, written, to)) = batch_parts (to.0.earlier ++ to.0.stretch) _ to.0.answers
 
   module _ (user : User) (member : Member) (refusal : Option DeskError)
       (served : HasServed policy.schema world header journals user member refusal) where
@@ -214,15 +230,9 @@ module _ (journals : Journals) (policy : PolicyValue) (world : FactSet) (header 
   serving_leaves users serve_end.Memory same (inl kept) = inl kept
   serving_leaves users serve_end.Memory same (inr (refusals, is_broken, leaves)) = serving_parts users refusals is_broken same leaves
 
--- where no disk was touched, all journals are kept
-kept_disks : (shelf : ShelfScene) (files : FileNames) → SameDisks shelf → KeepsJournals (journals_of shelf files)
-kept_disks shelf files same name = (
-  ap (bytes_on shelf.Disk.reads) (same.0 (journal_name files.directory name)),
-  λ c at. subst (λ d. image_on shelf.Disk.image d c) (same.0 (journal_name files.directory name)) at,
-)
-
 module _ {F D : Type 0} (Shelf : ShelfGhosts F D) (Disk : DiskGhosts D) (old new : F) (input : Input) (output : Output) (links : LinksScene)
-    (files : FileNames) (policy : PolicyValue) (world : FactSet) (header : List ℕ) where
+    (only_now : (d : D) (c : List ℕ) → Disk.image_since d (Disk.moment d) c → Disk.image d c) (files : FileNames) (policy : PolicyValue) (world : FactSet)
+    (header : List ℕ) where
   abbrev shelf : ShelfScene
   shelf = shelf_of Shelf Disk old new
 
@@ -232,6 +242,11 @@ module _ {F D : Type 0} (Shelf : ShelfGhosts F D) (Disk : DiskGhosts D) (old new
   same_disks : new ≡ old → SameDisks shelf
   same_disks same = (λ name. ap (λ f. Shelf.disk f name) same, λ name. ap (λ f. Shelf.disk_faults f name) same)
 
+  -- where no disk was touched, all journals are kept
+  kept_disks : SameDisks shelf → KeepsJournals (journals_of shelf files)
+  kept_disks same =
+      keeps_same Disk files.directory (Shelf.disk old) (Shelf.disk new) (Shelf.disk_faults old) (Shelf.disk_faults new) only_now same.0
+
   module _ (tells : shelf.tells) (said : said_on shelf files ≡ both policy world header) where
     of_batch : (e : CommandEnd) → BatchEnds shelf input output files e → Parts
     of_batch (end.Batch users engine_end) runs =
@@ -239,8 +254,8 @@ module _ {F D : Type 0} (Shelf : ShelfGhosts F D) (Disk : DiskGhosts D) (old new
         let answers : AnswersOverFiles shelf input output files users engine_end policy world header =
         said_once (AnswersOverFiles shelf input output files users engine_end) policy over.0 world over.1 header over.2 (sym over.3 ∙ said) over.4 in
         batch_leaves (journals_of shelf files) policy world header engine_end answers.journals
-    of_batch (end.Files why) runs = inl (kept_disks shelf files runs.0.disks)
-    of_batch end.Memory runs = inl (kept_disks shelf files (same_disks runs.0))
+    of_batch (end.Files why) runs = inl (kept_disks runs.0.disks)
+    of_batch end.Memory runs = inl (kept_disks (same_disks runs.0))
     of_batch end.Usage runs = absurd runs
     of_batch (end.Case case) runs = absurd runs
     of_batch (end.Init users init) runs = absurd runs
@@ -251,10 +266,11 @@ module _ {F D : Type 0} (Shelf : ShelfGhosts F D) (Disk : DiskGhosts D) (old new
 
     of_audit : (user : Text) (json : Bool) (e : CommandEnd) → AuditEnds shelf output files user json e → Parts
     of_audit user json (end.Audit name engine_end) runs =
-        inl (λ name. (runs.bytes tells (journal_name files.directory name), λ c. runs.images tells (journal_name files.directory name) c))
-    of_audit user json end.Nobody finds = inl (kept_disks shelf files finds.disks)
-    of_audit user json (end.Files why) runs = inl (kept_disks shelf files runs.0.disks)
-    of_audit user json end.Memory runs = inl (kept_disks shelf files (same_disks runs.0))
+        inl (keeps_all Disk files.directory (Shelf.disk old) (Shelf.disk new) (Shelf.disk_faults old) (Shelf.disk_faults new) (runs.bytes tells)
+        (runs.images tells) (runs.moments tells))
+    of_audit user json end.Nobody finds = inl (kept_disks finds.disks)
+    of_audit user json (end.Files why) runs = inl (kept_disks runs.0.disks)
+    of_audit user json end.Memory runs = inl (kept_disks (same_disks runs.0))
     of_audit user json end.Usage runs = absurd runs
     of_audit user json (end.Case case) runs = absurd runs
     of_audit user json (end.Init users init) runs = absurd runs
@@ -269,8 +285,8 @@ module _ {F D : Type 0} (Shelf : ShelfGhosts F D) (Disk : DiskGhosts D) (old new
         said_once (ServesOverFiles shelf links files address workers limit users engine_end) policy over.0 world over.1 header over.2
         (sym over.3 ∙ said) over.4 in
         serving_leaves (journals_of shelf files) policy world header users.items engine_end serves.of_policy serves.journals
-    of_serve address workers limit (end.Files why) runs = inl (kept_disks shelf files runs.0.disks)
-    of_serve address workers limit end.Memory runs = inl (kept_disks shelf files (same_disks runs.0))
+    of_serve address workers limit (end.Files why) runs = inl (kept_disks runs.0.disks)
+    of_serve address workers limit end.Memory runs = inl (kept_disks (same_disks runs.0))
     of_serve address workers limit end.Usage runs = absurd runs
     of_serve address workers limit (end.Case case) runs = absurd runs
     of_serve address workers limit (end.Init users init) runs = absurd runs
@@ -280,7 +296,7 @@ module _ {F D : Type 0} (Shelf : ShelfGhosts F D) (Disk : DiskGhosts D) (old new
     of_serve address workers limit (end.Selfrun run) runs = absurd runs
 
     of_reading : (r : Option Reading) (e : CommandEnd) → OfReading (scene_of shelf input output links) r e → UsesJournals files r → Parts
-    of_reading (Some (runs_batch its)) e of same =
+    of_reading (Some (runs_batch its workers)) e of same =
         of_batch e (subst (λ (f : FileNames). OfBatch (scene_of shelf input output links) f e) same of).ends
     of_reading (Some (runs_audit its user json)) e of same =
         of_audit user json e (subst (λ (f : FileNames). OfAudit (scene_of shelf input output links) f user json e) same of).ends
@@ -292,6 +308,7 @@ module _ {F D : Type 0} (Shelf : ShelfGhosts F D) (Disk : DiskGhosts D) (old new
     of_reading (Some (runs_selfrun seed users asks)) e of uses = absurd uses
 
 pub calls_are_parts : {F D : Type 0} (Shelf : ShelfGhosts F D) (Disk : DiskGhosts D) (old new : F) (input : Input) (output : Output) (links : LinksScene)
-    (complaints : Output) → CallsAreParts (scene_of (shelf_of Shelf Disk old new) input output links) complaints
-calls_are_parts Shelf Disk old new input output links complaints words status files policy world header one uses tells said =
-    of_reading Shelf Disk old new input output links files policy world header tells said (reading_of words) one.end one.command uses
+    (complaints : Output) → ((d : D) (c : List ℕ) → Disk.image_since d (Disk.moment d) c → Disk.image d c)
+    → CallsAreParts (scene_of (shelf_of Shelf Disk old new) input output links) complaints
+calls_are_parts Shelf Disk old new input output links complaints only_now words status files policy world header one uses tells said =
+    of_reading Shelf Disk old new input output links only_now files policy world header tells said (reading_of words) one.end one.command uses

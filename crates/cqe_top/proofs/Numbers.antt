@@ -6,10 +6,10 @@ use Rattle.std.proofs.lemmas.Bool.Decides.{nat_tests}
 use Rattle.command_words.specs.Uses.{Use, uses_of}
 use Rattle.command_words.specs.Numbers.{within, number_from, number_or}
 use Rattle.line_protocol.specs.Words.{number_in}
-use Rattle.cqe_top.specs.Steps.{ServesBounds}
+use Rattle.cqe_top.specs.Steps.{WorkersBounds, ServesBounds}
 use Rattle.command_words.specs.Readings.{Reading, FileNames, runs_init, runs_batch, runs_selfrun, runs_serve, reading_of, reading_with, reading_by, do_fit}
 use Rattle.command_words.specs.Readings.{CommandRow, case_row, init_row, batch_row, audit_row, selfrun_row, serve_row, files_of, audit_said, selfrun_said}
-use Rattle.command_words.specs.Readings.{serve_said, value_of, is_used}
+use Rattle.command_words.specs.Readings.{batch_said, serve_said, value_of, is_used}
 
 -- a number between two, or one of them
 abbrev IsWithin : ℕ → ℕ → ℕ → Type 0
@@ -50,6 +50,7 @@ pub record RunsBounds (users asks : ℕ) : Type 0 where
 
 -- the numbers of a reading are within their limits
 abbrev pub Keeps : Reading → Type 0
+Keeps (runs_batch files workers) = WorkersBounds workers
 Keeps (runs_selfrun seed users asks) = RunsBounds users asks
 Keeps (runs_serve files address workers sessions) = ServesBounds workers sessions
 Keeps reading = Unit {0}
@@ -83,9 +84,13 @@ no_init : (files : Option FileNames) → IfSome (option_map runs_init files) Kee
 no_init None = tt
 no_init (Some files) = tt
 
-no_batch : (files : Option FileNames) → IfSome (option_map runs_batch files) Keeps
-no_batch None = tt
-no_batch (Some files) = tt
+of_batch : (files : Option FileNames) (one : Option (List ℕ)) → IfSome (batch_said files (number_or 4 1 64 one)) Keeps
+of_batch files one = by files (number_or 4 1 64 one) (usual_bounds 4 1 64 64 one (omega arith, omega arith) (omega arith))
+  where
+    by : (f : Option FileNames) (w : Option ℕ) → IfSome w (IsWithin 1 64) → IfSome (batch_said f w) Keeps
+    by (Some f) (Some w) first = record { some_worker = first.0; few_workers = first.1 }
+    by None w first = tt
+    by (Some f) None first = tt
 
 no_audit : (files : Option FileNames) (user : Option (List ℕ)) (json : Bool) → IfSome (audit_said files user json) Keeps
 no_audit None user json = tt
@@ -115,7 +120,8 @@ in_bounds (command ∷ words) =
         Keeps
     by true b c d e f = by_uses case_row (uses_of case_row.options words) (λ uses. tt)
     by false true c d e f = by_uses init_row (uses_of init_row.options words) (λ uses. no_init (files_of uses))
-    by false false true d e f = by_uses batch_row (uses_of batch_row.options words) (λ uses. no_batch (files_of uses))
+    by false false true d e f =
+        by_uses batch_row (uses_of batch_row.options words) (λ uses. of_batch (files_of uses) (value_of uses (codes "workers")))
     by false false false true e f =
         by_uses audit_row (uses_of audit_row.options words) (λ uses. no_audit (files_of uses) (value_of uses (codes "user")) (is_used uses (codes "json")))
     by false false false false true f =

@@ -1,15 +1,20 @@
 -- What an engine did over a shelf whose files were read before it, the call did.
-use Rattle.std.proofs.Common.{◌≡◌, ℕ, zero, suc, ◌≤◌, ◌<◌, List, [], ◌∷◌, length, map, sym, ap, subst, ◌∙◌, arith}
+use Rattle.std.proofs.Common.{◌≡◌, ℕ, zero, suc, ◌≤◌, ◌<◌, List, [], ◌∷◌, length, map, refl, sym, ap, subst, ◌∙◌, arith}
 use Rattle.std.specs.Prelude.{Some, None, slice_get}
 use Rattle.outside.proofs.Rises.{rose_since}
+use Rattle.outside.proofs.Taken.{Rests}
+use Rattle.outside.specs.Disk.{Only}
 use Rattle.outside.specs.Faults.{Rose}
-use Rattle.outside.specs.Shelf.{SameNames, SameOthers, bytes_on, image_on, is_among, SameBeside, SameBytes, NoNewImages, NoneFell, SomeRose}
+use Rattle.outside.specs.Shelf.{SameNames, SameOthers, bytes_on, image_on, is_among, SameBeside, SameBytes, NoNewImages, NoNewMoments, NoneFell, SomeRose}
 use Rattle.outside.specs.Visits.{Visit}
 use Rattle.outside.specs.declared.disk.Disk.{Ghosts as DiskGhosts}
 use Rattle.outside.specs.declared.shelf.Shelf.{Ghosts as ShelfGhosts}
 use Rattle.cqe_base.specs.Facts.{FactSet}
 use Rattle.cqe_base.specs.Schema.{Text}
 use Rattle.cqe_base.specs.declared.user.User.{User}
+use Rattle.audit_engine.specs.Ends.{IsSilent}
+use Rattle.audit_engine.specs.declared.end.AuditEnd.{AuditEnd}
+use Rattle.audit_engine.specs.declared.end.AuditEnd.TheVariants as audit_end
 use Rattle.batch_engine.specs.Batch as batch
 use Rattle.batch_engine.specs.declared.run.BatchEnd.{BatchEnd}
 use Rattle.command_words.specs.Readings.{FileNames}
@@ -25,7 +30,7 @@ use Rattle.policy_files.specs.Users.{names_of}
 use Rattle.policy_files.specs.declared.policy.Policy.{Policy}
 use Rattle.serve_engine.specs.Serving as serving
 use Rattle.serve_engine.specs.declared.run.ServeEnd.{ServeEnd}
-use Rattle.cqe_top.specs.Files.{TouchesOnlyJournals, journals_of, new_users}
+use Rattle.cqe_top.specs.Files.{TouchesOnlyJournals, CountsOnlyJournals, journals_of, new_users}
 use Rattle.cqe_top.specs.Init.{change_on, NamesOneOf}
 use Rattle.cqe_top.specs.Scene.{shelf_of}
 use Rattle.cqe_top.proofs.Users.{names_are, batch_names_are, new_users_are}
@@ -47,14 +52,26 @@ module _ {F D : Type 0} (Shelf : ShelfGhosts F D) (Disk : DiskGhosts D) (old mid
         λ i. journals_by Disk.reads Disk.image Disk.moment Disk.image_since files.directory (λ name. disks name i) (Shelf.disk new) (λ name. counts name i)
         (Shelf.disk_faults new)
 
-    -- no disk but the journals of the policy's users was touched
+    -- no disk but the journals of the policy's users was touched, and no other count changed
     pub touches_over : (policy : Policy) (users : List User) → users ≡ policy.users.items
         → SameBeside (map (journal_name files.directory) (map (λ user. user.name) (map named_user users))) (Shelf.disk mid) (Shelf.disk new)
+        → SameBeside (map (journal_name files.directory) (map (λ user. user.name) (map named_user users))) (Shelf.disk_faults mid) (Shelf.disk_faults new)
         → TouchesOnlyJournals (shelf_of Shelf Disk old new) files (policy_value_of policy)
-    touches_over policy users are touched name none = touched name (ap (λ ns. is_among (map (journal_name files.directory) ns) name) names ∙ none) ∙ disks name
+    touches_over policy users are touched counted = (
+      λ name none. touched name (ap (λ ns. is_among (map (journal_name files.directory) ns) name) names ∙ none) ∙ disks name,
+      λ name none. counted name (ap (λ ns. is_among (map (journal_name files.directory) ns) name) names ∙ none) ∙ counts name,
+    )
       where
         names : map (λ user. user.name) (map named_user users) ≡ names_of (policy_value_of policy).users
         names = ap (λ us. map (λ user. user.name) (map named_user us)) are ∙ batch_names_are policy.users.items ∙ names_are policy.users.items
+
+    -- the same of the counts where journals were made
+    pub counts_over : (policy : Policy) (users : List User) → users ≡ policy.users.items
+        → SameBeside (map (journal_name files.directory) (init.user_names users)) (Shelf.disk_faults mid) (Shelf.disk_faults new)
+        → CountsOnlyJournals (shelf_of Shelf Disk old new) files (policy_value_of policy)
+    counts_over policy users are counted name none =
+        counted name (ap (λ ns. is_among (map (journal_name files.directory) ns) name) (ap init.user_names are ∙ names_are policy.users.items) ∙ none)
+        ∙ counts name
 
     -- the making of journals ended so, by the disks and the counts of a change
     abbrev Ended : List ℕ → Policy → Change D → InitEnd → Type 0
@@ -98,11 +115,37 @@ module _ {F D : Type 0} (Shelf : ShelfGhosts F D) (Disk : DiskGhosts D) (old mid
   others_over directory name owner same others other apart =
       subst (λ n. SameOthers (journal_name directory n) (Shelf.disk mid) (Shelf.disk new)) same others other apart ∙ disks other
 
+  pub counted_over : (directory name owner : Text) → owner ≡ name
+      → SameOthers (journal_name directory owner) (Shelf.disk_faults mid) (Shelf.disk_faults new)
+      → SameOthers (journal_name directory name) (Shelf.disk_faults old) (Shelf.disk_faults new)
+  counted_over directory name owner same others other apart =
+      subst (λ n. SameOthers (journal_name directory n) (Shelf.disk_faults mid) (Shelf.disk_faults new)) same others other apart ∙ counts other
+
   pub bytes_over : SameBytes Disk.reads (Shelf.disk mid) (Shelf.disk new) → SameBytes Disk.reads (Shelf.disk old) (Shelf.disk new)
   bytes_over bytes other = bytes other ∙ ap (bytes_on Disk.reads) (disks other)
 
   pub images_over : NoNewImages Disk.image (Shelf.disk mid) (Shelf.disk new) → NoNewImages Disk.image (Shelf.disk old) (Shelf.disk new)
   images_over images other c left = subst (λ d. image_on Disk.image d c) (disks other) (images other c left)
+
+  pub durable_over : (directory name owner : Text) → owner ≡ name
+      → Only (bytes_on Disk.reads (Shelf.disk mid (journal_name directory owner))) (image_on Disk.image (Shelf.disk new (journal_name directory owner)))
+      → Only (bytes_on Disk.reads (Shelf.disk old (journal_name directory name))) (image_on Disk.image (Shelf.disk new (journal_name directory name)))
+  durable_over directory name owner same only =
+      subst (λ o. Only (bytes_on Disk.reads o) (image_on Disk.image (Shelf.disk new (journal_name directory name)))) (disks (journal_name directory name))
+      (subst (λ n. Only (bytes_on Disk.reads (Shelf.disk mid (journal_name directory n))) (image_on Disk.image (Shelf.disk new (journal_name directory n))))
+      same only)
+
+  pub moments_over : NoNewMoments Disk.moment Disk.image_since Disk.image (Shelf.disk mid) (Shelf.disk new)
+      → NoNewMoments Disk.moment Disk.image_since Disk.image (Shelf.disk old) (Shelf.disk new)
+  moments_over moments other = subst (λ d. Rests Disk d (Shelf.disk new other)) (disks other) (moments other)
+
+-- what holds behind a fault of the shelf and where memory was wanting holds of each audit of which nothing was written
+pub silent_end : {S : Type 0} (end : AuditEnd) → (end ≡ audit_end.ShelfFault → S) → (end ≡ audit_end.Memory → S) → IsSilent end → S
+silent_end audit_end.Done fault wanted silent = absurd silent
+silent_end (audit_end.Refused why) fault wanted silent = absurd silent
+silent_end audit_end.WriteFault fault wanted silent = absurd silent
+silent_end audit_end.ShelfFault fault wanted silent = fault refl
+silent_end audit_end.Memory fault wanted silent = wanted refl
 
 -- the end of a batch over other journals that are the same, and over the users of the policy
 pub batch_over : (policy : Policy) (world : FactSet) (header : List ℕ) (users : List User) (journals journals' : Journals) (end : BatchEnd)

@@ -1,9 +1,12 @@
 -- The command `audit`: what the journal of one user holds, to the output.
 -- Ends: Audit, Nobody, Files, Memory.
 use Rattle.std.specs.Prelude.{◌≡◌, ℕ, Bool, List, find, bytes_eq, Option, Some, None}
-use Rattle.outside.specs.Shelf.{SameOthers, SameBytes, NoNewImages}
-use Rattle.audit_engine.specs.Ends.{EndsAudit}
+use Rattle.outside.specs.Disk.{Only}
+use Rattle.outside.specs.Shelf.{SameOthers, SameBytes, NoNewImages, NoNewMoments}
+use Rattle.outside.specs.Shelf.{bytes_on, image_on}
+use Rattle.audit_engine.specs.Ends.{EndsAudit, IsSilent}
 use Rattle.audit_engine.specs.declared.end.AuditEnd.{AuditEnd}
+use Rattle.audit_engine.specs.declared.end.AuditEnd.TheVariants as audit_end
 use Rattle.cqe_base.specs.Facts.{FactSet}
 use Rattle.cqe_base.specs.Schema.{Text}
 use Rattle.command_words.specs.Readings.{FileNames}
@@ -44,15 +47,27 @@ module _ (shelf : ShelfScene) (output : Output) (files : FileNames) (user : Text
         (journals.before one.name) (journals.now one.name) json end output.written output.written')
 
     -- It ran over files that were read. It looks at his journal alone: the other disks are
-    -- untouched, and all have the bytes that they had and may be left by a crash only as before.
+    -- untouched, and all have the bytes that they had and may be left by a crash only as before, at
+    -- no moment of the call otherwise either.
+    -- Behind a fault of the shelf and where memory was wanting the output is as it was.
     pub record RunsAudit (name : Text) (end : AuditEnd) : Type 0 where
       pub name_is : name ≡ user
       pub over_files : shelf.tells → SayOn shelf files (AuditsOverFiles end)
       pub looks : shelf.tells → LooksAtBoth shelf files
       pub others : shelf.tells
           → SameOthers (journal_name files.directory user) shelf.disk shelf.disk'
+      pub other_counts : SameOthers (journal_name files.directory user) shelf.disk_faults
+          shelf.disk_faults'
       pub bytes : shelf.tells → SameBytes shelf.Disk.reads shelf.disk shelf.disk'
       pub images : shelf.tells → NoNewImages shelf.Disk.image shelf.disk shelf.disk'
+      pub moments : shelf.tells
+          → NoNewMoments shelf.Disk.moment shelf.Disk.image_since shelf.Disk.image shelf.disk
+          shelf.disk'
+      -- where it was done, a crash leaves just the bytes of which it was printed
+      pub durable : shelf.tells → end ≡ audit_end.Done
+          → Only (bytes_on shelf.Disk.reads (shelf.disk (journal_name files.directory user)))
+          (image_on shelf.Disk.image (shelf.disk' (journal_name files.directory user)))
+      pub silent : IsSilent end → SameOutput output
 
     -- the policy has no user of the name, and no disk was touched
     pub record FindsNobody : Type 0 where

@@ -33,11 +33,12 @@ module _ (shelf : ShelfScene) (input : Input) (output : Output) (files : FileNam
         end input.left input.left' output.written output.written'
 
   -- It ran over files that were read. Where the script is refused or can't be read, no journal was
-  -- opened, and no disk is changed.
+  -- opened, and no disk is changed; there and behind a fault of the shelf the output is as it was.
   pub record RunsBatch (users : Vec User Global) (end : BatchEnd) : Type 0 where
     pub over_files : shelf.tells → SayOn shelf files (AnswersOverFiles users end)
     pub looks : shelf.tells → LooksAtBoth shelf files
     pub unopened : batch.IsUnopened end → SameDisks shelf
+    pub silent : batch.IsSilent end → SameOutput output
 
   -- the ends that it may have
   abbrev pub BatchEnds : CommandEnd → Type 0
@@ -55,7 +56,7 @@ module _ (shelf : ShelfScene) (input : Input) (output : Output) (files : FileNam
       → (HasRisen shelf.faults → ⊥) → (HasRisen input.faults → ⊥) → (HasRisen output.faults → ⊥)
       → IsDoneUnlessMemory end
 
--- `batch` over the files of these names
+-- `batch` over the files of these names, with however many workers
 pub record OfBatch (s : Scene) (files : FileNames) (end : CommandEnd) : Type 0 where
   pub ends : BatchEnds s.shelf s.input s.output files end
   pub listens_nowhere : SameLinks s.links

@@ -7,13 +7,15 @@ use Rattle.case_engine.specs.declared.case.CaseEnd.{CaseEnd}
 use Rattle.cqe_top.specs.declared.end.CommandEnd.{CommandEnd}
 use Rattle.cqe_top.specs.declared.end.CommandEnd.TheVariants as command_end
 use Rattle.cqe_top.specs.Reports.{IsDoneUnlessMemory}
-use Rattle.cqe_top.specs.Scene.{Scene, IsUntouched, HasRisen, SameShelf, SameLinks}
+use Rattle.cqe_top.specs.Scene.{Scene, IsUntouched, HasRisen, SameShelf, SameOutput, SameLinks}
 
 module _ (s : Scene) where
-  -- it ran: what its end says of the script that is read and of what is written
+  -- it ran: what its end says of the script that is read and of what is written; where nothing is,
+  -- the output is as it was
   pub record RunsCase (end : CaseEnd) : Type 0 where
     pub answers : s.input.tells → s.output.tells
         → case.EndsCase end s.input.left s.input.left' s.output.written s.output.written'
+    pub silent : case.IsSilent end → SameOutput s.output
     pub shelf_same : SameShelf s.shelf
     pub listens_nowhere : SameLinks s.links
 

@@ -95,10 +95,18 @@ module _ (shelf : ShelfScene) (files : FileNames) where
       journals_by shelf.Disk.reads shelf.Disk.image shelf.Disk.moment shelf.Disk.image_since
       files.directory shelf.disk shelf.disk' shelf.disk_faults shelf.disk_faults'
 
-  -- no disk but the journals of a policy's users was touched
+  -- the journals of a policy's users
+  abbrev pub journals_in : PolicyValue → List Text
+  journals_in policy = map (journal_name files.directory) (names_of policy.users)
+
+  -- no count of a disk's faults but theirs changed
+  abbrev pub CountsOnlyJournals : PolicyValue → Type 0
+  CountsOnlyJournals policy = SameBeside (journals_in policy) shelf.disk_faults shelf.disk_faults'
+
+  -- no disk but theirs was touched, and no other count changed
   abbrev pub TouchesOnlyJournals : PolicyValue → Type 0
   TouchesOnlyJournals policy =
-      SameBeside (map (journal_name files.directory) (names_of policy.users)) shelf.disk shelf.disk'
+      SameBeside (journals_in policy) shelf.disk shelf.disk' × CountsOnlyJournals policy
 
   -- of the shelf's files the policy was looked at, and then the facts, and no other
   abbrev pub LooksAtBoth : Type 0

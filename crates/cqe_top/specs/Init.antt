@@ -13,6 +13,7 @@ use Rattle.policy_files.specs.Users.{names_of}
 use Rattle.cqe_top.specs.declared.end.CommandEnd.{CommandEnd}
 use Rattle.cqe_top.specs.declared.end.CommandEnd.TheVariants as command_end
 use Rattle.cqe_top.specs.Files.{SayOn, LooksAtBoth, IsUnread, AreUsersOf, journals_of}
+use Rattle.cqe_top.specs.Files.{CountsOnlyJournals}
 use Rattle.cqe_top.specs.Ready.{CanBeMade}
 use Rattle.cqe_top.specs.Reports.{IsDoneUnlessMemory}
 use Rattle.cqe_top.specs.Scene.{Scene, ShelfScene, HasRisen}
@@ -36,12 +37,13 @@ NamesOneOf users end = Unit {0}
 
 module _ (shelf : ShelfScene) (files : FileNames) where
   -- the journals of these users of the policy were made, or it stopped at the first whose journal
-  -- can't be made
+  -- can't be made; no count changed but those of their disks
   pub record Makes (users : Vec User Global) (end : InitEnd) (policy : PolicyValue)
       (world : FactSet) (header : List ℕ) : Type 0 where
     pub of_policy : AreUsersOf users policy
     pub makes : EndsInit shelf.tells shelf.Disk header files.directory
         (names_of policy.users) (change_on shelf) end
+    pub counts : CountsOnlyJournals shelf files policy
 
   -- it ran over files that were read
   pub record RunsInit (users : Vec User Global) (end : InitEnd) : Type 0 where

@@ -11,4 +11,5 @@ pub mod Selfrun
 pub mod Serve
 pub mod Promise
 pub mod Lives
+pub mod Calls
 pub mod Steps

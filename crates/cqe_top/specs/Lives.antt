@@ -49,10 +49,11 @@ pub record AreJoined (s s' : Scene) (files : FileNames) (end end' : BatchEnd) (p
 -- are joined.
 abbrev pub BatchCallsJoin : Scene → Output → Scene → Output → Type 0
 BatchCallsJoin s complaints s' complaints' =
-    (words words' : List Text) (status status' : ℕ) (files : FileNames)
+    (words words' : List Text) (status status' : ℕ) (files : FileNames) (workers workers' : ℕ)
     (users users' : Vec User Global) (end end' : BatchEnd)
     (one : Promise words s complaints status) (two : Promise words' s' complaints' status')
-    → reading_of words ≡ Some (runs_batch files) → reading_of words' ≡ Some (runs_batch files)
+    → reading_of words ≡ Some (runs_batch files workers)
+    → reading_of words' ≡ Some (runs_batch files workers')
     → one.end ≡ command_end.Batch users end → two.end ≡ command_end.Batch users' end'
     → TellsAll s → TellsAll s' → said_on s'.shelf files ≡ said_on s.shelf files
     → SayOn s.shelf files (AreJoined s s' files end end')
@@ -81,7 +82,7 @@ module _ (journals : Journals) (policy : PolicyValue) (world : FactSet) (header 
 
 -- a command that uses the journals of these files: a batch, an audit or a server
 abbrev pub UsesJournals : FileNames → Option Reading → Type 0
-UsesJournals files (Some (runs_batch its)) = its ≡ files
+UsesJournals files (Some (runs_batch its workers)) = its ≡ files
 UsesJournals files (Some (runs_audit its user json)) = its ≡ files
 UsesJournals files (Some (runs_serve its address workers limit)) = its ≡ files
 UsesJournals files reading = ⊥

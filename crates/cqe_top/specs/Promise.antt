@@ -5,6 +5,7 @@ use Rattle.outside.specs.Streams.{AppendsUnless}
 use Rattle.cqe_base.specs.Schema.{Text}
 use Rattle.command_words.specs.Readings.{Reading, reading_of, runs_case, runs_init, runs_batch}
 use Rattle.command_words.specs.Readings.{runs_audit, runs_selfrun, runs_serve}
+use Rattle.line_protocol.specs.Rests.{IsRest}
 use Rattle.cqe_top.specs.declared.end.CommandEnd.{CommandEnd}
 use Rattle.cqe_top.specs.declared.end.CommandEnd.TheVariants as command_end
 use Rattle.cqe_top.specs.Audit.{OfAudit}
@@ -28,7 +29,7 @@ abbrev pub OfReading : Scene → Option Reading → CommandEnd → Type 0
 OfReading s None end = OfUsage s end
 OfReading s (Some runs_case) end = OfCase s end
 OfReading s (Some (runs_init files)) end = OfInit s files end
-OfReading s (Some (runs_batch files)) end = OfBatch s files end
+OfReading s (Some (runs_batch files workers)) end = OfBatch s files end
 OfReading s (Some (runs_audit files user json)) end = OfAudit s files user json end
 OfReading s (Some (runs_selfrun seed users asks)) end = OfSelfrun s seed users asks end
 OfReading s (Some (runs_serve files address workers limit)) end =
@@ -42,11 +43,13 @@ pub record KeepsShelf (shelf : ShelfScene) : Type 0 where
   pub disk_faults : NoneFell shelf.disk_faults shelf.disk_faults'
   pub faults : HasNotFallen shelf.faults
 
--- Whatever comes: the shelf is kept so, the input holds what it held, as many doors are out as
--- before, and no count of faults fell, neither of the input nor of the output nor of the links.
+-- Whatever comes: the shelf is kept so, the input holds what it held, and what is left in it is the
+-- rest of what was left before; as many doors are out as before, and no count of faults fell,
+-- neither of the input nor of the output nor of the links.
 pub record Always (s : Scene) : Type 0 where
   pub shelf : KeepsShelf s.shelf
   pub held : s.input.held' ≡ s.input.held
+  pub left : s.input.tells → IsRest s.input.left s.input.left'
   pub doors : s.links.out' ≡ s.links.out
   pub input_faults : HasNotFallen s.input.faults
   pub output_faults : HasNotFallen s.output.faults

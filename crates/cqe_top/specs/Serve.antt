@@ -64,6 +64,9 @@ module _ (shelf : ShelfScene) (links : LinksScene) (files : FileNames) (address 
     -- The connections that are left are all at hand again, where they were so before, as they are
     -- where all doors are back. So where none is at hand none is left.
     pub left : links.tells → links.left ≡ links.at_hand → links.left' ≡ links.at_hand'
+    -- and none is lost: what was given and what is left is as many as before
+    pub left_all : links.tells → links.left ≡ links.at_hand
+        → links.given' + links.left' ≡ links.given + links.left
     pub few_ended : links.ended' ≤ links.ended + workers
     pub limited : links.tells → links.given' ≤ links.given + limit
 

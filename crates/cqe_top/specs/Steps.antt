@@ -48,7 +48,7 @@ IsShelfFault end = ⊥
 -- the reading that a task over these files stands for
 abbrev pub reading_over : FileNames → Task → Reading
 reading_over files Init = runs_init files
-reading_over files Batch = runs_batch files
+reading_over files (Batch workers) = runs_batch files workers
 reading_over files (Audit user json) = runs_audit files user.now json
 reading_over files (Serve listening) =
     runs_serve files listening.address.now listening.workers listening.sessions
@@ -59,6 +59,11 @@ reading_of_part Case = runs_case
 reading_of_part (Selfrun words) = runs_selfrun words.seed words.users words.asks
 reading_of_part (OverFiles files task) = reading_over (names_of_files files) task
 
+-- the limits of the workers of a batch
+pub record WorkersBounds (workers : ℕ) : Type 0 where
+  pub some_worker : 1 ≤ workers
+  pub few_workers : workers ≤ 64
+
 -- the limits of the workers and of their connections
 pub record ServesBounds (workers sessions : ℕ) : Type 0 where
   pub some_worker : 1 ≤ workers
@@ -66,9 +71,9 @@ pub record ServesBounds (workers sessions : ℕ) : Type 0 where
   pub some_session : 1 ≤ sessions
   pub few_sessions : sessions ≤ 2 ^ 30
 
--- a server's numbers are within them
+-- the numbers of a batch and of a server are within them
 abbrev pub KeepsBounds : Task → Type 0
 KeepsBounds Init = Unit {0}
-KeepsBounds Batch = Unit {0}
+KeepsBounds (Batch workers) = WorkersBounds workers
 KeepsBounds (Audit user json) = Unit {0}
 KeepsBounds (Serve listening) = ServesBounds listening.workers listening.sessions

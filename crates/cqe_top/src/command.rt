@@ -28,7 +28,8 @@ use std::thread::Threads;
 /// to the sink. `init` reads a policy and facts from the shelf and makes an empty journal on the
 /// disk of each user, where that is empty.
 /// `batch` reads the same files and a script of many users from the source, over their journals; a
-/// user whose journal is refused doesn't stop the others, and each ask passes the gate. `audit`
+/// user whose journal is refused doesn't stop the others, each ask passes the gate, and users are
+/// answered side by side from one restart to the next. `audit`
 /// reads the same files and prints what the journal of one of the users holds. `selfrun` makes a
 /// workload, runs it over objects in memory, and prints how often each reply came. `serve` reads
 /// the same files as `batch` and serves the connections that the links give at an address, side by
@@ -36,7 +37,8 @@ use std::thread::Threads;
 /// desks and at the gate.
 /// What can't be done is said to the complaints; where they fail too, nothing else changes.
 ///
-/// No clause speaks of the gate, and none says that connections are served side by side.
+/// No clause speaks of the gate, and none says that users of a batch or connections are served side
+/// by side.
 pub fn top<
     R: Threads + Wait + Sync,
     F: Shelf,
@@ -102,7 +104,7 @@ where
         Err(AllocError) => return CommandEnd::Memory,
     };
     match part_of(command) {
-        Part::Case => CommandEnd::Case(run_case(alloc, source, sink)),
+        Part::Case => CommandEnd::Case(run_case(rt, alloc, source, sink)),
         Part::Selfrun(words) => {
             let end = run_selfrun(rt, alloc, words.seed, words.users, words.asks, sink);
             CommandEnd::Selfrun(end)

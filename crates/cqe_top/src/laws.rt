@@ -1,4 +1,10 @@
 //! Laws of calls. Each function computes nothing: its clause is the law.
+ghost use Rattle.std.specs.Prelude.{List, ℕ};
+ghost use Rattle.cqe_base.specs.Facts.{FactSet};
+ghost use Rattle.cqe_base.specs.Schema.{Text};
+ghost use Rattle.command_words.specs.Readings.{FileNames};
+ghost use Rattle.policy_files.specs.Policies.{PolicyUser, PolicyValue};
+ghost use Rattle.cqe_top.specs.Calls.{AnyBatchesJoin, AnyCallsJoin};
 ghost use Rattle.cqe_top.specs.Lives.{BatchCallsJoin, CallsAreParts};
 ghost use Rattle.cqe_top.specs.Scene.{input_of, links_of, output_of, scene_of, shelf_of};
 
@@ -22,7 +28,7 @@ pub struct Seen<'a, F, S, K, E, L> {
 /// the first ended, or at a moment of it, are one run for each user: by what `top` promises of
 /// both, whatever their ends, what they told him are its replies, and its history is legal and
 /// hides. Where the crash came since a stretch of the first had ended, all his events up to there
-/// are in the run. By `user_desk::laws::law_lives_join` so are more of them.
+/// are in the run. More of them are one run by `law_any_batches_join`.
 pub fn law_calls_join<F: Shelf, S: Source, K: Sink, E: Sink, L: Links>(
     first: &Seen<'_, F, S, K, E, L>,
     second: &Seen<'_, F, S, K, E, L>,
@@ -42,8 +48,8 @@ pub fn law_calls_join<F: Shelf, S: Source, K: Sink, E: Sink, L: Links>(
 
 /// A call of `batch`, `serve` or `audit` is to each user a part of his one history, by what `top`
 /// promises of it, whatever its end and whatever a crash leaves of his journal as it ends or at a
-/// moment of it; or it leaves nothing new. By `user_desk::laws::law_lives_join` any such calls, of
-/// which each began with what the one before left, make one history, which is legal and hides.
+/// moment of it; or it leaves nothing new. Any number of such calls are parts of one history by
+/// `law_any_calls_join`.
 pub fn law_calls_are_parts<F: Shelf, S: Source, K: Sink, E: Sink, L: Links>(
     call: &Seen<'_, F, S, K, E, L>,
 )
@@ -53,4 +59,31 @@ pub fn law_calls_are_parts<F: Shelf, S: Source, K: Sink, E: Sink, L: Links>(
         (output_of K.Sink call.now.sink.now call.now.sink_behind.now)
         (links_of L.Links call.now.links.now call.now.links_behind.now))
         (output_of E.Sink call.now.complaints.now call.now.complaints_behind.now) }
+{}
+
+/// Any number of calls of `batch`, `serve` and `audit` over the same files, of which each follows
+/// on the one before, leave a user one history, by what `top` promises of each: whatever their
+/// ends, and whatever a crash leaves of his journal as the last ends or at a moment of it. It goes
+/// on from the history with which the first began, it is legal and hides, and the entries of all
+/// that a call had told him by the time when the next began stand in it.
+///
+/// Premises about the world: that each call follows on the one before (`FollowsOn`), so that nobody
+/// else writes his journal between two calls; that the two files say the same in each; and that all
+/// with which the first may begin opens a desk of his. Of a serving it isn't said in which order
+/// visits told him these entries.
+pub fn law_any_calls_join<F: Shelf, S: Source, K: Sink, E: Sink, L: Links>()
+    ensures { (files : FileNames) (policy : PolicyValue) (world : FactSet) (header : List ℕ)
+        → AnyCallsJoin F.Shelf F.D.Disk S.Source K.Sink E.Sink L.Links files policy world header }
+{}
+
+/// Any number of batches that were answered, whole or in part, and of which each follows on the one
+/// before, are one run to a user, with crashes as they end or at a moment of them: that of his
+/// events in each, and what he was told are its replies. A batch that was cut has some first of his
+/// events; one in which no opening of his journal held, or that was cut before, has none.
+///
+/// The premises about the world are those of `law_any_calls_join`. What `top` promises of a batch
+/// has what each of its users was answered (`AnswersBatch.each_user`).
+pub fn law_any_batches_join<F: Shelf>()
+    ensures { (directory : Text) (policy : PolicyValue) (world : FactSet) (header : List ℕ)
+        (user : PolicyUser) → AnyBatchesJoin F.Shelf F.D.Disk directory policy world header user }
 {}

@@ -28,8 +28,8 @@ use user_desk::laws::law_openings;
 pub(crate) enum Task<'w> {
     /// The journals of all users are made.
     Init,
-    /// A batch is answered.
-    Batch,
+    /// A batch is answered by so many workers, 1 to 64.
+    Batch(u32),
     /// The user of this name is audited, as JSON or as lines.
     Audit(&'w str, bool),
     /// Connections are served.
@@ -93,8 +93,8 @@ where
             );
             CommandEnd::Init(inputs.policy.users, end)
         }
-        Task::Batch => {
-            let end = run_batch(rt, alloc, &registry, shelf, source, sink, gate);
+        Task::Batch(workers) => {
+            let end = run_batch(rt, alloc, &registry, workers, shelf, source, sink, gate);
             CommandEnd::Batch(inputs.policy.users, end)
         }
         Task::Audit(name, json) => {

@@ -25,7 +25,7 @@ pub(crate) fn part_of<'w>(command: Command<'w>) -> Part<'w>
     match command {
         Command::Case => Part::Case,
         Command::Init(files) => Part::OverFiles(files, Task::Init),
-        Command::Batch(files) => Part::OverFiles(files, Task::Batch),
+        Command::Batch(words) => Part::OverFiles(words.files, Task::Batch(words.workers)),
         Command::Audit(words) => Part::OverFiles(words.files, Task::Audit(words.user, words.json)),
         Command::Selfrun(words) => Part::Selfrun(words),
         Command::Serve(words) => {

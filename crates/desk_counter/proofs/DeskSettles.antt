@@ -6,15 +6,16 @@ use Rattle.cqe_base.specs.declared.user.Mark as base
 use Rattle.cqe_base.specs.Schema.{Text}
 use Rattle.cqe_base.specs.History.{AnsweredQuery, History}
 use Rattle.cqe_base.specs.Reading.{reading}
-use Rattle.cqe_base.specs.Run.{UserState, reply_by, standing_open}
+use Rattle.cqe_base.specs.Run.{UserState, reply_by, standing_open, after_event, stop}
 use Rattle.turnstile.specs.History.{IsOpening}
 use Rattle.user_log.specs.Replies.{reply_of}
 use Rattle.user_log.specs.declared.reply.Reply.{Reply}
 use Rattle.user_log.specs.declared.reply.Reply.TheVariants.{Mark, Broken}
 use Rattle.user_desk.specs.Standings.{standing_of, is_open}
-use Rattle.user_desk.specs.Lives.{shown, IsState, Settles}
+use Rattle.user_desk.specs.Lives.{shown, IsState, Settles, Holds}
 use Rattle.user_desk.specs.Desks.{desk_schema, desk_world, desk_user, desk_standing, desk_history, entry_in_flight, is_broken_desk, IsIn, IsOfSame}
-use Rattle.user_desk.specs.Desks.{IsOfOneOpening}
+use Rattle.user_desk.specs.Desks.{IsOfOneOpening, desk_header, state_of}
+use Rattle.user_desk.proofs.Asking as states
 use Rattle.user_desk.specs.declared.desk.Desk.{Desk}
 use Rattle.user_desk.specs.declared.standing.Standing.{Standing}
 use Rattle.user_desk.specs.declared.standing.Standing.TheVariants as standings
@@ -90,6 +91,27 @@ broken_adds value ticket text broken idle =
     (ap (λ s. reply_by fixed.schema fixed.world fixed.user (history_of pairs) s (has_broke pairs) text (reading fixed.schema text)) opened
     ∙ ap (λ b. reply_by fixed.schema fixed.world fixed.user (history_of pairs) standing_open b text (reading fixed.schema text)) flies)
     refl
+
+-- a crash of an ask of such a desk leaves what a crash before it did
+pub broken_stops : {D : Type 0} {g : _} (desk : Desk D g) (text : Text) → is_broken_desk desk ≡ true
+    → (is_open (desk_standing desk) ≡ false → is_broken_desk desk ≡ false) → (c : List ℕ)
+    → Holds (desk_schema desk) (desk_world desk) (desk_user desk) (desk_header desk) (state_of desk) c
+    → Holds (desk_schema desk) (desk_world desk) (desk_user desk) (desk_header desk)
+    (after_event (desk_schema desk) (desk_world desk) (desk_user desk) (state_of desk) (stop text)) c
+broken_stops desk text broken idle c holds =
+    let opened : standing_of (desk_standing desk) ≡ standing_open =
+    served_of (desk_standing desk) (λ closed. let e : true ≡ false = sym broken ∙ idle closed in cc) in
+    states.stop_leaves (desk_schema desk) (desk_world desk) (desk_user desk) (desk_header desk) (state_of desk) text c
+    (states.broken_adds (desk_schema desk) (desk_world desk) (desk_user desk) (state_of desk) opened broken text) holds
+
+-- and so where no append failed and nothing is written
+pub whole_stops : {D : Type 0} {g : _} (desk : Desk D g) (text : Text) → is_broken_desk desk ≡ false → (c : List ℕ)
+    → Holds (desk_schema desk) (desk_world desk) (desk_user desk) (desk_header desk) (state_of desk) c
+    → Holds (desk_schema desk) (desk_world desk) (desk_user desk) (desk_header desk)
+    (after_event (desk_schema desk) (desk_world desk) (desk_user desk) (state_of desk) (stop text)) c
+whole_stops desk text whole c holds =
+    states.stop_keeps (desk_schema desk) (desk_world desk) (desk_user desk) (desk_header desk) (state_of desk) text c
+    (none_flies (entry_in_flight desk) whole) holds
 
 module _ {D : Type 0} {g : _} (old new : Desk D g) where
   -- what no turn changes

@@ -6,14 +6,17 @@ ghost use Rattle.turnstile.specs.Passes.{first_value};
 ghost use Rattle.user_log.specs.Examiners.{examiner_schema, examiner_user};
 ghost use Rattle.desk_counter.specs.Codes.{profile_code};
 
+use crate::crowd::Crowd;
 use crate::item::{Fixed, TurnItem};
 use crate::ticketed_desk::{Owned, TicketedDesk};
+use censors::LentViews;
 use cqe_base::laws::law_logs;
 use cqe_base::user::User;
-use entailment::{GroundSentence, View};
+use entailment::GroundSentence;
 use outside::{Disk, Gate, Point};
 use std::alloc::Global;
 use std::sync::Wait;
+use std::thread::Threads;
 use turnstile::{Pass, PassError, Turnstile};
 use user_desk::Desk;
 use user_log::{Examined, Examiner, Reply};
@@ -27,6 +30,7 @@ const ALL_SHARES: u64 = 65;
 pub struct CounterOf<'w, V: Owned> {
     turnstile: Turnstile<V>,
     examiner: Examiner<'w>,
+    crowd: Crowd,
     ghost owned: { examiner_user examiner
         ≡ V.owner (first_value turnstile) } by { Coded-set profile_code _ _ },
     ghost schemed: { examiner_schema examiner
@@ -91,6 +95,7 @@ impl<'w, D: Disk> CounterOf<'w, TicketedDesk<'w, D>> {
                 CounterOf {
                     turnstile,
                     examiner,
+                    crowd: Crowd::new(),
                 },
                 pass,
             )),
@@ -144,12 +149,13 @@ impl<'w, D: Disk> CounterOf<'w, TicketedDesk<'w, D>> {
         self.turnstile.meet(pass, other);
     }
 
-    /// Asks a text, in two turns. In the first one it takes a view of the log. Between both it
-    /// examines the text after that view. In the second one it settles the text by the entries of
-    /// all asks before, with what was found where the log is still the same, and else with what it
-    /// finds then. A pass that has all shares makes the second turn alone, and so does an ask of
-    /// which nothing is to be examined. The gate is passed between both turns and after the second.
-    pub fn ask<R: Wait, G: Gate>(
+    /// Asks a text, in two turns. In the first one it takes views of the log. Between both it
+    /// examines the text after these, by as many threads as there are views. In the second one it
+    /// settles the text by the entries of all asks before, with what was found where the log is
+    /// still the same, and else with what it finds then. A pass that has all shares makes the
+    /// second turn alone, and so does an ask of which nothing is to be examined, or beside which
+    /// two others are under way. The gate is passed between both turns and after the second.
+    pub fn ask<R: Threads + Wait + Sync, G: Gate>(
         &self,
         rt: &R,
         alloc: Global,
@@ -185,6 +191,7 @@ impl<'w, D: Disk> CounterOf<'w, TicketedDesk<'w, D>> {
             (history_of (seen pass.new)) }
         ensures last { BrokeIsLast (seen pass.new) }
     {
+        self.crowd.enter();
         let examined = self.examined(rt, alloc, pass, text);
         gate.pass(self.user().name.as_str(), Point::Examined);
         let mut turn = self.turnstile.enter(rt, pass);
@@ -192,13 +199,15 @@ impl<'w, D: Disk> CounterOf<'w, TicketedDesk<'w, D>> {
         let reply = turn.value.settle(alloc, ticket, text, examined);
         turn.value.known();
         self.turnstile.leave(pass, turn);
+        self.crowd.leave();
         gate.pass(self.user().name.as_str(), Point::Settled);
         reply
     }
 
     /// What is found of a text after the log as it stands in a first turn. There is nothing where
-    /// the pass has all shares, the text is no query that is to be examined, or memory is wanting.
-    fn examined<R: Wait>(
+    /// the pass has all shares, many asks are under way, the text is no query that is to be
+    /// examined, or memory is wanting.
+    fn examined<R: Threads + Wait + Sync>(
         &self,
         rt: &R,
         alloc: Global,
@@ -218,12 +227,15 @@ impl<'w, D: Disk> CounterOf<'w, TicketedDesk<'w, D>> {
         if pass.shares() == ALL_SHARES {
             return None;
         }
+        if self.crowd.is_large() {
+            return None;
+        }
         let query = self.examiner.read(alloc, text)?;
-        let view = self.lend(rt, alloc, pass, text, &query)?;
-        self.examiner.examine(alloc, view, query)
+        let lent = self.lend(rt, alloc, pass, text, &query)?;
+        self.examiner.examine(rt, alloc, lent, query)
     }
 
-    /// A first turn: takes a view of the log, after which the query of a text is to be examined.
+    /// A first turn: takes views of the log, after which the query of a text is to be examined.
     fn lend<R: Wait>(
         &self,
         rt: &R,
@@ -231,7 +243,7 @@ impl<'w, D: Disk> CounterOf<'w, TicketedDesk<'w, D>> {
         pass: &mut DeskPass<D>,
         text: &str,
         query: &GroundSentence,
-    ) -> Option<View<'w>>
+    ) -> Option<LentViews<'w>>
         requires pass { IsPassOf pass.old self.now }
         requires turns { 1 ≤ turns pass.old }
         requires short { length text.now ≤ 4096 }
@@ -243,9 +255,9 @@ impl<'w, D: Disk> CounterOf<'w, TicketedDesk<'w, D>> {
             (history_of (seen pass.new)) (sentence_of query.now)) }
     {
         let mut turn = self.turnstile.enter(rt, pass);
-        let view = turn.value.lend(alloc, text, query);
+        let lent = turn.value.lend(alloc, text, query);
         self.turnstile.leave(pass, turn);
-        view
+        lent
     }
 
     /// Takes the desk out, with the pass that has all shares. Its entries have no tickets any more,

@@ -16,6 +16,7 @@
 #![tactic(auto)]
 
 mod counter;
+mod crowd;
 mod item;
 mod sole;
 mod ticketed_desk;

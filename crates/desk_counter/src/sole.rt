@@ -7,6 +7,7 @@ use crate::ticketed_desk::{Owned, TicketedDesk};
 use outside::{Disk, Gate};
 use std::alloc::Global;
 use std::sync::Wait;
+use std::thread::Threads;
 use turnstile::Pass;
 use user_desk::Desk;
 use user_log::Reply;
@@ -65,7 +66,13 @@ impl<'w, D: Disk> SoleOf<'w, TicketedDesk<'w, D>> {
     }
 
     /// Asks a text, as `Counter::ask` does.
-    pub fn ask<R: Wait, G: Gate>(&mut self, rt: &R, alloc: Global, text: &str, gate: &G) -> Reply
+    pub fn ask<R: Threads + Wait + Sync, G: Gate>(
+        &mut self,
+        rt: &R,
+        alloc: Global,
+        text: &str,
+        gate: &G,
+    ) -> Reply
         requires { length text.now ≤ 4096 }
         ensures kept { kept_in self.new ≡ kept_in self.old }
         // It is an ask of the run, with its reply and its ending.

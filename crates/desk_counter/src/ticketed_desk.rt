@@ -7,7 +7,8 @@ ghost use Rattle.desk_counter.specs.Items.{pairs_of};
 ghost use Rattle.desk_counter.specs.Desks.{fixed_of};
 
 use crate::item::{Fixed, TurnItem};
-use entailment::{GroundSentence, View};
+use censors::LentViews;
+use entailment::GroundSentence;
 use outside::Disk;
 use std::alloc::{AllocError, Global};
 use turnstile::Recorded;
@@ -53,13 +54,19 @@ impl<'w, D: Disk> Owned for TicketedDesk<'w, D> {
 }
 
 impl<'w, D: Disk> TicketedDesk<'w, D> {
-    ghost use Rattle.std.specs.Prelude.{◌≤◌, ◌↔◌, IsTrue, IfErr, IfSome};
+    ghost use Rattle.std.specs.Prelude.{◌≤◌, ◌↔◌, IsTrue, IfErr, IfSome, true, false, List, ℕ};
     ghost use Rattle.entailment.specs.GroundSentences.{sentence_of};
     ghost use Rattle.user_log.specs.Examiners.{examiner_schema, examiner_user};
     ghost use Rattle.user_log.specs.Examining.{IsExamined, IsLent};
     ghost use Rattle.cqe_base.specs.Censor.{IsLegal};
     ghost use Rattle.cqe_base.specs.Limits.{KeepsSizes};
+    ghost use Rattle.cqe_base.specs.Run.{after_event, stop};
     ghost use Rattle.turnstile.specs.History.{IsOpening};
+    ghost use Rattle.user_desk.specs.Desks.{desk_world, desk_header, desk_standing, desk_disk};
+    ghost use Rattle.user_desk.specs.Desks.{is_broken_desk, state_of};
+    ghost use Rattle.user_desk.specs.Lives.{Holds};
+    ghost use Rattle.user_desk.specs.Replying.{HasNoWrite};
+    ghost use Rattle.user_desk.specs.Standings.{is_sealed};
     ghost use Rattle.desk_counter.specs.Items.{history_of, has_broke, BrokeIsLast};
     ghost use Rattle.desk_counter.specs.Asks.{Adds};
     ghost use Rattle.desk_counter.specs.Tickets.{desk_of, pairs_in, fixed_in};
@@ -115,17 +122,18 @@ impl<'w, D: Disk> TicketedDesk<'w, D> {
         self.desk.known();
     }
 
-    /// A view of the log, after which the query of a text can be examined outside of a turn. There
-    /// is none where a code answers the text, or memory is wanting.
+    /// Views of the log, after which the query of a text can be examined outside of a turn. There
+    /// are none where a code answers the text, or memory is wanting.
     pub(crate) fn lend(
         &mut self,
         alloc: Global,
         text: &str,
         query: &GroundSentence,
-    ) -> Option<View<'w>>
+    ) -> Option<LentViews<'w>>
         requires { length text.now ≤ 4096 }
         ensures fixed { fixed_in self.new ≡ fixed_in self.old }
         ensures pairs { pairs_in self.new ≡ pairs_in self.old }
+        ensures disk { desk_disk (desk_of self.new) ≡ desk_disk (desk_of self.old) }
         ensures lent { IfSome result
             (IsLent (fixed_in self.old).schema (fixed_in self.old).user
             (history_of (pairs_in self.old)) (sentence_of query.now)) }
@@ -134,7 +142,8 @@ impl<'w, D: Disk> TicketedDesk<'w, D> {
     }
 
     /// Settles a text in the turn of this ticket, with what was found of it before, if that was
-    /// done.
+    /// done. The disk stays as it is where nothing is to be written, and where an append had failed
+    /// before; at every moment of the turn a crash leaves what it may leave of this ask.
     pub(crate) fn settle(
         &mut self,
         alloc: Global,
@@ -150,6 +159,18 @@ impl<'w, D: Disk> TicketedDesk<'w, D> {
         ensures adds { Adds (fixed_in self.old) ticket text.now (pairs_in self.old)
             (pairs_in self.new) result }
         ensures broken { (result ≡ Reply.Broken) ↔ IsTrue (has_broke (pairs_in self.new)) }
+        ensures untouched { HasNoWrite result
+            → desk_disk (desk_of self.new) ≡ desk_disk (desk_of self.old) }
+        ensures still_broken { is_broken_desk (desk_of self.old) ≡ true
+            → desk_disk (desk_of self.new) ≡ desk_disk (desk_of self.old) }
+        ensures moments { D.tells → is_sealed (desk_standing (desk_of self.old)) ≡ false
+            → (c : List ℕ)
+            → D.image_since (desk_disk (desk_of self.new)) (D.moment (desk_disk (desk_of self.old)))
+            c
+            → Holds (desk_schema (desk_of self.old)) (desk_world (desk_of self.old))
+            (desk_user (desk_of self.old)) (desk_header (desk_of self.old))
+            (after_event (desk_schema (desk_of self.old)) (desk_world (desk_of self.old))
+            (desk_user (desk_of self.old)) (state_of (desk_of self.old)) (stop text.now)) c }
     {
         self.desk.known();
         if self.desk.broken() {

@@ -1,17 +1,20 @@
 -- What a crash could leave of a journal at each moment of a call.
 use Rattle.std.proofs.Common.{◌≡◌, ◌⊎◌, inl, inr, ⊎_elim, ℕ, ◌≤◌, Bool, true, false, List, ◌++◌, length, refl, sym, ap, subst, arith}
 use Rattle.std.proofs.Common.{length-append}
-use Rattle.std.specs.Prelude.{Option, Some, None, option_map, option_to_list, IfSome, not}
+use Rattle.std.specs.Prelude.{Option, Some, None, option_map, option_to_list, IfSome, IfNone, not}
+use Rattle.outside.proofs.Taken.{same_rests, began_rests}
 use Rattle.std.proofs.lemmas.List.{take_all, take_at}
 use Rattle.outside.specs.Disk.{Elapses}
-use Rattle.outside.specs.Shelf.{IsTaken}
+use Rattle.outside.specs.Shelf.{IsTaken, SameNames, SameBytes, NoNewImages, NoNewMoments, bytes_on, image_on}
+use Rattle.outside.specs.declared.disk.Disk.{Ghosts as DiskGhosts}
 use Rattle.cqe_base.specs.Schema.{Text, DatabaseSchema}
 use Rattle.cqe_base.specs.Facts.{FactSet}
 use Rattle.cqe_base.specs.History.{UserProfile, AnsweredQuery, History}
 use Rattle.cqe_base.specs.Run
 use Rattle.user_desk.specs.Causes.{Opens, OpensWithin}
 use Rattle.user_desk.specs.Lives.{Holds, shown}
-use Rattle.desk_crew.specs.Shelved.{Journals, StandsAllAlong}
+use Rattle.log_journal.specs.Names.{journal_name}
+use Rattle.desk_crew.specs.Shelved.{Journals, StandsAllAlong, KeepsJournals, journals_by}
 
 -- a disk that was taken from the shelf has the moment at which the call began
 pub taken_moment : {D : Type 0} (reads : D → List ℕ) (image : D → List ℕ → Type 0) (moment : D → ℕ) (held : Option D) (taken : D)
@@ -20,10 +23,15 @@ pub taken_moment : {D : Type 0} (reads : D → List ℕ) (image : D → List ℕ
 taken_moment reads image moment None taken is = tt
 taken_moment reads image moment (Some one) taken is = ap moment (sym is)
 
--- what is known of a number that may be there
-pub if_some_on : (number : Option ℕ) (P Q : ℕ → Type 0) → ((n : ℕ) → P n → Q n) → IfSome number P → IfSome number Q
+-- what is known of a value that may be there
+pub if_some_on : {X : Type 0} (value : Option X) (P Q : X → Type 0) → ((x : X) → P x → Q x) → IfSome value P → IfSome value Q
 if_some_on None P Q on is = tt
-if_some_on (Some n) P Q on is = on n is
+if_some_on (Some x) P Q on is = on x is
+
+-- and where there is none
+pub if_none_on : {X : Type 0} (value : Option X) (P Q : Type 0) → (P → Q) → IfNone value P → IfNone value Q
+if_none_on None P Q on is = on is
+if_none_on (Some x) P Q on is = tt
 
 -- bytes that hold a state open a desk with a beginning of its entries, with the one in flight
 pub holds_within : (schema : DatabaseSchema) (world : FactSet) (user : UserProfile) (header : List ℕ) (entries : History) (standing : Run.Standing)
@@ -90,3 +98,25 @@ stands_along journals name true stands taken opened closed now past since_opened
       never = λ none c here. ⊎_elim (λ was. first c (still_along refl c was)) (λ after. first c (still_ends refl c (left c after)))
           (back.nothing_else taken c (omega (arith, early, late)) here);
     }
+
+-- ---- journals that are kept
+
+module _ {D : Type 0} (Disk : DiskGhosts D) (directory : Text) (disk disk' : Text → Option D) (count count' : Text → ℕ) where
+  -- where no disk was touched, all are
+  pub keeps_same : ((d : D) (c : List ℕ) → Disk.image_since d (Disk.moment d) c → Disk.image d c) → SameNames disk disk'
+      → KeepsJournals (journals_by Disk.reads Disk.image Disk.moment Disk.image_since directory disk disk' count count')
+  keeps_same only_now same name = (
+    ap (bytes_on Disk.reads) (same (journal_name directory name)),
+    λ c at. subst (λ d. image_on Disk.image d c) (same (journal_name directory name)) at,
+    began_rests Disk (disk (journal_name directory name)) (disk' (journal_name directory name))
+        (same_rests Disk only_now (disk (journal_name directory name)) (disk' (journal_name directory name)) (same (journal_name directory name))),
+  )
+
+  -- and where all read as before, and no crash left anything new, at no moment either
+  pub keeps_all : SameBytes Disk.reads disk disk' → NoNewImages Disk.image disk disk' → NoNewMoments Disk.moment Disk.image_since Disk.image disk disk'
+      → KeepsJournals (journals_by Disk.reads Disk.image Disk.moment Disk.image_since directory disk disk' count count')
+  keeps_all bytes images moments name = (
+    bytes (journal_name directory name),
+    λ c at. images (journal_name directory name) c at,
+    began_rests Disk (disk (journal_name directory name)) (disk' (journal_name directory name)) (moments (journal_name directory name)),
+  )

@@ -1,9 +1,11 @@
 pub mod Taken
 pub mod Shelving
+pub mod Placing
 pub mod Reopening
-pub mod Opening
+pub mod Taking
 pub mod Asking
 pub mod Seated
 pub mod Rising
 pub mod Lasting
 pub mod Giving
+pub mod Crossing

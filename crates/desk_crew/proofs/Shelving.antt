@@ -1,20 +1,20 @@
--- The disks of a batch's users on their shelf: which are out, and which are back.
-use Rattle.std.proofs.Common.{◌≡◌, ℕ, ◌≤◌, Bool, true, false, List, [], ◌∷◌, ◌++◌, length, refl, sym, ap, subst, ◌∙◌, append_assoc, append-nil, arith}
-use Rattle.std.specs.Prelude.{Option, Some, ◌||◌, ◌==◌, bytes_eq, slice_index_or, remove}
-use Rattle.std.specs.List.{list_any}
+-- Disks under their names on the shelf: which are out, and which are back.
+use Rattle.std.proofs.Common.{◌≡◌, ℕ, ◌≤◌, Bool, true, false, List, [], ◌∷◌, ◌++◌, length, map, refl, sym, ap, subst, ◌∙◌, append_assoc, append-nil, arith}
+use Rattle.std.specs.Prelude.{Option, Some, ◌||◌, bytes_eq}
+use Rattle.std.specs.List.{AllByRecursion, list_any}
 use Rattle.std.specs.Cmp.Lexicographic.{same_text}
 use Rattle.std.proofs.Math.Bool.{or-false}
-use Rattle.std.proofs.lemmas.Bool.{eqb-true, or_from, or_left, or_right}
+use Rattle.std.proofs.lemmas.Bool.{or_from, or_left, or_right}
 use Rattle.std.proofs.lemmas.List.{map-append}
-use Rattle.outside.specs.Shelf.{SameOthers, is_among, SameBeside, AllOut, AllIn}
+use Rattle.outside.specs.Shelf.{SameOthers, is_among, SameBeside, AllOut, AllIn, AreOut, NoneOut, NoneFell}
 use Rattle.outside.specs.declared.disk.Disk.{Ghosts as DiskGhosts}
 use Rattle.outside.proofs.Moments.{elapses_none, elapses_then, over_both}
 use Rattle.cqe_base.specs.Schema.{Text, has_duplicate}
 use Rattle.cqe_base.proofs.Truths.{or_first, or_second}
 use Rattle.cqe_base.proofs.Lists.{or_assoc, text_is}
 use Rattle.std.proofs.lemmas.List.Folds.{list_any-append}
-use Rattle.desk_crew.specs.Crew.{seat_journal, seat_disk, seat_broke, IsLeft, IsClosed}
-use Rattle.desk_crew.specs.Shelved.{journals, AreBack, AreLater}
+use Rattle.desk_crew.specs.Crew.{seat_journal, seat_broke, IsLeft, IsClosed}
+use Rattle.desk_crew.specs.Shelved.{IsBack}
 use Rattle.desk_crew.specs.Seats.{DeskSeat}
 
 -- ---- names
@@ -24,10 +24,7 @@ among-append [] ys name = refl
 among-append (x ∷ xs) ys name =
     ap (λ b. bytes_eq name x || b) (among-append xs ys name) ∙ sym (or_assoc (bytes_eq name x) (is_among xs name) (is_among ys name))
 
--- a name of the first part is among the whole
-pub among_first : (xs ys : List Text) (name : Text) → is_among xs name ≡ true → is_among (xs ++ ys) name ≡ true
-among_first xs ys name is = among-append xs ys name ∙ or_left _ _ is
-
+-- a name of a part is among the whole
 pub among_second : (xs ys : List Text) (name : Text) → is_among ys name ≡ true → is_among (xs ++ ys) name ≡ true
 among_second xs ys name is = among-append xs ys name ∙ or_right _ _ is
 
@@ -36,16 +33,6 @@ among_none_first xs ys name none = or_first _ _ (sym (among-append xs ys name) �
 
 pub among_none_second : (xs ys : List Text) (name : Text) → is_among (xs ++ ys) name ≡ false → is_among ys name ≡ false
 among_none_second xs ys name none = or_second _ _ (sym (among-append xs ys name) ∙ none)
-
--- the first of a list that isn't empty, which is removed
-pub first_removed : {X : Type 0} (xs : List X) (x : X) (rest : List X) → x ≡ slice_index_or xs 0 x → rest ≡ remove xs 0 → (length xs == 0) ≡ false
-    → xs ≡ x ∷ rest
-first_removed [] x rest is removed some = absurd cc
-first_removed (y ∷ ys) x rest is removed some = ap (λ z. z ∷ ys) (sym is) ∙ ap (λ l. x ∷ l) (sym removed)
-
-pub none_left : {X : Type 0} (xs : List X) → (length xs == 0) ≡ true → xs ≡ []
-none_left [] none = refl
-none_left (x ∷ xs) none = let zero_is : length (x ∷ xs) ≡ 0 = eqb-true _ _ none in absurd (omega (arith, zero_is))
 
 -- no name of the first is among the second
 abbrev pub Apart : List Text → List Text → Type 0
@@ -93,10 +80,6 @@ pub beside_more : {A : Type 0} (one : Text) (names : List Text) (first old new :
     → SameBeside (one ∷ names) first new
 beside_more one names first old new before now name none = now name (or_first _ _ none) ∙ before name (or_second _ _ none)
 
-pub beside_joined : {A : Type 0} (xs ys : List Text) (first old new : Text → A) → SameBeside xs first old → SameBeside ys old new
-    → SameBeside (xs ++ ys) first new
-beside_joined xs ys first old new before now name none = now name (among_none_second xs ys name none) ∙ before name (among_none_first xs ys name none)
-
 -- whether an append failed at one of the seats, by those that are left and by those that were closed
 or_moved : (a b c : Bool) → ((a || (b || false)) || c) ≡ (a || (c || b))
 or_moved true b c = refl
@@ -121,7 +104,7 @@ module _ {D : Type 0} {g h : _} where
       ∙ or_moved (list_any seat_broke front) (seat_broke seat) so_far ∙ ap (λ b. list_any seat_broke front || (so_far || b)) (sym here)
 
 module _ {D : Type 0} (Disk : DiskGhosts D) where
-  left_same : ((d : D) (t : ℕ) (c : List ℕ) → t ≤ Disk.moment d → Disk.image d c → Disk.image_since d t c)
+  pub left_same : ((d : D) (t : ℕ) (c : List ℕ) → t ≤ Disk.moment d → Disk.image d c → Disk.image_since d t c)
       → ((d : D) (c : List ℕ) → Disk.image_since d (Disk.moment d) c → Disk.image d c) → (d : D) → IsLeft Disk d d
   left_same counts_now only_now d = record {
     reads_same = refl;
@@ -143,147 +126,165 @@ module _ {D : Type 0} (Disk : DiskGhosts D) where
         (λ bytes here. first.images bytes (second.rests bytes here));
   }
 
-module _ {D : Type 0} {g h : _} where
-  pub journals-append : (xs ys : List (DeskSeat D g h)) → journals (xs ++ ys) ≡ journals xs ++ journals ys
-  journals-append xs ys = map-append seat_journal xs ys
+-- what holds of the names of some and of all others holds of each
+pub by_among : (P : Text → Type 0) (ns : List Text) → ((name : Text) → is_among ns name ≡ true → P name) → ((name : Text) → is_among ns name ≡ false → P name)
+    → (name : Text) → P name
+by_among P ns inside beside name = by (is_among ns name) refl
+  where
+    by : (b : Bool) → is_among ns name ≡ b → P name
+    by true among = inside name among
+    by false none = beside name none
 
-  module _ (Disk : DiskGhosts D) where
-    pub later-first : (count : Text → ℕ) (xs ys : List (DeskSeat D g h)) → AreLater Disk.faults count (xs ++ ys) → AreLater Disk.faults count xs
-    later-first count [] ys are = tt
-    later-first count (x ∷ xs) ys are = (are.0, later-first count xs ys are.1)
+-- none is out once all are back
+pub none_out : (ns : List Text) (is_out is_out' : Text → Bool) → AreOut ns is_out → AllIn ns is_out' → SameBeside ns is_out is_out' → NoneOut is_out'
+none_out ns is_out is_out' are inside others =
+    by_among (λ name. is_out' name ≡ false) ns inside (λ name none. others name none ∙ are name ∙ none)
 
-    pub later-second : (count : Text → ℕ) (xs ys : List (DeskSeat D g h)) → AreLater Disk.faults count (xs ++ ys) → AreLater Disk.faults count ys
-    later-second count [] ys are = are
-    later-second count (x ∷ xs) ys are = later-second count xs ys are.1
+-- no count fell, where those of these names didn't
+pub none_fell : (ns : List Text) (count count' : Text → ℕ) → ((name : Text) → is_among ns name ≡ true → count name ≤ count' name) → SameBeside ns count count'
+    → NoneFell count count'
+none_fell ns count count' rises others =
+    by_among (λ name. count name ≤ count' name) ns rises (λ name none. subst (λ n. count name ≤ n) (sym (others name none)) (omega arith))
 
-    pub later_on : (count count' : Text → ℕ) (seats : List (DeskSeat D g h))
-        → ((name : Text) → is_among (journals seats) name ≡ true → count' name ≡ count name) → AreLater Disk.faults count seats
-        → AreLater Disk.faults count' seats
-    later_on count count' [] counts later = tt
-    later_on count count' (seat ∷ seats) counts later =
-        let same = counts (seat_journal seat) (or_left _ _ (text_is (seat_journal seat))) in
-        (subst (λ n. n ≤ Disk.faults (seat_disk seat)) (sym same) later.0, later_on count count' seats (λ name is. counts name (or_right _ _ is)) later.1)
+-- the second part of a list of which something holds
+pub all_second : {X : Type 0} (P : X → Type 0) (xs : List X) (x : X) (ys all : List X) → all ≡ xs ++ x ∷ ys → AllByRecursion P all → P x
+all_second P xs x ys all is holds = by xs (subst (AllByRecursion P) is holds)
+  where
+    by : (zs : List _) → AllByRecursion P (zs ++ x ∷ ys) → P x
+    by [] holds = holds.0
+    by (z ∷ zs) holds = by zs holds.1
 
-  module _ (told : Type 0) (Disk : DiskGhosts D) where
-    pub back-append : (disk : Text → Option D) (count : Text → ℕ) (xs ys : List (DeskSeat D g h)) → AreBack told Disk disk count xs
-        → AreBack told Disk disk count ys
-        → AreBack told Disk disk count (xs ++ ys)
-    back-append disk count [] ys first second = second
-    back-append disk count (x ∷ xs) ys first second = (first.0, back-append disk count xs ys first.1 second)
+-- ---- what has a name on the shelf, each under its own
 
-    -- what is back stays so where its names have the same as before
-    pub back_on : (disk disk' : Text → Option D) (count count' : Text → ℕ) (seats : List (DeskSeat D g h))
-        → ((name : Text) → is_among (journals seats) name ≡ true → disk' name ≡ disk name)
-        → ((name : Text) → is_among (journals seats) name ≡ true → count' name ≡ count name)
-        → AreBack told Disk disk count seats → AreBack told Disk disk' count' seats
-    back_on disk disk' count count' [] disks counts back = tt
-    back_on disk disk' count count' (seat ∷ seats) disks counts back =
-        let here : is_among (journals (seat ∷ seats)) (seat_journal seat) ≡ true = or_left _ _ (text_is (seat_journal seat)) in (
-          record {
-            now = back.0.now;
-            left = back.0.left;
-            held = λ t. disks (seat_journal seat) here ∙ back.0.held t;
-            counted = counts (seat_journal seat) here ∙ back.0.counted;
-          },
-          back_on disk disk' count count' seats (λ name is. disks name (or_right _ _ is)) (λ name is. counts name (or_right _ _ is)) back.1,
-        )
+at_one : (P : Text → Type 0) (own one : Text) → P own → (b : Bool) → bytes_eq one own ≡ b → (bytes_eq one own ≡ false → P one) → P one
+at_one P own one is true same more = subst P (sym (same_text one own (sym same))) is
+at_one P own one is false differs more = more differs
 
-    -- ---- disks that are given back one after the other
+module _ {X : Type 0} (name : X → Text) where
+  -- what holds at the name of each holds at all of these names
+  pub at_names : (P : Text → Type 0) (xs : List X) → AllByRecursion (λ x. P (name x)) xs → (one : Text) → is_among (map name xs) one ≡ true → P one
+  at_names P [] are one among = absurd cc
+  at_names P (x ∷ xs) are one among =
+      at_one P (name x) one are.0 (bytes_eq one (name x)) refl
+      (λ differs. at_names P xs are.1 one (sym (ap (λ b. b || is_among (map name xs) one) differs) ∙ among))
 
-    module _ (all : List (DeskSeat D g h)) (disk0 : Text → Option D) (out0 : Text → Bool) (count0 : Text → ℕ) where
-      -- the disks of the last seats are back
-      pub record Given (seats : List (DeskSeat D g h)) (disk : Text → Option D) (is_out : Text → Bool) (count : Text → ℕ) : Type 0 where
-        pub given : List (DeskSeat D g h)
-        pub split : all ≡ seats ++ given
-        pub back : AreBack told Disk disk count given
-        pub inside : AllIn (journals given) is_out
-        pub others_out : SameBeside (journals given) out0 is_out
-        pub disks : SameBeside (journals given) disk0 disk
-        pub counts : SameBeside (journals given) count0 count
+module _ {D X : Type 0} (name : X → Text) (Back : (Text → Option D) → (Text → ℕ) → X → Type 0) (all : List X) (disk0 : Text → Option D) (out0 : Text → Bool)
+    (count0 : Text → ℕ) where
+  -- the disks of the last ones are back
+  pub record Given (left : List X) (disk : Text → Option D) (is_out : Text → Bool) (count : Text → ℕ) : Type 0 where
+    pub given : List X
+    pub split : all ≡ left ++ given
+    pub back : AllByRecursion (Back disk count) given
+    pub inside : AllIn (map name given) is_out
+    pub others_out : SameBeside (map name given) out0 is_out
+    pub disks : SameBeside (map name given) disk0 disk
+    pub counts : SameBeside (map name given) count0 count
 
-      pub given_none : Given all disk0 out0 count0
-      given_none = record {
-        given = [];
-        split = sym (append-nil all);
-        back = tt;
-        inside = λ name is. absurd cc;
-        others_out = λ name none. refl;
-        disks =
-            λ name none. refl;
-        counts = λ name none. refl;
-      }
+  pub given_none : Given all disk0 out0 count0
+  given_none = record {
+    given = [];
+    split = sym (append-nil all);
+    back = tt;
+    inside = λ one is. absurd cc;
+    others_out = λ one none. refl;
+    disks = λ one none. refl;
+    counts = λ one none. refl;
+  }
 
-      module _ (distinct : has_duplicate (journals all) ≡ false) (out : AllOut (journals all) out0) (later : AreLater Disk.faults count0 all) where
-        pub record Next (seats : List (DeskSeat D g h)) (seat : DeskSeat D g h) (given : List (DeskSeat D g h)) : Type 0 where
-          pub apart : is_among (journals given) (seat_journal seat) ≡ false
-          pub among : is_among (journals all) (seat_journal seat) ≡ true
-          pub counted : count0 (seat_journal seat) ≤ Disk.faults (seat_disk seat)
+  module _ (least : X → ℕ) (distinct : has_duplicate (map name all) ≡ false) (out : AllOut (map name all) out0)
+      (later : AllByRecursion (λ x. count0 (name x) ≤ least x) all) where
+    pub record Next (x : X) (given : List X) : Type 0 where
+      pub apart : is_among (map name given) (name x) ≡ false
+      pub among : is_among (map name all) (name x) ≡ true
+      pub counted : count0 (name x) ≤ least x
 
-        pub next_of : (seats : List (DeskSeat D g h)) (seat : DeskSeat D g h) (given : List (DeskSeat D g h)) → all ≡ (seats ++ seat ∷ []) ++ given
-            → Next seats seat given
-        next_of seats seat given split =
-            let whole : all ≡ seats ++ (seat ∷ given) = split ∙ append_assoc seats (seat ∷ []) given in
-            let names : journals all ≡ journals seats ++ (seat_journal seat ∷ journals given) = ap journals whole ∙ journals-append seats (seat ∷ given) in
-            let two : Parts (journals seats) (seat_journal seat ∷ journals given) =
-            parts (journals seats) (seat_journal seat ∷ journals given) (ap has_duplicate (sym names) ∙ distinct) in
-            record {
-              apart = or_first _ _ two.second;
-              among = ap (λ ns. is_among ns (seat_journal seat)) names
-                  ∙ among_second (journals seats) (seat_journal seat ∷ journals given) (seat_journal seat) (or_left _ _ (text_is (seat_journal seat)));
-              counted = (later-second Disk count0 seats (seat ∷ given) (subst (AreLater Disk.faults count0) whole later)).0;
-            }
+    pub next_of : (left : List X) (x : X) (given : List X) → all ≡ (left ++ x ∷ []) ++ given → Next x given
+    next_of left x given split =
+        let whole : all ≡ left ++ (x ∷ given) = split ∙ append_assoc left (x ∷ []) given in
+        let names : map name all ≡ map name left ++ (name x ∷ map name given) = ap (map name) whole ∙ map-append name left (x ∷ given) in
+        let two : Parts (map name left) (name x ∷ map name given) =
+        parts (map name left) (name x ∷ map name given) (ap has_duplicate (sym names) ∙ distinct) in
+        record {
+          apart = or_first _ _ two.second;
+          among = ap (λ ns. is_among ns (name x)) names
+              ∙ among_second (map name left) (name x ∷ map name given) (name x) (or_left _ _ (text_is (name x)));
+          counted = all_second (λ y. count0 (name y) ≤ least y) left x given all whole later;
+        }
 
-        -- the next disk is out, and its count didn't fall
-        pub given_out : (seats before : List (DeskSeat D g h)) (seat : DeskSeat D g h) (disk : Text → Option D) (is_out : Text → Bool) (count : Text → ℕ)
-            → before ≡ seats ++ seat ∷ [] → Given before disk is_out count → is_out (seat_journal seat) ≡ true
-        given_out seats before seat disk is_out count is so_far =
-            let next : Next seats seat so_far.given = next_of seats seat so_far.given (so_far.split ∙ ap (λ l. l ++ so_far.given) is) in
-            so_far.others_out (seat_journal seat) next.apart ∙ out (seat_journal seat) next.among
+    -- the next disk is out, and its count didn't fall
+    pub given_out : (left before : List X) (x : X) (disk : Text → Option D) (is_out : Text → Bool) (count : Text → ℕ) → before ≡ left ++ x ∷ []
+        → Given before disk is_out count → is_out (name x) ≡ true
+    given_out left before x disk is_out count is so_far =
+        let next : Next x so_far.given = next_of left x so_far.given (so_far.split ∙ ap (λ l. l ++ so_far.given) is) in
+        so_far.others_out (name x) next.apart ∙ out (name x) next.among
 
-        pub given_later : (seats before : List (DeskSeat D g h)) (seat : DeskSeat D g h) (disk : Text → Option D) (is_out : Text → Bool) (count : Text → ℕ)
-            → before ≡ seats ++ seat ∷ [] → Given before disk is_out count → count (seat_journal seat) ≤ Disk.faults (seat_disk seat)
-        given_later seats before seat disk is_out count is so_far =
-            let next : Next seats seat so_far.given = next_of seats seat so_far.given (so_far.split ∙ ap (λ l. l ++ so_far.given) is) in
-            subst (λ n. n ≤ Disk.faults (seat_disk seat)) (sym (so_far.counts (seat_journal seat) next.apart)) next.counted
+    pub given_later : (left before : List X) (x : X) (disk : Text → Option D) (is_out : Text → Bool) (count : Text → ℕ) → before ≡ left ++ x ∷ []
+        → Given before disk is_out count → count (name x) ≤ least x
+    given_later left before x disk is_out count is so_far =
+        let next : Next x so_far.given = next_of left x so_far.given (so_far.split ∙ ap (λ l. l ++ so_far.given) is) in
+        subst (λ n. n ≤ least x) (sym (so_far.counts (name x) next.apart)) next.counted
 
-        -- one more is back
-        pub given_more : (counts_now : (d : D) (t : ℕ) (c : List ℕ) → t ≤ Disk.moment d → Disk.image d c → Disk.image_since d t c)
-            (only_now : (d : D) (c : List ℕ) → Disk.image_since d (Disk.moment d) c → Disk.image d c)
-            (seats before : List (DeskSeat D g h)) (seat : DeskSeat D g h) (now : D) (closed : IsClosed Disk seat.desk now)
-            (disk disk' : Text → Option D) (is_out is_out' : Text → Bool) (count count' : Text → ℕ) (one : Text) → one ≡ seat_journal seat
-            → before ≡ seats ++ seat ∷ [] → Given before disk is_out count
-            → (told → disk' one ≡ Some now) → SameOthers one disk disk' → is_out' one ≡ false → SameOthers one is_out is_out' → count' one ≡ Disk.faults now
-            → SameOthers one count count'
-            → Given seats disk' is_out' count'
-        given_more counts_now only_now seats before seat now closed disk disk' is_out is_out' count count' one named is so_far held disks inside outs counted
-            counts =
-            let given = so_far.given in
-            let split : all ≡ (seats ++ seat ∷ []) ++ given = so_far.split ∙ ap (λ l. l ++ given) is in
-            let next : Next seats seat given = next_of seats seat given split in
-            let apart : is_among (journals given) one ≡ false = ap (is_among (journals given)) named ∙ next.apart in
-            record {
-              given = seat ∷ given;
-              split = split ∙ append_assoc seats (seat ∷ []) given;
-              back = (
-                record {
-                  now = now;
-                  left = record { closed = now; is_closed = closed; left = left_same Disk counts_now only_now now };
-                  held =
-                      λ t. ap disk' (sym named) ∙ held t;
-                  counted = ap count' (sym named) ∙ counted;
-                },
-                back_on disk disk' count count' given (beside_one one (journals given) disk disk' apart disks)
-                    (beside_one one (journals given) count count' apart counts) so_far.back,
-              );
-              inside = λ name among. by name (bytes_eq name (seat_journal seat)) refl among;
-              others_out =
-                  subst (λ n. SameBeside (n ∷ journals given) out0 is_out') named (beside_more one (journals given) out0 is_out is_out' so_far.others_out outs);
-              disks = subst (λ n. SameBeside (n ∷ journals given) disk0 disk') named (beside_more one (journals given) disk0 disk disk' so_far.disks disks);
-              counts =
-                  subst (λ n. SameBeside (n ∷ journals given) count0 count') named (beside_more one (journals given) count0 count count' so_far.counts counts);
-            }
-          where
-            by : (name : Text) (b : Bool) → bytes_eq name (seat_journal seat) ≡ b → is_among (journals (seat ∷ so_far.given)) name ≡ true → is_out' name ≡ false
-            by name true same among = ap is_out' (same_text name (seat_journal seat) (sym same) ∙ sym named) ∙ inside
-            by name false differ among =
-                outs name (ap (bytes_eq name) named ∙ differ) ∙ so_far.inside name (sym (ap (λ b. b || is_among (journals so_far.given) name) differ) ∙ among)
+    -- one more is back; what is back stays so where its name has the same as before
+    pub given_more : ((disk disk' : Text → Option D) (count count' : Text → ℕ) (x : X) → disk' (name x) ≡ disk (name x) → count' (name x) ≡ count (name x)
+        → Back disk count x → Back disk' count' x)
+        → (left before : List X) (x : X) (disk disk' : Text → Option D) (is_out is_out' : Text → Bool) (count count' : Text → ℕ) (one : Text) → one ≡ name x
+        → before ≡ left ++ x ∷ [] → Given before disk is_out count → Back disk' count' x → SameOthers one disk disk' → is_out' one ≡ false
+        → SameOthers one is_out is_out' → SameOthers one count count' → Given left disk' is_out' count'
+    given_more moves left before x disk disk' is_out is_out' count count' one named is so_far back disks inside outs counts =
+        let given = so_far.given in
+        let split : all ≡ (left ++ x ∷ []) ++ given = so_far.split ∙ ap (λ l. l ++ given) is in
+        let next : Next x given = next_of left x given split in
+        let apart : is_among (map name given) one ≡ false = ap (is_among (map name given)) named ∙ next.apart in
+        record {
+          given = x ∷ given;
+          split = split ∙ append_assoc left (x ∷ []) given;
+          back = (
+            back,
+            stays given (beside_one one (map name given) disk disk' apart disks) (beside_one one (map name given) count count' apart counts) so_far.back,
+          );
+          inside = λ n among. by n (bytes_eq n (name x)) refl among;
+          others_out = subst (λ n. SameBeside (n ∷ map name given) out0 is_out') named (beside_more one (map name given) out0 is_out is_out'
+              so_far.others_out outs);
+          disks = subst (λ n. SameBeside (n ∷ map name given) disk0 disk') named (beside_more one (map name given) disk0 disk disk' so_far.disks disks);
+          counts = subst (λ n. SameBeside (n ∷ map name given) count0 count') named (beside_more one (map name given) count0 count count' so_far.counts counts);
+        }
+      where
+        stays : (xs : List X) → ((n : Text) → is_among (map name xs) n ≡ true → disk' n ≡ disk n)
+            → ((n : Text) → is_among (map name xs) n ≡ true → count' n ≡ count n)
+            → AllByRecursion (Back disk count) xs → AllByRecursion (Back disk' count') xs
+        stays [] ds cs are = tt
+        stays (y ∷ ys) ds cs are =
+            let here : is_among (map name (y ∷ ys)) (name y) ≡ true = or_left _ _ (text_is (name y)) in (
+              moves disk disk' count count' y (ds (name y) here) (cs (name y) here) are.0,
+              stays ys (λ n among. ds n (or_right _ _ among)) (λ n among. cs n (or_right _ _ among)) are.1,
+            )
+
+        by : (n : Text) (b : Bool) → bytes_eq n (name x) ≡ b → is_among (map name (x ∷ so_far.given)) n ≡ true → is_out' n ≡ false
+        by n true same among = ap is_out' (same_text n (name x) (sym same) ∙ sym named) ∙ inside
+        by n false differ among =
+            outs n (ap (bytes_eq n) named ∙ differ) ∙ so_far.inside n (sym (ap (λ b. b || is_among (map name so_far.given) n) differ) ∙ among)
+
+-- ---- seats
+
+module _ {D : Type 0} {g h : _} (told : Type 0) (Disk : DiskGhosts D) where
+  -- a seat's disk stays back
+  pub back_moves : (disk disk' : Text → Option D) (count count' : Text → ℕ) (seat : DeskSeat D g h) → disk' (seat_journal seat) ≡ disk (seat_journal seat)
+      → count' (seat_journal seat) ≡ count (seat_journal seat) → IsBack told Disk disk count seat → IsBack told Disk disk' count' seat
+  back_moves disk disk' count count' seat disks counts back = record {
+    now = back.now;
+    left = back.left;
+    held = λ t. disks ∙ back.held t;
+    counted = counts ∙ back.counted;
+  }
+
+  -- it is back as its desk left it
+  pub back_closed : ((d : D) (t : ℕ) (c : List ℕ) → t ≤ Disk.moment d → Disk.image d c → Disk.image_since d t c)
+      → ((d : D) (c : List ℕ) → Disk.image_since d (Disk.moment d) c → Disk.image d c) → (disk : Text → Option D) (count : Text → ℕ) (seat : DeskSeat D g h)
+      → (now : D) → IsClosed Disk seat.desk now → (one : Text) → one ≡ seat_journal seat → (told → disk one ≡ Some now) → count one ≡ Disk.faults now
+      → IsBack told Disk disk count seat
+  back_closed counts_now only_now disk count seat now closed one named held counted = record {
+    now = now;
+    left = record { closed = now; is_closed = closed; left = left_same Disk counts_now only_now now };
+    held = λ t. ap disk (sym named) ∙ held t;
+    counted = ap count (sym named) ∙ counted;
+  }

@@ -3,3 +3,4 @@ pub mod Crew
 pub mod Registered
 pub mod Shelved
 pub mod Openings
+pub mod Side

@@ -1,8 +1,9 @@
 -- The disks of users on their shelf.
 use Rattle.std.specs.Prelude.{◌≡◌, ◌⊎◌, ℕ, ◌≤◌, Bool, true, false, List, [], ◌∷◌, Option, Some}
 use Rattle.std.specs.Prelude.{None, map, option_map, string_bytes, IfSome}
+use Rattle.std.specs.List.{AllByRecursion}
 use Rattle.outside.specs.declared.disk.Disk.{Ghosts as DiskGhosts}
-use Rattle.outside.specs.Shelf.{IsTaken, bytes_on, image_on, is_among}
+use Rattle.outside.specs.Shelf.{IsTaken, bytes_on, image_on, since_on, is_among}
 use Rattle.outside.specs.declared.shelf.Shelf.{Ghosts as ShelfGhosts}
 use Rattle.cqe_base.specs.Schema.{Text, DatabaseSchema}
 use Rattle.cqe_base.specs.Facts.{FactSet}
@@ -26,12 +27,6 @@ pub record Journals : Type 1 where
   pub began : Text → Option ℕ
   pub ended : Text → Option ℕ
   pub since : Text → ℕ → List ℕ → Type 0
-
--- what a crash could leave of a disk at the moments since one of its clock; without a disk there
--- are no bytes
-abbrev pub since_on : {D : Type 0} → (D → ℕ → List ℕ → Type 0) → Option D → ℕ → List ℕ → Type 0
-since_on since None moment bytes = bytes ≡ []
-since_on since (Some disk) moment bytes = since disk moment bytes
 
 -- the journals of users in a directory, by the disks and the counts under their names as a call
 -- began and as it ended
@@ -82,10 +77,13 @@ pub record ClosedBehind (journals : Journals) (name : Text) (opening : ℕ)
       → up_to c ⊎ journals.since name closing c
   pub behind : (c : List ℕ) → journals.since name closing c → since_then c
 
--- the journal of this name reads as it did, and no crash leaves anything new of it
+-- the journal of this name reads as it did, and no crash leaves anything new of it, nor did one at
+-- a moment of the call, where it was there as the call began
 abbrev pub KeepsJournal : Journals → Text → Type 0
 KeepsJournal journals name = (journals.reads name ≡ journals.bytes name)
     × ((c : List ℕ) → journals.image name c → journals.image_before name c)
+    × IfSome (journals.began name)
+    (λ begun. (c : List ℕ) → journals.since name begun c → journals.image_before name c)
 
 -- all do
 abbrev pub KeepsJournals : Journals → Type 0
@@ -103,9 +101,8 @@ journals seats = map seat_journal seats
 -- the count of faults under the name of each seat's journal is at most that of its disk as its desk
 -- was opened
 abbrev pub AreLater : {D : Type 0} {g h : _} → (D → ℕ) → (Text → ℕ) → List (DeskSeat D g h) → Type 0
-AreLater faults count [] = Unit {0}
-AreLater faults count (seat ∷ seats) =
-    (count (seat_journal seat) ≤ faults (seat_disk seat)) × AreLater faults count seats
+AreLater faults count seats =
+    AllByRecursion (λ seat. count (seat_journal seat) ≤ faults (seat_disk seat)) seats
 
 module _ {D : Type 0} (told : Type 0) (Disk : DiskGhosts D) where
   -- a seat's disk is back, as its desk left it or as one more opening did
@@ -118,8 +115,7 @@ module _ {D : Type 0} (told : Type 0) (Disk : DiskGhosts D) where
 
   -- all are
   abbrev pub AreBack : {g h : _} → (Text → Option D) → (Text → ℕ) → List (DeskSeat D g h) → Type 0
-  AreBack disk count [] = Unit {0}
-  AreBack disk count (seat ∷ seats) = IsBack disk count seat × AreBack disk count seats
+  AreBack disk count seats = AllByRecursion (IsBack disk count) seats
 
   module _ (schema : DatabaseSchema) (world : FactSet) (header directory : List ℕ) where
     -- a user's journal was taken from the shelf and opened

@@ -1,40 +1,36 @@
 //! Users at their desks: their journals are taken from the shelf and opened, closed and opened
 //! again, and given back.
 
-ghost use Rattle.std.specs.Prelude.{◌≡◌, ◌≤◌, ◌<◌, [], true, false, List, ℕ, map, length, position};
-ghost use Rattle.std.specs.Prelude.{IfOk, IfSome, OnOk, OnErr, IsErrOf, IfNone, OnSome, option_map};
+ghost use Rattle.std.specs.Prelude.{◌≡◌, ◌≤◌, [], true, false, map, length, All};
+ghost use Rattle.std.specs.Prelude.{IfOk, IfSome, OnOk, OnErr, IsErrOf, IfNone, OnSome};
 ghost use Rattle.std.specs.Prelude.{string_bytes, vec_capacity};
 ghost use Rattle.std.specs.List.{AllByRecursion, list_any};
 ghost use Rattle.outside.specs.Faults.{Rose};
 ghost use Rattle.outside.specs.Shelf.{SameNames, SameOthers};
-ghost use Rattle.cqe_base.specs.Schema.{DatabaseSchema};
-ghost use Rattle.cqe_base.specs.Facts.{FactSet};
 ghost use Rattle.cqe_base.specs.Schema.{has_duplicate};
-ghost use Rattle.cqe_base.specs.History.{profile_of};
-ghost use Rattle.cqe_base.specs.Limits.{KeepsLimits};
 ghost use Rattle.log_journal.specs.Opening.{header_bytes};
 ghost use Rattle.log_journal.specs.Names.{journal_name};
-ghost use Rattle.user_log.specs.Replies.{reply_of};
-ghost use Rattle.desk_crew.specs.Crew.{seat_user, seat_kept, seat_broke, is_named};
-ghost use Rattle.desk_crew.specs.Crew.{IsSeatServed, Tells, AreReopened};
+ghost use Rattle.desk_crew.specs.Crew.{seat_broke, IsSeatServed, AreReopened};
 ghost use Rattle.outside.specs.Shelf.{SameBeside, AllOut, AllIn, NoneOut, NoneFell, AreOut};
-ghost use Rattle.outside.specs.Shelf.{SameBytes, NoNewImages};
+ghost use Rattle.outside.specs.Shelf.{SameBytes, NoNewImages, NoNewMoments};
 ghost use Rattle.desk_crew.specs.Shelved.{journals};
-ghost use Rattle.desk_crew.specs.Shelved.{AreLater, AreBack, IsSeatOf, AreSeatsOf};
+ghost use Rattle.desk_crew.specs.Shelved.{AreLater, AreBack, AreSeatsOf};
+ghost use Rattle.desk_crew.specs.Side.{IsAtDisk, HasPlace, opening_journal, opening_journals};
+ghost use Rattle.desk_crew.specs.Side.{opening_faults, OpeningsLater, IsPutBack, ArePutBack};
+ghost use Rattle.desk_crew.specs.Side.{KeepsOpening, IsKnown, AreSeatsFrom, IsTakenFor};
 ghost use Rattle.desk_crew.specs.declared.crew.NotOpened.{NotOpened};
 ghost use Rattle.desk_crew.specs.Registered.{AllKeepLimits, SeatsKeepLimits};
 ghost use Rattle.desk_crew.specs.Registered.{registered_journals, HaveOwnNames};
 
+use crate::opening::{DeskOpening, Opening, close_all, is_some_shut, open_each, seats_of, shut};
 use crate::registry::Registry;
-use crate::seat::{DeskSeat, close_desk, reopen, seat_at, settle_at};
-use censors::admit;
+use crate::seat::{DeskSeat, Returned, close_desk};
 use cqe_base::user::User;
 use log_journal::{journal_name, law_journals_differ};
-use outside::{Disk, Gate, Shelf, ShelfError};
+use outside::{Disk, Shelf, ShelfError};
 use std::alloc::{AllocError, Global};
-use std::sync::Wait;
+use std::thread::Threads;
 use user_desk::DeskError;
-use user_log::Reply;
 
 /// Why journals weren't opened.
 #[derive(Clone, Copy, Debug, PartialEq, Eq)]
@@ -83,13 +79,119 @@ pub fn give_back<F: Shelf>(shelf: &mut F, seats: Vec<DeskSeat<'_, F::D>>) -> boo
     is_broken
 }
 
-/// Closes all desks and opens them again. Where memory is wanting all disks are given back.
-pub fn reopen_all<'w, F: Shelf>(
+/// Gives the disk of a journal back: its desk is closed, if it is open.
+fn return_one<F: Shelf>(shelf: &mut F, opening: DeskOpening<'_, F::D>)
+    requires placed { HasPlace opening }
+    requires out { F.is_out shelf.old (opening_journal opening) ≡ true }
+    requires later { F.disk_faults shelf.old (opening_journal opening)
+        ≤ opening_faults F.D.faults opening }
+    ensures back { IsPutBack F.tells F.D.Disk (F.disk shelf.new) (F.disk_faults shelf.new)
+        opening.entry }
+    ensures inside { F.is_out shelf.new (opening_journal opening.entry) ≡ false }
+    ensures others_out { SameOthers (opening_journal opening.entry) (F.is_out shelf.old)
+        (F.is_out shelf.new) }
+    ensures disks { SameOthers (opening_journal opening.entry) (F.disk shelf.old)
+        (F.disk shelf.new) }
+    ensures counts { SameOthers (opening_journal opening.entry) (F.disk_faults shelf.old)
+        (F.disk_faults shelf.new) }
+    ensures faults { F.faults shelf.new ≡ F.faults shelf.old }
+    ensures files { SameNames (F.file shelf.old) (F.file shelf.new) }
+    ensures looked { F.looked shelf.new ≡ F.looked shelf.old }
+{
+    let place = opening.place.unwrap();
+    let closed = shut(place);
+    let disk = closed.disk;
+    shelf.give_disk(closed.journal.as_str(), disk);
+}
+
+/// Gives the disks of journals back.
+fn return_all<F: Shelf>(shelf: &mut F, openings: Vec<DeskOpening<'_, F::D>>)
+    requires placed { AllByRecursion HasPlace openings.items }
+    requires distinct { has_duplicate (opening_journals openings.items) ≡ false }
+    requires out { AllOut (opening_journals openings.items) (F.is_out shelf.old) }
+    requires later { OpeningsLater F.D.faults (F.disk_faults shelf.old) openings.items }
+    ensures back { ArePutBack F.tells F.D.Disk (F.disk shelf.new)
+        (F.disk_faults shelf.new) openings.entry.items }
+    ensures inside { AllIn (opening_journals openings.entry.items) (F.is_out shelf.new) }
+    ensures others_out { SameBeside (opening_journals openings.entry.items) (F.is_out shelf.old)
+        (F.is_out shelf.new) }
+    ensures disks { SameBeside (opening_journals openings.entry.items) (F.disk shelf.old)
+        (F.disk shelf.new) }
+    ensures counts { SameBeside (opening_journals openings.entry.items) (F.disk_faults shelf.old)
+        (F.disk_faults shelf.new) }
+    ensures faults { F.faults shelf.new ≡ F.faults shelf.old }
+    ensures files { SameNames (F.file shelf.old) (F.file shelf.new) }
+    ensures looked { F.looked shelf.new ≡ F.looked shelf.old }
+{
+    let mut openings = openings;
+    while let Some(opening) = openings.pop() {
+        return_one(shelf, opening);
+    }
+}
+
+/// Opens journals that are on their disks, side by side: the seats, in order, in a list with the
+/// room for them. Where memory is wanting all disks are given back.
+fn open_taken<'w, R: Threads + Sync, F: Shelf>(
+    rt: &R,
     alloc: Global,
     registry: &Registry<'w>,
+    workers: usize,
+    shelf: &mut F,
+    openings: Vec<DeskOpening<'w, F::D>>,
+    room: Vec<DeskSeat<'w, F::D>>,
+) -> Option<Vec<DeskSeat<'w, F::D>>>
+where
+    F::D: Send,
+    requires some { 1 ≤ workers }
+    requires limits { All (KeepsOpening registry.now.schema.now registry.now.world.now)
+        openings.items }
+    requires known { All (IsKnown registry.now.schema.now registry.now.world.now) openings.items }
+    requires closed { AllByRecursion IsAtDisk openings.items }
+    requires distinct { has_duplicate (opening_journals openings.items) ≡ false }
+    requires out { AllOut (opening_journals openings.items) (F.is_out shelf.old) }
+    requires later { OpeningsLater F.D.faults (F.disk_faults shelf.old) openings.items }
+    requires empty { room.items ≡ [] }
+    requires room { length openings.items ≤ vec_capacity room }
+    ensures opened { IfSome result (λ seats.
+        AreSeatsFrom registry.now.schema.now registry.now.world.now
+        (header_bytes registry.now.header.now) F.D.Disk openings.entry.items seats.items) }
+    ensures untouched { OnSome result (shelf.new ≡ shelf.old) }
+    ensures back { IfNone result (ArePutBack F.tells F.D.Disk (F.disk shelf.new)
+        (F.disk_faults shelf.new) openings.entry.items) }
+    ensures inside { IfNone result
+        (AllIn (opening_journals openings.entry.items) (F.is_out shelf.new)) }
+    ensures others_out { SameBeside (opening_journals openings.entry.items) (F.is_out shelf.old)
+        (F.is_out shelf.new) }
+    ensures disks { SameBeside (opening_journals openings.entry.items) (F.disk shelf.old)
+        (F.disk shelf.new) }
+    ensures counts { SameBeside (opening_journals openings.entry.items) (F.disk_faults shelf.old)
+        (F.disk_faults shelf.new) }
+    ensures faults { F.faults shelf.new ≡ F.faults shelf.old }
+    ensures files { SameNames (F.file shelf.old) (F.file shelf.new) }
+    ensures looked { F.looked shelf.new ≡ F.looked shelf.old }
+{
+    let mut openings = openings;
+    open_each(rt, alloc, registry, workers, &mut openings);
+    if is_some_shut(openings.as_slice()) {
+        return_all(shelf, openings);
+        return None;
+    }
+    Some(seats_of(openings, room))
+}
+
+/// Closes all desks and opens them again, side by side in at most so many threads. Where memory is
+/// wanting all disks are given back.
+pub fn reopen_all<'w, R: Threads + Sync, F: Shelf>(
+    rt: &R,
+    alloc: Global,
+    registry: &Registry<'w>,
+    workers: usize,
     shelf: &mut F,
     seats: Vec<DeskSeat<'w, F::D>>,
 ) -> Option<Vec<DeskSeat<'w, F::D>>>
+where
+    F::D: Send,
+    requires some { 1 ≤ workers }
     requires limits { SeatsKeepLimits registry.now.schema.now seats.items }
     requires served { AllByRecursion (IsSeatServed registry.now.schema.now registry.now.world.now
         (header_bytes registry.now.header.now)) seats.items }
@@ -112,43 +214,28 @@ pub fn reopen_all<'w, F: Shelf>(
     ensures files { SameNames (F.file shelf.old) (F.file shelf.new) }
     ensures looked { F.looked shelf.new ≡ F.looked shelf.old }
 {
-    let mut seats = seats;
-    let mut reopened = Vec::new(alloc);
-    if reopened.reserve(seats.len()).is_err() {
+    let count = seats.len();
+    let (Ok(empty), Ok(room)) = (room_for(alloc, count), room_for(alloc, count)) else {
         give_back(shelf, seats);
         return None;
-    }
-    while !seats.is_empty() {
-        let seat = seats.remove(0);
-        match reopen(alloc, registry, seat) {
-            Ok(seat) => reopened.push_reserved(seat),
-            Err(returned) => {
-                let disk = returned.disk;
-                shelf.give_disk(returned.journal.as_str(), disk);
-                give_back(shelf, seats);
-                give_back(shelf, reopened);
-                return None;
-            }
-        }
-    }
-    Some(reopened)
+    };
+    let openings = close_all(seats, empty);
+    open_taken(rt, alloc, registry, workers, shelf, openings, room)
 }
 
-/// Takes the journal of a user from the shelf and opens it. A refusal leaves the disk on the shelf,
-/// with the same bytes, and a crash leaves nothing new of it.
-fn open_seat<'w, F: Shelf>(
+/// Takes the journal of a user from the shelf, to be opened. A refusal leaves the shelf's disks as
+/// they were.
+fn take_one<'w, F: Shelf>(
     alloc: Global,
     registry: &Registry<'w>,
     shelf: &mut F,
     user: &'w User,
-) -> Result<DeskSeat<'w, F::D>, NotOpened>
-    requires limits { KeepsLimits registry.now.schema.now (profile_of user.now) }
-    requires inside { F.is_out shelf.old
+) -> Result<DeskOpening<'w, F::D>, NotOpened>
+    requires { F.is_out shelf.old
         (journal_name registry.now.directory.now (string_bytes user.now.name))
         ≡ false }
-    ensures opened { IfOk result
-        (IsSeatOf F.tells F.D.Disk registry.now.schema.now registry.now.world.now
-        (header_bytes registry.now.header.now) registry.now.directory.now (F.disk shelf.old)
+    ensures taken { IfOk result
+        (IsTakenFor F.tells F.D.Disk registry.now.directory.now (F.disk shelf.old)
         (F.disk_faults shelf.old) user.now) }
     ensures out { OnOk result
         (F.is_out shelf.new (journal_name registry.now.directory.now (string_bytes user.now.name))
@@ -159,25 +246,15 @@ fn open_seat<'w, F: Shelf>(
     ensures disks { SameOthers
         (journal_name registry.now.directory.now (string_bytes user.now.name)) (F.disk shelf.old)
         (F.disk shelf.new) }
-    ensures counts { OnOk result (SameNames (F.disk_faults shelf.old) (F.disk_faults shelf.new)) }
+    ensures counts { SameNames (F.disk_faults shelf.old) (F.disk_faults shelf.new) }
+    ensures refused_disks { OnErr result (SameNames (F.disk shelf.old) (F.disk shelf.new)) }
     ensures refused_out { OnErr result (SameNames (F.is_out shelf.old) (F.is_out shelf.new)) }
-    ensures refused_bytes { F.tells
-        → OnErr result (SameBytes F.D.reads (F.disk shelf.old) (F.disk shelf.new)) }
-    ensures refused_images { F.tells
-        → OnErr result (NoNewImages F.D.image (F.disk shelf.old) (F.disk shelf.new)) }
-    ensures fell { NoneFell (F.disk_faults shelf.old) (F.disk_faults shelf.new) }
-    ensures other_counts { SameOthers
-        (journal_name registry.now.directory.now (string_bytes user.now.name))
-        (F.disk_faults shelf.old) (F.disk_faults shelf.new) }
     ensures later { F.faults shelf.old ≤ F.faults shelf.new }
     ensures files { SameNames (F.file shelf.old) (F.file shelf.new) }
     ensures looked { F.looked shelf.new ≡ F.looked shelf.old }
     ensures cause { IsErrOf result NotOpened.Shelf
         → Rose (F.faults shelf.old) (F.faults shelf.new) }
 {
-    let Ok(admission) = admit(alloc, registry.schema, registry.world, user) else {
-        return Err(NotOpened::Memory);
-    };
     let Ok(journal) = journal_name(alloc, registry.directory, user.name.as_str()) else {
         return Err(NotOpened::Memory);
     };
@@ -187,23 +264,27 @@ fn open_seat<'w, F: Shelf>(
         Err(ShelfError::Missing) => return Err(NotOpened::Shelf),
         Err(ShelfError::Failed) => return Err(NotOpened::Shelf),
     };
-    match seat_at(alloc, registry, user, admission, journal, None, disk) {
-        Ok(seat) => Ok(seat),
-        Err(returned) => {
-            let disk = returned.disk;
-            shelf.give_disk(returned.journal.as_str(), disk);
-            Err(NotOpened::Memory)
-        }
-    }
+    Ok(Opening {
+        user,
+        admission: None,
+        before: None,
+        place: Some(Err(Returned { journal, disk })),
+    })
 }
 
-/// Takes the journals of all users and opens them. A refusal leaves all disks on the shelf, with
-/// the same bytes, and a crash leaves nothing new of them.
-pub fn open_all<'w, F: Shelf>(
+/// Takes the journals of all users in order, and opens them side by side in at most so many
+/// threads. A refusal leaves all disks on the shelf, with the same bytes, and a crash leaves
+/// nothing new of them, at no moment of the call either.
+pub fn open_all<'w, R: Threads + Sync, F: Shelf>(
+    rt: &R,
     alloc: Global,
     registry: &Registry<'w>,
+    workers: usize,
     shelf: &mut F,
 ) -> Result<Vec<DeskSeat<'w, F::D>>, NotOpened>
+where
+    F::D: Send,
+    requires some { 1 ≤ workers }
     requires limits { AllKeepLimits registry.now.schema.now registry.now.users.now }
     requires distinct { HaveOwnNames registry.now.users.now }
     requires inside { NoneOut (F.is_out shelf.old) }
@@ -216,11 +297,16 @@ pub fn open_all<'w, F: Shelf>(
         (registered_journals registry.now.directory.now registry.now.users.now) (F.disk shelf.old)
         (F.disk shelf.new) }
     ensures counts { OnOk result (SameNames (F.disk_faults shelf.old) (F.disk_faults shelf.new)) }
+    ensures other_counts { SameBeside
+        (registered_journals registry.now.directory.now registry.now.users.now)
+        (F.disk_faults shelf.old) (F.disk_faults shelf.new) }
     ensures refused_out { OnErr result (NoneOut (F.is_out shelf.new)) }
     ensures refused_bytes { F.tells
         → OnErr result (SameBytes F.D.reads (F.disk shelf.old) (F.disk shelf.new)) }
     ensures refused_images { F.tells
         → OnErr result (NoNewImages F.D.image (F.disk shelf.old) (F.disk shelf.new)) }
+    ensures refused_moments { F.tells → OnErr result
+        (NoNewMoments F.D.moment F.D.image_since F.D.image (F.disk shelf.old) (F.disk shelf.new)) }
     ensures fell { NoneFell (F.disk_faults shelf.old) (F.disk_faults shelf.new) }
     ensures later { F.faults shelf.old ≤ F.faults shelf.new }
     ensures files { SameNames (F.file shelf.old) (F.file shelf.new) }
@@ -229,51 +315,24 @@ pub fn open_all<'w, F: Shelf>(
         → Rose (F.faults shelf.old) (F.faults shelf.new) }
 {
     law_journals_differ();
-    let Ok(mut seats) = room_for(alloc, registry.users.len()) else {
+    let count = registry.users.len();
+    let (Ok(empty), Ok(room)) = (room_for(alloc, count), room_for(alloc, count)) else {
         return Err(NotOpened::Memory);
     };
+    let mut openings = empty;
     for user in registry.users {
-        match open_seat(alloc, registry, shelf, user) {
-            Ok(seat) => seats.push_reserved(seat),
+        match take_one(alloc, registry, shelf, user) {
+            Ok(opening) => openings.push_reserved(opening),
             Err(why) => {
-                give_back(shelf, seats);
+                return_all(shelf, openings);
                 return Err(why);
             }
         }
     }
-    Ok(seats)
-}
-
-/// The place of the first user who has this name.
-fn place_of<D: Disk>(seats: &[DeskSeat<'_, D>], name: &str) -> Option<usize>
-    ensures place { result ≡ position (is_named name.now) seats.now }
-    ensures within { IfSome result (λ place. place < length seats.now) }
-{
-    seats
-        .iter()
-        .position(|seat| seat.user.name.as_str() == name)
-}
-
-/// The reply to a text of the user who has this name, if one has.
-pub fn answer<R: Wait, G: Gate, D: Disk>(
-    rt: &R,
-    alloc: Global,
-    seats: &mut Vec<DeskSeat<'_, D>>,
-    name: &str,
-    text: &str,
-    gate: &G,
-) -> Option<Reply>
-    requires short { length text.now ≤ 4096 }
-    requires users { AllByRecursion
-        (λ seat. (seat_kept seat).user ≡ profile_of (seat_user seat)) seats.old.items }
-    ensures replied { (schema : DatabaseSchema) (world : FactSet) (header : List ℕ)
-        → AllByRecursion (IsSeatServed schema world header) seats.old.items
-        → Tells schema world name.now text.now seats.old.items seats.new.items
-        (option_map reply_of result) }
-{
-    let place = place_of(seats.as_slice(), name)?;
-    let seat = &mut seats[place];
-    Some(settle_at(rt, alloc, seat, text, gate))
+    match open_taken(rt, alloc, registry, workers, shelf, openings, room) {
+        Some(seats) => Ok(seats),
+        None => Err(NotOpened::Memory),
+    }
 }
 
 /// The first refusal of each seat, in a list with the room for them.

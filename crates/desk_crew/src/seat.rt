@@ -8,9 +8,9 @@ ghost use Rattle.log_journal.specs.Opening.{header_bytes};
 ghost use Rattle.user_log.specs.Replies.{reply_of};
 ghost use Rattle.desk_counter.specs.Items.{has_broke};
 ghost use Rattle.desk_counter.specs.Sole.{pairs_of_sole};
-ghost use Rattle.desk_crew.specs.Crew.{first_refusal, seat_user, seat_kept, seat_journal};
-ghost use Rattle.desk_crew.specs.Crew.{disk_seated, journal_seated, IsLeft, IsLeftBy, IsClosed};
-ghost use Rattle.desk_crew.specs.Crew.{IsSeatServed, IsToldAt, IsOpenedFrom, IsReopened};
+ghost use Rattle.desk_crew.specs.Crew.{first_refusal, seat_user, seat_kept};
+ghost use Rattle.desk_crew.specs.Crew.{disk_seated, journal_seated, IsLeft, IsClosed};
+ghost use Rattle.desk_crew.specs.Crew.{IsToldAt, IsOpenedFrom};
 
 use crate::registry::Registry;
 use censors::Admission;
@@ -19,6 +19,7 @@ use desk_counter::{Owned, SoleCounter, SoleOf, TicketedDesk};
 use outside::{Disk, Gate};
 use std::alloc::Global;
 use std::sync::Wait;
+use std::thread::Threads;
 use user_desk::{DeskError, Standing, open_desk};
 use user_log::Reply;
 
@@ -39,9 +40,9 @@ pub struct Seat<'w, V: Owned> {
 /// A user at his desk.
 pub type DeskSeat<'w, D> = Seat<'w, TicketedDesk<'w, D>>;
 
-/// A disk that couldn't be opened for want of memory, with its name.
+/// The disk of a journal that isn't open, with its name.
 #[derive(Drop)]
-pub(crate) struct Returned<D: Disk> {
+pub(crate) struct Returned<D> {
     pub journal: String,
     pub disk: D,
 }
@@ -111,7 +112,7 @@ pub(crate) fn seat_at<'w, D: Disk>(
 }
 
 /// The reply to a text of the user of a seat.
-pub(crate) fn settle_at<R: Wait, G: Gate, D: Disk>(
+pub fn ask_at<R: Threads + Wait + Sync, G: Gate, D: Disk>(
     rt: &R,
     alloc: Global,
     seat: &mut DeskSeat<'_, D>,
@@ -134,30 +135,4 @@ pub(crate) fn close_desk<D: Disk>(desk: SoleCounter<'_, D>) -> (D, bool)
     let desk = desk.close();
     let is_broken = desk.broken();
     (desk.close(), is_broken)
-}
-
-/// Closes a desk and opens it again from its disk.
-pub(crate) fn reopen<'w, D: Disk>(
-    alloc: Global,
-    registry: &Registry<'w>,
-    seat: DeskSeat<'w, D>,
-) -> Result<DeskSeat<'w, D>, Returned<D>>
-    requires limits { KeepsLimits registry.now.schema.now (profile_of (seat_user seat)) }
-    requires served { IsSeatServed registry.now.schema.now registry.now.world.now
-        (header_bytes registry.now.header.now) seat }
-    ensures reopened { IfOk result (IsReopened registry.now.schema.now registry.now.world.now
-        (header_bytes registry.now.header.now) D.Disk seat.entry) }
-    ensures journal { journal_seated result ≡ seat_journal seat.entry }
-    ensures left { IsLeftBy D.Disk seat.entry.desk (disk_seated result) }
-{
-    let (disk, _) = close_desk(seat.desk);
-    seat_at(
-        alloc,
-        registry,
-        seat.user,
-        seat.admission,
-        seat.journal,
-        seat.refusal,
-        disk,
-    )
 }

@@ -149,7 +149,7 @@ pub fn counter_of<'w>(
 }
 
 /// A small sentence of the schema.
-fn sentence(alloc: Global, schema: &Schema, text: &str) -> Result<Sentence, Fail>
+pub fn sentence(alloc: Global, schema: &Schema, text: &str) -> Result<Sentence, Fail>
     requires { length text.now ≤ 4096 }
     ensures sentence { IfOk result (λ s. is_sentence_of schema.now (formula_of s) ≡ true) }
     ensures small { IfOk result (λ s. nodes schema.now (formula_of s) ≤ 1000) }

@@ -11,6 +11,7 @@ use session_core::Counters;
 use std::alloc::Global;
 use std::sync::Wait;
 use std::test::Fail;
+use std::thread::Threads;
 use worker_pool::Job;
 
 /// A user who knows that Ann is infected or takes the drug, and from whom it is kept that both are
@@ -26,7 +27,7 @@ fn user(alloc: Global, clinic: &Clinic) -> Result<User, Fail>
 }
 
 /// What a client is told who says this.
-fn tell<R: Wait, J: Job<MemorySource, MemorySink>>(
+fn tell<R: Threads + Wait + Sync, J: Job<MemorySource, MemorySink>>(
     rt: &R,
     alloc: Global,
     job: &mut J,

@@ -8,9 +8,10 @@ use std::alloc::Global;
 use std::process::Abort;
 use std::sync::Wait;
 use std::test::Fail;
+use std::thread::Threads;
 
 /// A session over these streams: how it ended, what was written, and how often a read failed.
-fn talk<R: Abort + Wait>(
+fn talk<R: Abort + Threads + Wait + Sync>(
     rt: &R,
     alloc: Global,
     source: MemorySource,

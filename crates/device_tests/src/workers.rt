@@ -40,7 +40,7 @@ impl<S: Source, K: Sink> Job<S, K> for Greeter {
 
     ghost keeps_more = { λ before between after first second. second ∙ first };
 
-    fn run<R: Wait>(
+    fn run<R: Threads + Wait + Sync>(
         &mut self,
         _rt: &R,
         _alloc: Global,

@@ -2,6 +2,7 @@
 ghost use Rattle.std.specs.Prelude.{◌≡◌, ◌≤◌, IfOk, string_bytes};
 ghost use Rattle.outside.specs.Streams.{AppendsUnless};
 ghost use Rattle.outside.specs.Faults.{Rose};
+ghost use Rattle.line_protocol.specs.Rests.{IsRest};
 ghost use Rattle.clause_solver.specs.PlainStates.{found_of};
 ghost use Rattle.dimacs_text.specs.Ends.{end_of, answer_text, verdict_of, EndsDimacs, complaint_of};
 
@@ -32,6 +33,7 @@ pub fn answer_input<S: Source, K: Sink, E: Sink>(
         → Rose (S.faults source.old) (S.faults source.new) }
     ensures write_cause { result ≡ Ending.WriteFault
         → Rose (K.faults sink.old) (K.faults sink.new) }
+    ensures left { S.tells → IsRest (S.left source.old) (S.left source.new) }
     ensures held { S.held source.new ≡ S.held source.old }
     ensures source_later { S.faults source.old ≤ S.faults source.new }
     ensures sink_later { K.faults sink.old ≤ K.faults sink.new }
@@ -51,6 +53,7 @@ fn answer<S: Source, K: Sink>(alloc: Global, source: &mut S, sink: &mut K) -> En
         → Rose (S.faults source.old) (S.faults source.new) }
     ensures write_cause { result ≡ Ending.WriteFault
         → Rose (K.faults sink.old) (K.faults sink.new) }
+    ensures left { S.tells → IsRest (S.left source.old) (S.left source.new) }
     ensures held { S.held source.new ≡ S.held source.old }
     ensures source_later { S.faults source.old ≤ S.faults source.new }
     ensures sink_later { K.faults sink.old ≤ K.faults sink.new }

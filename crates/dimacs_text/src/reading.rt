@@ -5,6 +5,7 @@
 ghost use Rattle.std.specs.Prelude.{◌≡◌, ◌≤◌, IsTrue};
 ghost use Rattle.outside.specs.Faults.{Rose};
 ghost use Rattle.line_protocol.specs.Buffer.{unread};
+ghost use Rattle.line_protocol.specs.Rests.{IsRest};
 ghost use Rattle.dimacs_text.specs.Dimacs.{finish};
 ghost use Rattle.dimacs_text.specs.Reads.{ReadsLine, ReadsFile, IsFinished, is_read_fault};
 ghost use Rattle.dimacs_text.specs.Reads.{is_next_fault};
@@ -46,6 +47,7 @@ fn next_line<S: Source>(source: &mut S, buffer: &mut LineBuffer, number: u32) ->
     ensures reads { S.tells → ReadsLine number result
         (unread buffer.old (S.left source.old))
         (unread buffer.new (S.left source.new)) buffer.new.line }
+    ensures left { S.tells → IsRest (S.left source.old) (S.left source.new) }
     ensures few { result ≡ NextLine.Line → number ≤ 1000000 }
     ensures held { S.held source.new ≡ S.held source.old }
     ensures later { S.faults source.old ≤ S.faults source.new }
@@ -69,6 +71,7 @@ fn next_line<S: Source>(source: &mut S, buffer: &mut LineBuffer, number: u32) ->
 /// Reads a file to its end, or to its first line that is refused.
 pub fn read_cnf<S: Source>(alloc: Global, source: &mut S) -> Reading
     ensures reads { S.tells → ReadsFile result (S.left source.old) (S.left source.new) }
+    ensures left { S.tells → IsRest (S.left source.old) (S.left source.new) }
     ensures held { S.held source.new ≡ S.held source.old }
     ensures later { S.faults source.old ≤ S.faults source.new }
     ensures cause { IsTrue (is_read_fault result)

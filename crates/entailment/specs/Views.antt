@@ -21,6 +21,10 @@ log_of view = view.log
 abbrev pub room_of : LogView → ℕ
 room_of view = view.room
 
+-- a view is over the schema and has this log
+abbrev pub IsViewOf : DatabaseSchema → List Signed → LogView → Type 0
+IsViewOf schema log view = (schema_of view ≡ schema) × (log_of view ≡ log)
+
 -- a log is a beginning of another
 abbrev pub IsLogBeginning : (first whole : List Signed) → Type 0
 IsLogBeginning first whole = (more : List Signed) × (whole ≡ first ++ more)

@@ -19,7 +19,8 @@ same_some first second is = ap (λ o. unwrap_or o first) is
 no_name : (name : List ℕ) → None ≡ Some name → ⊥
 no_name name is = false≢true (ap (λ (o : Option (List ℕ)). is_some o) is)
 
-no_element : (test : List ℕ → Bool) (names : List (List ℕ)) (k : ℕ) (name : List ℕ) → list_any test names ≡ false → slice_get names k ≡ Some name
+-- what holds of no element of a list doesn't hold at a place of it
+pub no_element : (test : List ℕ → Bool) (names : List (List ℕ)) (k : ℕ) (name : List ℕ) → list_any test names ≡ false → slice_get names k ≡ Some name
     → test name ≡ false
 no_element test [] k name none is = absurd (no_name name is)
 no_element test (first ∷ names) zero name none is = subst (λ n. test n ≡ false) (same_some first name is) (or_parts (test first) (list_any test names) none).0

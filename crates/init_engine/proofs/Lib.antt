@@ -1,3 +1,4 @@
 pub mod Reasons
+pub mod Visiting
 pub mod Apart
 pub mod Running

@@ -16,7 +16,7 @@ use Rattle.init_engine.specs.declared.end.Stop.TheVariants as stop
 module _ {D : Type 0} (Disk : DiskGhosts D) (after : D) where
   held_stays : (held : Option D) (disk : D) → IsTaken Disk.reads Disk.image held disk → Stays Disk (Some disk) (Some after) → Stays Disk held (Some after)
   held_stays (Some held) disk is stays = subst (λ d. Stays Disk (Some d) (Some after)) is stays
-  held_stays None disk is stays = record { bytes = stays.bytes ∙ is.0; images = λ c left. is.1 c (stays.images c left) }
+  held_stays None disk is stays = record { bytes = stays.bytes ∙ is.0; images = λ c left. is.1 c (stays.images c left); rests = tt }
 
   pub held_stays_at : (held : Option D) (disk : D) → IsTaken Disk.reads Disk.image held disk → (why : Stop) → StaysAt Disk (Some disk) (Some after) why
       → StaysAt Disk held (Some after) why

@@ -1,9 +1,9 @@
 -- The users one after the other.
 use Rattle.std.proofs.Common.{◌≡◌, ◌⊎◌, ◌∙◌, sym, ap, subst, refl, inl, inr, ℕ, ◌<◌, ◌≤◌, ◌+◌, List, false, Option, Some, slice_get, bytes_eq, get_or, length}
-use Rattle.std.proofs.Common.{string_bytes, option_map, arith}
+use Rattle.std.proofs.Common.{string_bytes, option_map, map, arith}
 use Rattle.std.proofs.lemmas.Option.{slice_get-map, slice_get_read}
 use Rattle.outside.proofs.Rises.{rose_wide}
-use Rattle.outside.specs.Shelf.{SameOthers, bytes_on}
+use Rattle.outside.specs.Shelf.{SameOthers, bytes_on, is_among}
 use Rattle.outside.specs.declared.disk.Disk.{Ghosts as DiskGhosts}
 use Rattle.cqe_base.specs.declared.user.User.{User}
 use Rattle.cqe_base.specs.Schema.{has_duplicate}
@@ -14,7 +14,7 @@ use Rattle.init_engine.specs.Ends.{Change, StopsAt, EndsInit, end_of}
 use Rattle.init_engine.specs.declared.end.Stop.{Stop}
 use Rattle.init_engine.specs.declared.end.Stop.TheVariants as stop
 use Rattle.init_engine.proofs.Reasons.{reason_of}
-use Rattle.init_engine.proofs.Apart.{names_apart, same_some}
+use Rattle.init_engine.proofs.Apart.{names_apart, same_some, no_element}
 
 module _ {D : Type 0} (Disk : DiskGhosts D) (header directory : List ℕ) (names : List (List ℕ))
     (once : has_duplicate names ≡ false) (differ : JournalsDiffer) where
@@ -107,3 +107,10 @@ name_at users k user text within is same =
     slice_get-map (λ (u : User). string_bytes u.name) users k
     ∙ ap (λ o. option_map (λ (u : User). string_bytes u.name) o) (slice_get_read users (length users) k user refl within is)
     ∙ ap (λ (t : List ℕ). Some t) (sym same)
+
+-- a name that is no user's journal isn't that of the user at a place
+pub beside_at : (directory : List ℕ) (names : List (List ℕ)) (k : ℕ) (name other : List ℕ) → is_among (map (journal_name directory) names) other ≡ false
+    → slice_get names k ≡ Some name → bytes_eq other (journal_name directory name) ≡ false
+beside_at directory names k name other none is =
+    no_element (bytes_eq other) (map (journal_name directory) names) k (journal_name directory name) none
+    (slice_get-map (journal_name directory) names k ∙ ap (λ o. option_map (journal_name directory) o) is)

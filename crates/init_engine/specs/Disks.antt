@@ -1,7 +1,7 @@
 -- What becomes of the disks of users whose journals are made.
 use Rattle.std.specs.Prelude.{◌≡◌, ◌≢◌, ℕ, ◌<◌, List, [], ◌∷◌, ◌++◌, false, bytes_eq, map}
 use Rattle.std.specs.Prelude.{string_bytes, slice_get, Option, Some}
-use Rattle.outside.specs.Shelf.{bytes_on}
+use Rattle.outside.specs.Shelf.{bytes_on, NoNewSince}
 use Rattle.outside.specs.Disk.{Only}
 use Rattle.outside.specs.declared.disk.Disk.{Ghosts as DiskGhosts}
 use Rattle.cqe_base.specs.declared.user.User.{User}
@@ -22,11 +22,14 @@ module _ {D : Type 0} (Disk : DiskGhosts D) (header : List ℕ) where
         → (Disk.reads disk ≡ header ++ 0 ∷ []) × IsJournal header [] (Disk.reads disk)
     pub kept : before ≢ [] → Disk.reads disk ≡ before
 
-  -- the same of what stands under a name
+  -- The same of what stands under a name. Where it had bytes, no moment of the making left anything
+  -- that a crash couldn't have left before.
   pub record IsMadeAt (before after : Option D) : Type 0 where
     pub disk : D
     pub stands : after ≡ Some disk
     pub made : IsMade (bytes_on Disk.reads before) disk
+    pub rests : bytes_on Disk.reads before ≢ []
+        → NoNewSince Disk.moment Disk.image_since Disk.image before after
 
   -- Of these users the first are ready, and no disk is touched but those of the first of them.
   pub record Readies (directory : List ℕ) (names : List (List ℕ)) (old new : List ℕ → Option D)

@@ -1,7 +1,8 @@
 //! Making the journals of users.
-ghost use Rattle.std.specs.Prelude.{◌≡◌, ◌≤◌, false};
-ghost use Rattle.outside.specs.Shelf.{SameNames, NoneOut, NoneFell};
+ghost use Rattle.std.specs.Prelude.{◌≡◌, ◌≤◌, false, map};
+ghost use Rattle.outside.specs.Shelf.{SameNames, SameBeside, NoneOut, NoneFell};
 ghost use Rattle.cqe_base.specs.Schema.{has_duplicate};
+ghost use Rattle.log_journal.specs.Names.{journal_name};
 ghost use Rattle.log_journal.specs.Opening.{header_bytes};
 ghost use Rattle.init_engine.specs.Disks.{user_names};
 ghost use Rattle.init_engine.specs.Ends.{EndsInit, end_of};
@@ -42,6 +43,8 @@ pub fn run_init<F: Shelf>(
         }) result }
     ensures out { NoneOut (F.is_out shelf.new) }
     ensures counts { NoneFell (F.disk_faults shelf.old) (F.disk_faults shelf.new) }
+    ensures other_counts { SameBeside (map (journal_name directory.now) (user_names users.now))
+        (F.disk_faults shelf.old) (F.disk_faults shelf.new) }
     ensures files { SameNames (F.file shelf.old) (F.file shelf.new) }
     ensures looked { F.looked shelf.new ≡ F.looked shelf.old }
     ensures later { F.faults shelf.old ≤ F.faults shelf.new }

@@ -6,7 +6,7 @@ ghost use Rattle.outside.specs.Shelf.{SameNames, SameOthers, NoneFell, bytes_on}
 ghost use Rattle.log_journal.specs.Opening.{header_bytes};
 ghost use Rattle.log_journal.specs.Names.{journal_name};
 ghost use Rattle.init_engine.specs.Disks.{IsMade, IsMadeAt};
-ghost use Rattle.init_engine.specs.Stops.{HasReason, StaysAt, stop_of};
+ghost use Rattle.init_engine.specs.Stops.{HasReason, OnlyReads, StaysAt, stop_of};
 
 use crate::end::Stop;
 use log_journal::{Header, OpenError, format, journal_name, open};
@@ -40,6 +40,8 @@ pub(crate) fn serve<F: Shelf>(
         (F.disk shelf.new) }
     ensures out { SameNames (F.is_out shelf.old) (F.is_out shelf.new) }
     ensures counts { NoneFell (F.disk_faults shelf.old) (F.disk_faults shelf.new) }
+    ensures other_counts { SameOthers (journal_name directory.now name.now)
+        (F.disk_faults shelf.old) (F.disk_faults shelf.new) }
     ensures files { SameNames (F.file shelf.old) (F.file shelf.new) }
     ensures looked { F.looked shelf.new ≡ F.looked shelf.old }
     ensures later { F.faults shelf.old ≤ F.faults shelf.new }
@@ -70,6 +72,8 @@ fn serve_disk<F: Shelf>(
     ensures disks { SameOthers journal.now (F.disk shelf.old) (F.disk shelf.new) }
     ensures out { SameNames (F.is_out shelf.old) (F.is_out shelf.new) }
     ensures counts { NoneFell (F.disk_faults shelf.old) (F.disk_faults shelf.new) }
+    ensures other_counts { SameOthers journal.now (F.disk_faults shelf.old)
+        (F.disk_faults shelf.new) }
     ensures files { SameNames (F.file shelf.old) (F.file shelf.new) }
     ensures looked { F.looked shelf.new ≡ F.looked shelf.old }
     ensures later { F.faults shelf.old ≤ F.faults shelf.new }
@@ -88,7 +92,7 @@ fn serve_disk<F: Shelf>(
 // Makes a journal on a disk that is empty, and opens another.
 fn make<D: Disk>(alloc: Global, disk: D, header: &Header) -> (D, Result<(), Stop>)
     ensures made { D.tells
-        → OnOk result.1 (IsMade D.Disk (header_bytes header.now) (D.reads disk) result.0) }
+        → OnOk result.1 (IsMadeAt D.Disk (header_bytes header.now) (Some disk) (Some result.0)) }
     ensures reason { IfErr result.1
         (HasReason D.tells (header_bytes header.now) (D.reads disk) (D.faults disk)
         (D.faults result.0) 0 0) }
@@ -126,8 +130,7 @@ fn reopen<D: Disk>(alloc: Global, disk: D, header: &Header) -> (D, Result<(), St
     ensures reason { IfErr result.1
         (HasReason D.tells (header_bytes header.now) (D.reads disk) (D.faults disk)
         (D.faults result.0) 0 0) }
-    ensures kept { D.tells → IfErr result.1 (StaysAt D.Disk (Some disk) (Some result.0)) }
-    ensures count { D.faults disk ≤ D.faults result.0 }
+    ensures only { OnlyReads D.Disk disk result.0 }
 {
     match open(alloc, disk, header) {
         Ok((journal, _records)) => (journal.close(), Ok(())),

@@ -4,4 +4,5 @@ pub mod Logins
 pub mod Reads
 pub mod Replies
 pub mod Requests
+pub mod Rests
 pub mod Words

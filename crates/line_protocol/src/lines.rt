@@ -6,6 +6,7 @@ ghost use Rattle.outside.specs.Faults.{HasCause, Rose};
 ghost use Rattle.line_protocol.specs.Buffer.{unread};
 ghost use Rattle.line_protocol.specs.Feeds.{HasNoFeedBelow, HasFeedAt};
 ghost use Rattle.line_protocol.specs.Reads.{Reads};
+ghost use Rattle.line_protocol.specs.Rests.{IsRest};
 
 use outside::{Failed, Source};
 use std::marker::Model;
@@ -151,6 +152,7 @@ impl LineBuffer {
         ensures same { OnErr result (self.new.ahead ≡ self.old.ahead) }
         ensures unread { S.tells →
             unread self.new (S.left source.new) ≡ unread self.old (S.left source.old) }
+        ensures left { S.tells → IsRest (S.left source.old) (S.left source.new) }
         ensures end { S.tells → IfOk result (λ n. n ≡ 0 → S.left source.old ≡ []) }
         ensures held { S.held source.new ≡ S.held source.old }
         ensures cause { HasCause (S.faults source.old) (S.faults source.new) result }
@@ -193,6 +195,7 @@ pub fn read_line<S: Source>(source: &mut S, buffer: &mut LineBuffer) -> LineOutc
     ensures reads { S.tells → Reads result
         (unread buffer.old (S.left source.old))
         (unread buffer.new (S.left source.new)) buffer.new.line }
+    ensures left { S.tells → IsRest (S.left source.old) (S.left source.new) }
     ensures held { S.held source.new ≡ S.held source.old }
     ensures later { S.faults source.old ≤ S.faults source.new }
     ensures cause { result ≡ LineOutcome.ReadFault

@@ -2,6 +2,7 @@
 //! replaced, cut in two or joined with another, and that terms are at most their sum.
 //!
 //! They serve the rules of `turnstile` and `worker_pool`, which weigh what all threads have in
-//! their hands. The crate has no code; all of it is `proofs/Sums.antt`. std says such laws by
-//! `get_or` below a length, where the rules of atomic tables read a list by `get_elem?`.
+//! their hands (`proofs/Sums.antt`). std says such laws by `get_or` below a length, where the rules
+//! of atomic tables read a list by `get_elem?`. `proofs/Lent.antt` says what a vector is that was
+//! lent to threads as a slice and came back. The crate has no code.
 #![tactic(auto)]

@@ -1,6 +1,6 @@
 -- What a call of a shelf does to what stands under its names.
 use Rattle.std.specs.Prelude.{◌≡◌, ◌⊎◌, ◌++◌, ◌∷◌, ℕ, ◌≤◌, List, [], Bool, true, false, bytes_eq}
-use Rattle.std.specs.Prelude.{Option, Some, None}
+use Rattle.std.specs.Prelude.{Option, Some, None, IfSome}
 use Rattle.std.specs.List.{list_any}
 use Rattle.outside.specs.Disk.{Only}
 use Rattle.outside.specs.Faults.{Rose}
@@ -35,6 +35,11 @@ abbrev pub image_on : {D : Type 0} → (D → List ℕ → Type 0) → Option D 
 image_on image None bytes = bytes ≡ []
 image_on image (Some disk) bytes = image disk bytes
 
+-- What a crash could leave of it at the moments since one of its clock.
+abbrev pub since_on : {D : Type 0} → (D → ℕ → List ℕ → Type 0) → Option D → ℕ → List ℕ → Type 0
+since_on since None moment bytes = bytes ≡ []
+since_on since (Some disk) moment bytes = since disk moment bytes
+
 -- The disk that was held, or where none was held, one without bytes.
 abbrev pub IsTaken : {D : Type 0} → (D → List ℕ) → (D → List ℕ → Type 0) → Option D → D → Type 0
 IsTaken reads image (Some held) disk = disk ≡ held
@@ -50,6 +55,18 @@ abbrev pub NoNewImages : {D : Type 0} → (D → List ℕ → Type 0) → (List 
     → (List ℕ → Option D) → Type 0
 NoNewImages image old new =
     (name : List ℕ) (c : List ℕ) → image_on image (new name) c → image_on image (old name) c
+
+-- A disk that was held had no image since, at no moment of its clock, that it hadn't then.
+abbrev pub NoNewSince : {D : Type 0} → (D → ℕ) → (D → ℕ → List ℕ → Type 0)
+    → (D → List ℕ → Type 0) → Option D → Option D → Type 0
+NoNewSince moment since image old new = IfSome old
+    (λ held. (c : List ℕ) → since_on since new (moment held) c → image held c)
+
+-- So it is with the disks of all names.
+abbrev pub NoNewMoments : {D : Type 0} → (D → ℕ) → (D → ℕ → List ℕ → Type 0)
+    → (D → List ℕ → Type 0) → (List ℕ → Option D) → (List ℕ → Option D) → Type 0
+NoNewMoments moment since image old new =
+    (name : List ℕ) → NoNewSince moment since image (old name) (new name)
 
 -- No disk is out.
 abbrev pub NoneOut : (List ℕ → Bool) → Type 0

@@ -15,7 +15,10 @@ pub fn words_text(alloc: Global, line: &str) -> Result<String, AllocError> {
     match read_words(alloc, &words)? {
         Some(Command::Case) => String::from_str(alloc, "case"),
         Some(Command::Init(files)) => files_text(alloc, "init", &files),
-        Some(Command::Batch(files)) => files_text(alloc, "batch", &files),
+        Some(Command::Batch(batch)) => {
+            let front = files_text(alloc, "batch", &batch.files)?;
+            format!(in alloc; "{front} {}", batch.workers)
+        }
         Some(Command::Audit(audit)) => {
             let front = files_text(alloc, "audit", &audit.files)?;
             let form = if audit.json { "json" } else { "text" };

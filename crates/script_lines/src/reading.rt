@@ -3,6 +3,7 @@
 ghost use Rattle.std.specs.Prelude.{◌≡◌, ◌≤◌, ◌+◌, ◌^◌, ◌<◌, IsTrue};
 ghost use Rattle.outside.specs.Faults.{Rose};
 ghost use Rattle.line_protocol.specs.Buffer.{unread};
+ghost use Rattle.line_protocol.specs.Rests.{IsRest};
 ghost use Rattle.script_lines.specs.Read.{ReadsLine, ReadsScript, ReadsRest, is_read_fault};
 ghost use Rattle.script_lines.specs.Read.{is_next_fault};
 
@@ -42,6 +43,7 @@ fn next_line<S: Source>(source: &mut S, buffer: &mut LineBuffer, number: u32) ->
     ensures reads { S.tells
         → ReadsLine number result (unread buffer.old (S.left source.old))
         (unread buffer.new (S.left source.new)) buffer.new.line }
+    ensures left { S.tells → IsRest (S.left source.old) (S.left source.new) }
     ensures few { result ≡ NextLine.Line → number ≤ 100000 }
     ensures held { S.held source.new ≡ S.held source.old }
     ensures later { S.faults source.old ≤ S.faults source.new }
@@ -74,6 +76,7 @@ fn pass_rest<S: Source, T: Drop>(
     ensures rest { S.tells
         → ReadsRest number error result (unread buffer.old (S.left source.old))
         (S.left source.new) }
+    ensures left { S.tells → IsRest (S.left source.old) (S.left source.new) }
     ensures held { S.held source.new ≡ S.held source.old }
     ensures later { S.faults source.old ≤ S.faults source.new }
     ensures cause { IsTrue (is_read_fault result)
@@ -98,6 +101,7 @@ pub fn read_script<S: Source, T: Script + Drop>(
 ) -> Reading<T>
     ensures reads { S.tells
         → ReadsScript T.step T.said (T.said start) result (S.left source.old) (S.left source.new) }
+    ensures left { S.tells → IsRest (S.left source.old) (S.left source.new) }
     ensures held { S.held source.new ≡ S.held source.old }
     ensures later { S.faults source.old ≤ S.faults source.new }
     ensures cause { IsTrue (is_read_fault result)

@@ -32,6 +32,7 @@ use policy_files::{Policy, read_facts, read_policy};
 use sha2::{Digest, Sha256};
 use std::alloc::{AllocError, Global};
 use std::sync::Wait;
+use std::thread::Threads;
 use user_desk::DeskError;
 use workload::{Workload, make};
 
@@ -39,7 +40,7 @@ use workload::{Workload, make};
 /// memory, and writes the summary: eight lines with the seed, how many users and asks there are,
 /// how often each mark came, and how often another reply. Want of memory in one of the objects ends
 /// the run as any other want of memory does.
-pub fn run_selfrun<R: Wait, K: Sink>(
+pub fn run_selfrun<R: Threads + Wait + Sync, K: Sink>(
     rt: &R,
     alloc: Global,
     seed: u64,
@@ -53,6 +54,7 @@ pub fn run_selfrun<R: Wait, K: Sink>(
     requires few_asks { asks ≤ 10000 }
     ensures ends { K.tells
         → EndsSelfrun seed users asks result (K.written sink.old) (K.written sink.new) }
+    ensures silent { result ≡ SelfrunEnd.Memory → sink.new ≡ sink.old }
     ensures later { K.faults sink.old ≤ K.faults sink.new }
     ensures cause { result ≡ SelfrunEnd.WriteFault → Rose (K.faults sink.old) (K.faults sink.new) }
 {
@@ -69,7 +71,7 @@ pub fn run_selfrun<R: Wait, K: Sink>(
 }
 
 // Makes the workload, runs it, and counts the replies.
-fn run<R: Wait>(
+fn run<R: Threads + Wait + Sync>(
     rt: &R,
     alloc: Global,
     seed: u64,
@@ -100,9 +102,12 @@ fn run<R: Wait>(
 // The directory of the journals on the shelf in memory.
 const JOURNALS: &str = "journals";
 
+// How many workers answer.
+const WORKERS: u32 = 4;
+
 // The lines of a script over the users of a policy, whose journals are made on a shelf in memory.
 // Where a call of one of the objects in memory fails, memory was wanting.
-fn answers<R: Wait>(
+fn answers<R: Threads + Wait + Sync>(
     rt: &R,
     alloc: Global,
     policy: &Policy,
@@ -137,6 +142,7 @@ fn answers<R: Wait>(
         rt,
         alloc,
         &registry,
+        WORKERS,
         &mut shelf,
         &mut source,
         &mut output,

@@ -7,8 +7,8 @@ use Rattle.std.specs.List.{AllByRecursion, list_any, sum_by, flat_map}
 use Rattle.std.proofs.lemmas.List.Sums.{sum_by-append}
 use Rattle.std.proofs.lemmas.List.Elements.{All-head, All-tail, All-from_recursion}
 use Rattle.outside.proofs.Rises.{rose_wide}
-use Rattle.outside.proofs.Taken.{taken_reads, taken_images}
-use Rattle.outside.specs.Shelf.{bytes_on, image_on}
+use Rattle.outside.proofs.Taken.{taken_reads, taken_images, Rests, taken_rests, began_rests}
+use Rattle.outside.specs.Shelf.{bytes_on, image_on, since_on}
 use Rattle.outside.specs.Disk.{Elapses}
 use Rattle.outside.specs.declared.disk.Disk.{Ghosts as DiskGhosts}
 use Rattle.outside.specs.Visits.{Visit, one_if_any}
@@ -37,12 +37,13 @@ use Rattle.desk_counter.proofs.Pairs.{history_all, items_all}
 use Rattle.turnstile.specs.Passes.{seen, mine, turns}
 use Rattle.desk_counter.specs.Counters.{first_pairs}
 use Rattle.desk_crew.specs.Crew.{IsSeatAsOpened, IsClosed, refusal_of, seat_user, seat_journal, seat_kept, seat_standing, seat_history, seat_disk, seat_broke}
-use Rattle.desk_crew.specs.Crew.{seat_state}
+use Rattle.desk_crew.specs.Crew.{seat_state, IsLeft}
+use Rattle.desk_crew.proofs.Shelving.{left_on}
 use Rattle.desk_crew.specs.Seats.{DeskSeat}
-use Rattle.desk_crew.specs.Shelved.{Journals, journals, since_on, journals_by, StandsAllAlong, AreLater, IsSeatOf, AreSeatsOf, IsBack, AreBack}
+use Rattle.desk_crew.specs.Shelved.{Journals, journals, journals_by, StandsAllAlong, AreLater, IsSeatOf, AreSeatsOf, IsBack, AreBack}
 use Rattle.desk_crew.specs.Registered.{registered_journals}
 use Rattle.desk_crew.proofs.Giving.{CanGive, AreGiven, AllReturned}
-use Rattle.desk_crew.proofs.Opening.{AllSeated, seats_can, all_returned}
+use Rattle.desk_crew.proofs.Taking.{AllSeated, seats_can, all_returned}
 use Rattle.desk_crew.proofs.Lasting.{taken_moment, holds_within, stands_along}
 use Rattle.session_core.specs.Members.{AreDesksOf, HasSeenLegal, HaveSeenLegal}
 use Rattle.session_core.proofs.Replying.{last_none}
@@ -239,6 +240,11 @@ module _ (schema : DatabaseSchema) (world : FactSet) (header directory : List �
                 (opened.left.images c
                 (subst (λ (f : Fixed D). Disk.image f.disk c) kept
                 (subst (λ d. Disk.image d c) (left_alone new back.left.closed closed why) (left.images c (subst (λ o. image_on Disk.image o c) held here)))))),
+            began_rests Disk (disk name) (disk' name)
+                (subst (λ n. Rests Disk (disk n) (disk' name)) opened.journal_is
+                (taken_rests Disk (disk (seat_journal old)) (disk' name) opened.taken back.now (opened.from s)
+                (left_on Disk opened.taken (seat_disk old) back.now opened.left
+                (subst (λ d. IsLeft Disk d back.now) (left_alone new back.left.closed closed why ∙ ap (λ (f : Fixed D). f.disk) kept) left)).rests held)),
           );
           failed = λ broke.
               rose_wide (count name) (Disk.faults (seat_kept new).disk) (Disk.faults back.left.closed) (count' name) (omega (arith, before, begins, disks))

@@ -1,5 +1,6 @@
 //! The job of a worker.
 ghost use Rattle.std.specs.Prelude.{◌≡◌, All, length};
+ghost use Rattle.std.specs.Thread.{IsSync};
 ghost use Rattle.session_core.specs.Members.{passes_in, counters_in};
 ghost use Rattle.serve_engine.specs.Held.{AtEach, HasSeenOpening, SeesLegally, SeesLegally-prop};
 
@@ -8,6 +9,7 @@ use outside::{Disk, Gate, Sink, Source};
 use session_core::{Counters, CountersOf, Passes, serve_session};
 use std::alloc::Global;
 use std::sync::Wait;
+use std::thread::Threads;
 use worker_pool::Job;
 
 /// What a worker does with each connection. It stands for a `SessionJob` wherever a thread is to
@@ -98,7 +100,7 @@ impl<'a, 'w, D: Disk, G: Gate, Src: Source, Snk: Sink> Job<Src, Snk>
           (passes_in (job_passes after)) first.1 second.1,
     ) };
 
-    fn run<R: Wait>(
+    fn run<R: Threads + Wait + Sync>(
         &mut self,
         rt: &R,
         alloc: Global,
@@ -108,6 +110,7 @@ impl<'a, 'w, D: Disk, G: Gate, Src: Source, Snk: Sink> Job<Src, Snk>
     )
         requires room { 1 ≤ room_in (passes_in (job_passes self.old)) }
         requires few { job_runs self.old < 2 ^ 31 }
+        requires sync { IsSync R.row }
         ensures room { room_in (passes_in (job_passes self.old))
             ≤ room_in (passes_in (job_passes self.new)) + 1 }
         ensures ran { job_runs self.new ≡ job_runs self.old + 1 }

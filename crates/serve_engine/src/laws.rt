@@ -14,9 +14,8 @@ pub fn law_served()
 
 /// Unless a user's journal was refused, a serving is a call to him over what his journal read as it
 /// began, whatever a crash leaves as it ends; and one that a crash cut at any moment since his
-/// journal was opened is one with some first of his entries. So by
-/// `user_desk::laws::law_lives_join` his history over any list of servings, batches and crashes is
-/// one, which is legal and hides.
+/// journal was opened is one with some first of his entries. His history over any number of
+/// servings, batches and crashes is one by `cqe_top::laws::law_any_calls_join`.
 pub fn law_servings_join<F: Shelf>(before: &F, behind: &F)
     ensures spans { (directory : Text) → ServingsAreSpans
         (journals_on F.Shelf F.D.Disk directory before.now behind.now) }

@@ -106,6 +106,10 @@ where
     ensures left { L.tells → L.left links.old ≡ L.at_hand links.old
         → L.left links.new ≡ L.at_hand links.new }
 
+    // And none is lost: those that were given and those that are left are as many as before.
+    ensures left_all { L.tells → L.left links.old ≡ L.at_hand links.old
+        → L.given links.new + L.left links.new ≡ L.given links.old + L.left links.old }
+
     // It comes to its end where no connection is at hand, or these reach the greatest number,
     // together with the doors that answered that no further one comes, and are more than it,
     // together with all workers. Each worker has one door.
@@ -125,6 +129,9 @@ where
     ensures files { SameNames (F.file shelf.old) (F.file shelf.new) }
     ensures looked { F.looked shelf.new ≡ F.looked shelf.old }
     ensures counts { NoneFell (F.disk_faults shelf.old) (F.disk_faults shelf.new) }
+    ensures other_counts { SameBeside
+        (registered_journals registry.now.directory.now registry.now.users.now)
+        (F.disk_faults shelf.old) (F.disk_faults shelf.new) }
     ensures out { L.out links.new ≡ L.out links.old }
     ensures shelf_later { F.faults shelf.old ≤ F.faults shelf.new }
     ensures links_later { L.faults links.old ≤ L.faults links.new }
@@ -189,6 +196,9 @@ where
     ensures files { SameNames (F.file shelf.old) (F.file shelf.new) }
     ensures looked { F.looked shelf.new ≡ F.looked shelf.old }
     ensures counts { NoneFell (F.disk_faults shelf.old) (F.disk_faults shelf.new) }
+    ensures other_counts { SameBeside
+        (registered_journals registry.now.directory.now registry.now.users.now)
+        (F.disk_faults shelf.old) (F.disk_faults shelf.new) }
     ensures shelf_later { F.faults shelf.old ≤ F.faults shelf.new }
     ensures shelf_cause { result.0 ≡ ServeEnd.ShelfFault
         → Rose (F.faults shelf.old) (F.faults shelf.new) }
@@ -203,7 +213,8 @@ where
     let Ok(room) = room_for(alloc, registry.users.len()) else {
         return (ServeEnd::Memory, doors);
     };
-    let seats = match open_all(alloc, registry, shelf) {
+    let workers = doors.len();
+    let seats = match open_all(rt, alloc, registry, workers, shelf) {
         Ok(seats) => seats,
         Err(NotOpened::Shelf) => return (ServeEnd::ShelfFault, doors),
         Err(NotOpened::Memory) => return (ServeEnd::Memory, doors),

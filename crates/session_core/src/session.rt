@@ -8,6 +8,7 @@ ghost use Rattle.turnstile.specs.Passes.{turns};
 ghost use Rattle.user_log.specs.Replies.{reply_of};
 ghost use Rattle.line_protocol.specs.Replies.{text_of};
 ghost use Rattle.line_protocol.specs.Requests.{meaning_of};
+ghost use Rattle.line_protocol.specs.Rests.{IsRest};
 ghost use Rattle.session_core.specs.Heard.{is_quit};
 ghost use Rattle.session_core.specs.Talks.{LogsIn, NobodyLogsIn, Says};
 ghost use Rattle.session_core.specs.Desks.{AsksAt, AsksOf};
@@ -25,6 +26,7 @@ use line_protocol::{
 use outside::{Disk, Failed, Gate, Sink, Source};
 use std::alloc::Global;
 use std::sync::Wait;
+use std::thread::Threads;
 use user_log::line_reply;
 
 /// A session ends behind the reply to so many lines.
@@ -74,7 +76,7 @@ fn login_place(users: &[User], name: &str, phrase: &str) -> Option<usize>
 }
 
 /// Asks a text at the desk of the user at this place.
-fn ask_at<R: Wait, D: Disk, G: Gate>(
+fn ask_at<R: Threads + Wait + Sync, D: Disk, G: Gate>(
     rt: &R,
     alloc: Global,
     counters: &Counters<'_, D>,
@@ -98,7 +100,7 @@ fn ask_at<R: Wait, D: Disk, G: Gate>(
 }
 
 /// The reply to a request, and who is logged in behind it.
-fn reply_to<R: Wait, D: Disk, G: Gate>(
+fn reply_to<R: Threads + Wait + Sync, D: Disk, G: Gate>(
     rt: &R,
     alloc: Global,
     counters: &Counters<'_, D>,
@@ -147,7 +149,7 @@ fn is_quit(request: &Request<'_>) -> bool
 /// the user who logged in, at his own desk, and only his pass changes. What each pass has seen is
 /// legal, and hides where its user is admitted. It waits for other sessions of that user, and makes
 /// at most 2^26 turns.
-pub fn serve_session<R: Wait, D: Disk, S: Source, K: Sink, G: Gate>(
+pub fn serve_session<R: Threads + Wait + Sync, D: Disk, S: Source, K: Sink, G: Gate>(
     rt: &R,
     alloc: Global,
     counters: &Counters<'_, D>,
@@ -163,6 +165,7 @@ pub fn serve_session<R: Wait, D: Disk, S: Source, K: Sink, G: Gate>(
         (fixeds_of counters.now) result (S.left source.old)
         (passes_in passes.old) (passes_in passes.new) (K.written sink.old) (K.written sink.new) }
     ensures hides { EachHides (fixeds_of counters.now) (passes_in passes.new) }
+    ensures left { S.tells → IsRest (S.left source.old) (S.left source.new) }
     ensures held { S.held source.new ≡ S.held source.old }
     ensures answers { K.answers sink.new ≡ K.answers sink.old }
     ensures source_later { S.faults source.old ≤ S.faults source.new }

@@ -20,9 +20,10 @@ ghost use Rattle.user_desk.specs.Standings.{is_open, is_sealed};
 use crate::kinds::kind_of;
 use crate::standing::Standing;
 use crate::store::Store;
+use censors::LentViews;
 use cqe_base::sentence::Sentence;
 use cqe_base::user::{Entry, Mark, User};
-use entailment::{GroundSentence, View};
+use entailment::GroundSentence;
 use log_journal::Header;
 use outside::Disk;
 use std::alloc::{AllocError, Global};
@@ -168,14 +169,20 @@ impl<'w, D: Disk> Desk<'w, D> {
         self.store.known();
     }
 
-    /// A view of the log, after which the query of a text can be examined outside of the desk.
-    /// There is none where a code answers the text, or memory is wanting. The desk stays as it is.
-    pub fn lend(&mut self, alloc: Global, text: &str, query: &GroundSentence) -> Option<View<'w>>
+    /// Views of the log, after which the query of a text can be examined outside of the desk. There
+    /// are none where a code answers the text, or memory is wanting. The desk stays as it is.
+    pub fn lend(
+        &mut self,
+        alloc: Global,
+        text: &str,
+        query: &GroundSentence,
+    ) -> Option<LentViews<'w>>
         requires { length text.now ≤ 4096 }
         ensures same { IsOfSame self.old self.new }
         ensures opening { IsOfOneOpening self.old self.new }
         ensures history { desk_history self.new ≡ desk_history self.old }
         ensures in_flight { entry_in_flight self.new ≡ entry_in_flight self.old }
+        ensures disk { desk_disk self.new ≡ desk_disk self.old }
         ensures lent { IfSome result
             (IsLent (desk_schema self.old) (desk_user self.old) (desk_history self.old)
             (sentence_of query.now)) }
@@ -189,6 +196,7 @@ impl<'w, D: Disk> Desk<'w, D> {
     /// The reply to a text by the entries so far, with what was found of it before, if that was
     /// done. A mark comes once its entry is on the disk, and adds it; want of memory and a code
     /// change nothing, and from the first write on the answer is a mark or that the append failed.
+    /// Once one had failed before, the disk stays as it is.
     pub fn settle(&mut self, alloc: Global, text: &str, examined: Option<Examined<'w>>) -> Reply
         requires short { length text.now ≤ 4096 }
         requires examined { IfSome examined (IsExamined (desk_schema self.old) (desk_user self.old)
@@ -203,6 +211,8 @@ impl<'w, D: Disk> Desk<'w, D> {
             (reply_of result) (D.faults (desk_disk self.old)) (D.faults (desk_disk self.new)) }
         ensures broken { (result ≡ Reply.Broken) ↔ IsTrue (is_broken_desk self.new) }
         ensures untouched { HasNoWrite result → desk_disk self.new ≡ desk_disk self.old }
+        ensures still_broken { is_broken_desk self.old ≡ true
+            → desk_disk self.new ≡ desk_disk self.old }
         ensures count { D.faults (desk_disk self.old) ≤ D.faults (desk_disk self.new) }
 
         // At every moment of the call each image stands for what a crash of this ask leaves.

@@ -21,8 +21,7 @@ pub fn law_beginnings()
 /// their replies are its replies, the last leaves the history with which it ends, and that is legal
 /// and hides. So are calls over bytes, whatever a crash left between two of them: each is a life
 /// with its own events, and what the last left opens a desk with that history. Of calls of any
-/// kinds the last history begins with each earlier one. A call in which no opening of his journal
-/// held leaves it as it was and tells no mark; it stands between two of them without a trace.
+/// kinds the last history begins with each earlier one.
 pub fn law_lives_join()
     ensures replies { LivesReplyAsOne }
     ensures ends { LivesEndAsOne }

@@ -18,16 +18,18 @@ ghost use Rattle.user_log.specs.Kept.{IsConsistentLog, IsConsistentLog-prop, Are
 ghost use Rattle.user_log.specs.Kept.{AreGuardsOf-prop};
 ghost use Rattle.entailment.specs.GroundSentences.{sentence_of, IsGroundOver};
 
+use crate::examiner::{examined_after, read_query};
 use crate::{Examined, Examiner, Prepared, Reply, Weighed};
-use censors::{Findings, Guards, decide, examine, law_undecided_is_cost};
+use censors::{Findings, Guards, LentViews, decide, examine, law_undecided_is_cost, views_for};
 use cqe_base::laws::{law_findings_decide, law_legal_grows, law_limits, law_logs, law_reading};
 use cqe_base::schema::Schema;
 use cqe_base::sentence::{Sentence, nodes};
 use cqe_base::user::{Entry, Mark, User};
 use cqe_base::world::World;
-use entailment::{GroundSentence, View, Views};
+use entailment::{GroundSentence, Views};
 use sentence_text::{ReadError, read_sentence};
 use std::alloc::{AllocError, Global};
+use std::thread::Threads;
 use truth_eval::holds;
 
 /// A history has at most so many entries.
@@ -206,11 +208,11 @@ impl<'w> UserLog<'w> {
         law_reading();
         let Examined {
             query,
-            view,
+            lent,
             findings,
         } = examined;
-        let is_whole = view.len() == self.views.len();
-        self.views.put(view);
+        let is_whole = lent.len() == self.views.len();
+        lent.put(&mut self.views);
         if let Some(code) = self.refusal(text, &query.sentence) {
             return Ok(Weighed::Code(code));
         }
@@ -218,9 +220,14 @@ impl<'w> UserLog<'w> {
         Ok(Weighed::Answer(query.sentence, mark))
     }
 
-    /// A view of the log, after which the query can be examined outside of it. There is none where
-    /// a code answers the query, or memory is wanting.
-    pub fn lend(&mut self, alloc: Global, text: &str, query: &GroundSentence) -> Option<View<'w>>
+    /// Views of the log, after which the query can be examined outside of it, as many as there are
+    /// best threads for that. There are none where a code answers the query, or memory is wanting.
+    pub fn lend(
+        &mut self,
+        alloc: Global,
+        text: &str,
+        query: &GroundSentence,
+    ) -> Option<LentViews<'w>>
         requires { length text.now ≤ 4096 }
         ensures same { self.new ≡ self.old }
         ensures lent { IfSome result
@@ -231,10 +238,33 @@ impl<'w> UserLog<'w> {
         if let Some(_code) = self.refusal(text, &query.sentence) {
             return None;
         }
-        match self.views.lend(alloc) {
-            Ok(view) => Some(view),
+        let size = self
+            .view_nodes
+            .saturating_add(nodes(&query.sentence, self.schema));
+        let count = views_for(&self.guards, self.user, size);
+        match LentViews::lend(alloc, &mut self.views, count) {
+            Ok(lent) => Some(lent),
             Err(_) => None,
         }
+    }
+
+    /// What is found of a text after the whole log, by several threads where that pays. There is
+    /// nothing where the text is no query that is to be examined, or memory is wanting. It changes
+    /// nothing that a caller sees.
+    fn examined<R: Threads + Sync>(
+        &mut self,
+        rt: &R,
+        alloc: Global,
+        text: &str,
+    ) -> Option<Examined<'w>>
+        requires { length text.now ≤ 4096 }
+        ensures same { self.new ≡ self.old }
+        ensures examined { IfSome result (IsExamined (kept_schema self.old) (kept_user self.old)
+            (kept_history self.old) text.now) }
+    {
+        let query = read_query(alloc, self.schema, text)?;
+        let lent = self.lend(alloc, text, &query)?;
+        examined_after(rt, alloc, &self.guards, self.user, lent, query)
     }
 
     /// The code that answers the query of a text for want of room, if one does.
@@ -423,7 +453,7 @@ impl<'w> UserLog<'w> {
 
     /// The reply to a text by the entries so far. A mark adds its entry; want of memory and a code
     /// change nothing.
-    pub fn ask(&mut self, alloc: Global, text: &str) -> Reply
+    pub fn ask<R: Threads + Sync>(&mut self, rt: &R, alloc: Global, text: &str) -> Reply
         requires { length text.now ≤ 4096 }
         ensures same { IsOfSame self.old self.new }
         ensures asked { IsAsked (kept_schema self.old) (kept_world self.old) (kept_user self.old)
@@ -431,7 +461,22 @@ impl<'w> UserLog<'w> {
         ensures undecided { IsReplyByCost (kept_schema self.old) (kept_user self.old)
             (kept_history self.old) text.now result }
     {
-        match self.weigh(alloc, text, None) {
+        let examined = self.examined(rt, alloc, text);
+        self.settle(alloc, text, examined)
+    }
+
+    /// The same with what was found of the text before, if that was done.
+    fn settle(&mut self, alloc: Global, text: &str, examined: Option<Examined<'w>>) -> Reply
+        requires few { length text.now ≤ 4096 }
+        requires examined { IfSome examined (IsExamined (kept_schema self.old) (kept_user self.old)
+            (kept_history self.old) text.now) }
+        ensures same { IsOfSame self.old self.new }
+        ensures asked { IsAsked (kept_schema self.old) (kept_world self.old) (kept_user self.old)
+            (kept_history self.old) (kept_history self.new) text.now (reply_of result) }
+        ensures undecided { IsReplyByCost (kept_schema self.old) (kept_user self.old)
+            (kept_history self.old) text.now result }
+    {
+        match self.weigh(alloc, text, examined) {
             Ok(Weighed::Code(code)) => code,
             Ok(Weighed::Answer(query, mark)) => match self.add(alloc, text, query, mark) {
                 Ok(()) => Reply::Mark(mark),

@@ -1,7 +1,7 @@
 -- Workers that get their seats, and give them back.
-use Rattle.std.proofs.Common.{◌≡◌, ℕ, List, [], ◌∷◌, ◌++◌, length, take, drop, map, All, sym, ap, ◌∙◌, append_assoc, append-nil, subst, ◌<◌, arith}
+use Rattle.std.proofs.Common.{◌≡◌, ℕ, List, [], ◌∷◌, ◌++◌, length, map, All, sym, ap, ◌∙◌, append_assoc, append-nil, subst, ◌<◌, arith}
 use Rattle.std.proofs.Common.{length-append}
-use Rattle.std.proofs.lemmas.List.{map-append, take_at}
+use Rattle.std.proofs.lemmas.List.{map-append}
 use Rattle.std.proofs.lemmas.List.Elements.{All-push, All-from_recursion, recursion_from_All}
 use Rattle.std.specs.List.{AllByRecursion}
 use Rattle.worker_pool.specs.declared.worker.Worker.{Worker}
@@ -29,11 +29,6 @@ module _ {X : Type 0} where
       middle : (xs : List X) → AllByRecursion P (xs ++ x ∷ rest) → P x
       middle [] h = h.0
       middle (y ∷ xs) h = middle xs h.1
-
-module _ {X : Type 0} where
-  -- a vector that was lent whole, and comes back as long
-  pub lent_whole : (n : ℕ) (new old : List X) → length new ≡ length old → n ≡ length old → take n (new ++ drop (length new) old) ≡ new
-  lent_whole n new old same len = take_at new (drop (length new) old) n (same ∙ sym len)
 
 module _ {J O : Type 0} where
   -- one more worker has a seat

@@ -3,6 +3,7 @@ ghost use Rattle.std.specs.Prelude.{◌≡◌, ◌≢◌, ◌≤◌, ◌<◌, �
 ghost use Rattle.std.specs.Prelude.{sum_by, slice_index_or, ℕ, vec_capacity, Some, None, IfOk};
 ghost use Rattle.std.specs.Prelude.{IfErr, IfSome, IfNone, OnSome};
 ghost use Rattle.std.specs.List.{AllZip};
+ghost use Rattle.std.specs.Thread.{IsSync};
 ghost use Rattle.outside.specs.Faults.{Rose};
 ghost use Rattle.worker_pool.specs.Hands.{first_hand, split_off_hand};
 ghost use Rattle.worker_pool.specs.Drawers.{hand_of, drawn, IsAt};
@@ -27,7 +28,7 @@ struct Seated<J, O> {
 }
 
 // Serves the next connection, and answers how the worker ended where there was none.
-fn serve_next<R: Wait, O: Door, J: Job<O::Src, O::Snk>>(
+fn serve_next<R: Threads + Wait + Sync, O: Door, J: Job<O::Src, O::Snk>>(
     rt: &R,
     alloc: Global,
     number: u64,
@@ -61,7 +62,7 @@ fn serve_next<R: Wait, O: Door, J: Job<O::Src, O::Snk>>(
 }
 
 // Serves connections up to the end of the links, their failure or the limit.
-fn work<R: Wait, O: Door, J: Job<O::Src, O::Snk>>(
+fn work<R: Threads + Wait + Sync, O: Door, J: Job<O::Src, O::Snk>>(
     rt: &R,
     alloc: Global,
     numbers: &Numbers,
@@ -184,6 +185,7 @@ fn work_all<R: Threads + Wait + Sync, O: Door + Drop + Send, J: Job<O::Src, O::S
             requires limit { limit ≤ 2 ^ 30 }
             requires room { limit ≤ J.room seated.now.worker.job }
             requires none { J.ran seated.now.worker.job ≡ 0 }
+            requires sync { IsSync R.row }
             ensures place { IsAt numbers.entry.now seated.exit.now.drawer }
             ensures part { (hand_of seated.exit.now.drawer).parts ≡ 1 }
             ensures worked { HasWorked O.tells J.tells O.given O.left O.ends O.faults O.back J.room

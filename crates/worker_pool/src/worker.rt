@@ -1,11 +1,13 @@
 //! A worker: what it does with a connection, and how it ends.
 ghost use Rattle.std.specs.Prelude.{◌≡◌, ◌≤◌, ◌<◌, ◌+◌, ◌++◌, ◌∷◌, ◌^◌, [], List, ℕ};
+ghost use Rattle.std.specs.Thread.{IsSync};
 ghost use Rattle.outside.specs.Visits.{Visit, visit_of};
 ghost use Rattle.worker_pool.specs.Jobs.{AreUntouchedEnds};
 
 use outside::{Sink, Source};
 use std::alloc::Global;
 use std::sync::Wait;
+use std::thread::Threads;
 
 /// What a worker does with each connection.
 pub trait Job<Src: Source, Snk: Sink> {
@@ -28,10 +30,18 @@ pub trait Job<Src: Source, Snk: Sink> {
     /// What each run keeps: the job before and after.
     ghost keeps: { Self → Self → Type 0 };
 
-    /// Serves a connection. It may wait for another thread.
-    fn run<R: Wait>(&mut self, rt: &R, alloc: Global, number: u64, source: &mut Src, sink: &mut Snk)
+    /// Serves a connection. It may start threads, and wait for another thread.
+    fn run<R: Threads + Wait + Sync>(
+        &mut self,
+        rt: &R,
+        alloc: Global,
+        number: u64,
+        source: &mut Src,
+        sink: &mut Snk,
+    )
         requires room { 1 ≤ room self.old }
         requires few { ran self.old < 2 ^ 31 }
+        requires sync { IsSync R.row }
         ensures room { room self.old ≤ room self.new + 1 }
         ensures ran { ran self.new ≡ ran self.old + 1 }
         ensures numbers { tells → numbers self.new ≡ numbers self.old ++ number ∷ [] }

@@ -1,5 +1,6 @@
 //! Threads that ask at desks.
 ghost use Rattle.std.specs.Prelude.{◌≡◌, ◌+◌, ◌*◌, ◌^◌, ◌≤◌, length, Some};
+ghost use Rattle.std.specs.Thread.{IsSync};
 ghost use Rattle.turnstile.specs.Passes.{IsOf, IsReady, first_value, fixed, shares as shares_of};
 ghost use Rattle.turnstile.specs.Passes.{turns};
 ghost use Rattle.desk_counter.specs.Counters.{IsPassOf};
@@ -45,7 +46,7 @@ struct Session<'a, 'w, V: Owned, G> {
 
 impl<'a, 'w, D: Disk, G: Gate> Session<'a, 'w, TicketedDesk<'w, D>, G> {
     // One ask.
-    fn ask<R: Wait>(&mut self, rt: &R)
+    fn ask<R: Threads + Wait + Sync>(&mut self, rt: &R)
         requires { 1 ≤ self.old.asks }
         ensures counter { self.new.counter.now ≡ self.old.counter.now }
         ensures asks { self.new.asks + 1 ≡ self.old.asks }
@@ -65,7 +66,8 @@ trait Work {
     // What it leaves as it was.
     ghost same: { Self → Self → Type 0 };
 
-    fn work<R: Wait>(self, rt: &R) -> Self
+    fn work<R: Threads + Wait + Sync>(self, rt: &R) -> Self
+        requires { IsSync R.row }
         ensures { same self result };
 }
 
@@ -73,7 +75,7 @@ trait Work {
 impl<'a, 'w, D: Disk, G: Gate> Work for Session<'a, 'w, TicketedDesk<'w, D>, G> {
     ghost same = { λ before after. after.counter.now ≡ before.counter.now };
 
-    fn work<R: Wait>(self, rt: &R) -> Session<'a, 'w, TicketedDesk<'w, D>, G> {
+    fn work<R: Threads + Wait + Sync>(self, rt: &R) -> Session<'a, 'w, TicketedDesk<'w, D>, G> {
         let mut session = self;
         while session.asks > 0 {
             session.ask(rt);
@@ -91,7 +93,17 @@ fn work_beside<J: Work + Drop + Send, K: Work + Drop, R: Threads + Wait + Sync>(
     ensures one { J.same one result.0 }
     ensures two { K.same two result.1 }
 {
-    join(rt, move || one.work(rt), move || two.work(rt))
+    join(
+        rt,
+        move || -> J
+            requires { IsSync R.row }
+            ensures { J.same one result }
+        { one.work(rt) },
+        move || -> K
+            requires { IsSync R.row }
+            ensures { K.same two result }
+        { two.work(rt) },
+    )
 }
 
 fn is_mark(reply: &Reply, mark: Mark) -> bool {
@@ -268,7 +280,7 @@ struct Other<'a, 'w, V: Owned> {
 impl<'a, 'w, D: Disk> Work for Other<'a, 'w, TicketedDesk<'w, D>> {
     ghost same = { λ before after. after.session.counter.now ≡ before.session.counter.now };
 
-    fn work<R: Wait>(self, rt: &R) -> Other<'a, 'w, TicketedDesk<'w, D>> {
+    fn work<R: Threads + Wait + Sync>(self, rt: &R) -> Other<'a, 'w, TicketedDesk<'w, D>> {
         let hold = self.session.gate;
         let saw_held = was_reached(&hold.held, 1);
         let session = self.session.work(rt);

@@ -1,4 +1,5 @@
 use Rattle.std.proofs.Common.{string_bytes, sym, subst}
+use Rattle.outside.specs.Disk.{Only}
 use Rattle.cqe_base.specs.History.{profile_of}
 use Rattle.log_journal.specs.Opening.{header_bytes}
 use Rattle.user_desk.specs.Desks.{desk_standing, desk_history}
@@ -19,3 +20,15 @@ returns-in-Ok-open_desk-clause-ends g c = λ told sink_told.
     (g.D.Disk.reads c.args.disk) (desk_history desk)
     (g.D.Disk.faults c.args.disk) (g.D.Disk.faults d) (desk_standing desk)) (sym c.close.ensures) c.in-Ok-open_desk.ensures.standing)
     (c.print_desk-end.ensures.printed sink_told)
+
+pub returns-in-Ok-open_desk-clause-moments : goal.returns-in-Ok-open_desk-clause-moments
+returns-in-Ok-open_desk-clause-moments g c c' here =
+    c.in-Ok-open_desk.ensures.moments c' (subst (λ d. g.D.Disk.image_since d (g.D.Disk.moment c.args.disk) c') c.close.ensures here)
+
+pub returns-in_default-clause-moments : goal.returns-in_default-clause-moments
+returns-in_default-clause-moments g c c' here = g.met.D.Disk.only_now c.args.disk c' here
+
+pub returns-in-Ok-open_desk-clause-durable : goal.returns-in-Ok-open_desk-clause-durable
+returns-in-Ok-open_desk-clause-durable g c = λ done.
+    subst (λ d. Only (g.D.Disk.reads c.args.disk) (g.D.Disk.image d)) (sym c.close.ensures)
+    (c.in-Ok-open_desk.ensures.durable (c.print_desk-end.ensures.served done))

@@ -1,5 +1,4 @@
 use Rattle.std.proofs.Common.{◌≡◌, ◌≤◌, take}
-use Rattle.std.specs.Prelude.{vec_capacity}
 use Rattle.log_journal.specs.Opening.{header_bytes}
 use Rattle.batch_engine.specs.Batches.{stretches_in}
 use Rattle.batch_engine.specs.Steps.{RunsAll}
@@ -14,5 +13,4 @@ invariant-loop-asks g l = record {
       (g.K.Sink.written l.sink);
   same : l.shelf ≡ l.fn.shelf;
   later : g.K.Sink.faults l.fn.sink ≤ g.K.Sink.faults l.sink;
-  room : vec_capacity l.lines ≡ vec_capacity l.fn.rooms.1;
 }

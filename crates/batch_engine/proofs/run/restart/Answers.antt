@@ -1,5 +1,5 @@
 use Rattle.std.specs.List.{AllByRecursion}
-use Rattle.std.proofs.Common.{◌≡◌, ◌++◌, true, false, refl, sym, append-nil, ap, subst, ◌∙◌}
+use Rattle.std.proofs.Common.{◌≡◌, ℕ, ◌<◌, ◌++◌, ◌∷◌, List, [], All, true, false, refl, sym, append-nil, ap, subst, ◌∙◌}
 use Rattle.cqe_base.specs.Schema.{has_duplicate}
 use Rattle.log_journal.specs.Opening.{header_bytes}
 use Rattle.outside.specs.Shelf.{AllOut, AllIn, SameBeside}
@@ -8,9 +8,14 @@ use Rattle.desk_crew.specs.Crew.{IsSeatAsOpened}
 use Rattle.desk_crew.specs.Shelved.{journals}
 use Rattle.desk_crew.proofs.Giving.{CanGive}
 use Rattle.desk_crew.proofs.Reopening.{same_journals, later_reopened}
-use Rattle.batch_engine.specs.Outputs.{output_bytes}
-use Rattle.batch_engine.specs.Steps.{restart_bytes}
-use Rattle.batch_engine.proofs.Running.{output_more, all_as_opened}
+use Rattle.std.specs.List.Sorted.{IsPermutation}
+use Rattle.std.proofs.lemmas.List.Elements.{recursion_from_All}
+use Rattle.std.proofs.lemmas.List.Sorted.{IsPermutation-append_left}
+use Rattle.batch_engine.specs.Answers.{output_bytes, restarted_at}
+use Rattle.batch_engine.specs.Ordered.{AreNumbered}
+use Rattle.batch_engine.specs.declared.answer.Answer.{Answer}
+use Rattle.batch_engine.proofs.Posts.{with_restart, output_last}
+use Rattle.batch_engine.proofs.Running.{all_as_opened}
 use Rattle.batch_engine.proofs.run.restart.Given.{Over}
 use Rattle.batch_engine.proofs.run.restart.Goals as goal
 use Rattle.batch_engine.proofs.run.restart.Goals.{In-Some, After-push_reserved}
@@ -21,29 +26,32 @@ names g c =
     same_journals c.args.registry.now.schema.now c.args.registry.now.world.now (header_bytes c.args.registry.now.header.now)
     g.F.D.Disk c.args.seats.items c.in-Some.seats.items c.in-Some.ensures.reopened
 
--- the bytes that were kept, with the line of the restart
-bytes : (g : Over) (c : After-push_reserved g)
-    → output_bytes c.push_reserved.new.self.items ≡ output_bytes c.args.lines.now.items ++ restart_bytes true
-bytes g c =
-    output_more c.args.lines.now.items c.push_reserved.new.self.items (record { text = c.new.result }) c.push_reserved.ensures.items
-    ∙ ap (λ l. output_bytes c.args.lines.now.items ++ l) c.new.ensures
+-- the lines of the stretch with that of the restart: numbered, and these in some order are kept
+last_numbered : (count : ℕ) (lines : List Answer) → AreNumbered lines → All (λ (a : Answer). a.number < count) lines
+    → AreNumbered (lines ++ restarted_at count ∷ [])
+last_numbered count lines numbered below = with_restart lines count numbered (recursion_from_All (λ (a : Answer). a.number < count) lines below)
+
+last_moved : (g : Over) (c : After-push_reserved g) (lines : List Answer) → IsPermutation lines c.args.answers.items
+    → IsPermutation (lines ++ restarted_at c.args.count ∷ []) c.push_reserved.new.self.items
+last_moved g c lines moved =
+    subst (IsPermutation (lines ++ restarted_at c.args.count ∷ []))
+    (sym (c.push_reserved.ensures.items ∙ ap (λ (a : Answer). c.args.answers.items ++ a ∷ []) c.restarted.ensures))
+    (IsPermutation-append_left (restarted_at c.args.count ∷ []) lines c.args.answers.items moved)
 
 -- ---- the desks are open again
 
-pub write_again-requires : goal.write_again-requires
-write_again-requires g c =
-    record {
-      closed = subst (AllByRecursion IsSeatAsOpened) (sym c.as_slice-3.ensures.value)
-          (all_as_opened c.args.registry.now.schema.now c.args.registry.now.world.now (header_bytes c.args.registry.now.header.now) g.F.D.Disk
-          c.args.seats.items c.in-Some.seats.items c.in-Some.ensures.reopened);
-    }
+pub write_again-requires-clause-closed : goal.write_again-requires-clause-closed
+write_again-requires-clause-closed g c κs within =
+    subst (AllByRecursion IsSeatAsOpened) (sym c.as_slice.ensures.value)
+    (all_as_opened c.args.registry.now.schema.now c.args.registry.now.world.now (header_bytes c.args.registry.now.header.now) g.F.D.Disk
+    c.args.seats.items c.in-Some.seats.items c.in-Some.ensures.reopened)
 
-pub returns-in-Ok-write_again-clause-ended : goal.returns-in-Ok-write_again-clause-ended
-returns-in-Ok-write_again-clause-ended g c = (
+pub returns-in-All-write_again-clause-ended : goal.returns-in-All-write_again-clause-ended
+returns-in-All-write_again-clause-ended g c = λ lines numbered below moved. (
   c.in-Some.ensures.reopened,
-  λ told. c.in-Ok-write_again.ensures.all told
-      ∙ ap (λ l. g.K.Sink.written c.args.sink.now ++ output_bytes l) c.as_slice-2.ensures.value
-      ∙ ap (λ l. g.K.Sink.written c.args.sink.now ++ l) (bytes g (goal.at.returns-in-Ok-write_again-clause-ended g c).After-push_reserved),
+  λ told. c.in-All-write_again.ensures.written told (lines ++ restarted_at c.args.count ∷ []) (last_numbered c.args.count lines numbered below)
+      (last_moved g (goal.at.returns-in-All-write_again-clause-ended g c).After-push_reserved lines moved)
+      ∙ ap (λ l. g.K.Sink.written c.args.sink.now ++ l) (output_last lines c.args.count),
 )
 
 can : (g : Over) (c : In-Some g) → CanGive g.F.D.Disk c.in-Some.seats.items (g.F.Shelf.is_out c.reopen_all.new.shelf)
@@ -58,6 +66,8 @@ can g c =
           c.requires.later;
     })
 
+-- ---- a write failed
+
 pub give_back-requires-clause-distinct : goal.give_back-requires-clause-distinct
 give_back-requires-clause-distinct g c = (can g (goal.at.give_back-requires-clause-distinct g c).In-Some).distinct
 
@@ -67,67 +77,132 @@ give_back-requires-clause-out g c = (can g (goal.at.give_back-requires-clause-ou
 pub give_back-requires-clause-later : goal.give_back-requires-clause-later
 give_back-requires-clause-later g c = (can g (goal.at.give_back-requires-clause-later g c).In-Some).later
 
-pub returns-in-Err-write_again-clause-ended : goal.returns-in-Err-write_again-clause-ended
-returns-in-Err-write_again-clause-ended g c = (
+pub returns-in-Part-write_again-clause-ended : goal.returns-in-Part-write_again-clause-ended
+returns-in-Part-write_again-clause-ended g c = λ lines numbered below moved. (
   true,
   c.in-Some.seats.items,
   c.in-Some.ensures.reopened,
   c.give_back.ensures.back,
   λ told.
-      let part = subst (λ l. AppendsPart (g.K.Sink.written c.args.sink.now) (g.K.Sink.written c.write_again.new.sink) l)
-      (ap output_bytes c.as_slice-2.ensures.value ∙ bytes g (goal.at.returns-in-Err-write_again-clause-ended g c).After-push_reserved)
-      (c.in-Err-write_again.ensures.part told) in
+      let part = subst (AppendsPart (g.K.Sink.written c.args.sink.now) (g.K.Sink.written c.write_again.new.sink)) (output_last lines c.args.count)
+      (c.in-Part-write_again.ensures.written told (lines ++ restarted_at c.args.count ∷ []) (last_numbered c.args.count lines numbered below)
+      (last_moved g (goal.at.returns-in-Part-write_again-clause-ended g c).After-push_reserved lines moved)) in
       (part.0, part.2),
 )
 
-pub returns-in-Err-write_again-clause-inside : goal.returns-in-Err-write_again-clause-inside
-returns-in-Err-write_again-clause-inside g c =
-    λ none. subst (λ ns. AllIn ns (g.F.Shelf.is_out c.give_back.new.shelf)) (names g (goal.at.returns-in-Err-write_again-clause-inside g c).In-Some)
+pub returns-in-Part-write_again-clause-inside : goal.returns-in-Part-write_again-clause-inside
+returns-in-Part-write_again-clause-inside g c =
+    λ none. subst (λ ns. AllIn ns (g.F.Shelf.is_out c.give_back.new.shelf)) (names g (goal.at.returns-in-Part-write_again-clause-inside g c).In-Some)
     c.give_back.ensures.inside
 
-pub returns-in-Err-write_again-clause-others_out : goal.returns-in-Err-write_again-clause-others_out
-returns-in-Err-write_again-clause-others_out g c =
+pub returns-in-Part-write_again-clause-others_out : goal.returns-in-Part-write_again-clause-others_out
+returns-in-Part-write_again-clause-others_out g c =
     subst (λ ns. SameBeside ns (g.F.Shelf.is_out c.args.shelf.now) (g.F.Shelf.is_out c.give_back.new.shelf))
-    (names g (goal.at.returns-in-Err-write_again-clause-others_out g c).In-Some)
-    (subst (λ s. SameBeside (journals c.in-Some.seats.items) (g.F.Shelf.is_out s) (g.F.Shelf.is_out c.give_back.new.shelf)) c.in-Some.ensures.untouched
-    c.give_back.ensures.others_out)
+    (names g (goal.at.returns-in-Part-write_again-clause-others_out g c).In-Some)
+    (subst (λ s. SameBeside (journals c.in-Some.seats.items) (g.F.Shelf.is_out s) (g.F.Shelf.is_out c.give_back.new.shelf))
+    c.in-Some.ensures.untouched c.give_back.ensures.others_out)
 
-pub returns-in-Err-write_again-clause-counts : goal.returns-in-Err-write_again-clause-counts
-returns-in-Err-write_again-clause-counts g c =
+pub returns-in-Part-write_again-clause-counts : goal.returns-in-Part-write_again-clause-counts
+returns-in-Part-write_again-clause-counts g c =
     subst (λ ns. SameBeside ns (g.F.Shelf.disk_faults c.args.shelf.now) (g.F.Shelf.disk_faults c.give_back.new.shelf))
-    (names g (goal.at.returns-in-Err-write_again-clause-counts g c).In-Some)
+    (names g (goal.at.returns-in-Part-write_again-clause-counts g c).In-Some)
     (subst (λ s. SameBeside (journals c.in-Some.seats.items) (g.F.Shelf.disk_faults s) (g.F.Shelf.disk_faults c.give_back.new.shelf))
     c.in-Some.ensures.untouched c.give_back.ensures.counts)
 
-pub returns-in-Err-write_again-clause-disks : goal.returns-in-Err-write_again-clause-disks
-returns-in-Err-write_again-clause-disks g c =
+pub returns-in-Part-write_again-clause-disks : goal.returns-in-Part-write_again-clause-disks
+returns-in-Part-write_again-clause-disks g c =
     subst (λ ns. SameBeside ns (g.F.Shelf.disk c.args.shelf.now) (g.F.Shelf.disk c.give_back.new.shelf))
-    (names g (goal.at.returns-in-Err-write_again-clause-disks g c).In-Some)
-    (subst (λ s. SameBeside (journals c.in-Some.seats.items) (g.F.Shelf.disk s) (g.F.Shelf.disk c.give_back.new.shelf)) c.in-Some.ensures.untouched
-    c.give_back.ensures.disks)
+    (names g (goal.at.returns-in-Part-write_again-clause-disks g c).In-Some)
+    (subst (λ s. SameBeside (journals c.in-Some.seats.items) (g.F.Shelf.disk s) (g.F.Shelf.disk c.give_back.new.shelf))
+    c.in-Some.ensures.untouched c.give_back.ensures.disks)
 
--- ---- memory was wanting, and all disks are back
+-- ---- the sort found no memory
 
-pub write_behind-requires : goal.write_behind-requires
-write_behind-requires g c =
-    record {
-      closed = subst (λ ns. AllIn ns (g.F.Shelf.is_out c.reopen_all.new.shelf)) c.requires.registered c.in_default.ensures.inside;
-    }
+pub give_back-requires-in-Nothing-write_again-clause-distinct : goal.give_back-requires-in-Nothing-write_again-clause-distinct
+give_back-requires-in-Nothing-write_again-clause-distinct g c = (can g (goal.at.give_back-requires-in-Nothing-write_again-clause-distinct g c).In-Some).distinct
 
-pub returns-in-Ok-clause-ended : goal.returns-in-Ok-clause-ended
-returns-in-Ok-clause-ended g c = (
-  c.in_default.ensures.back,
-  λ told. c.in-Ok.ensures.all told ∙ ap (λ l. g.K.Sink.written c.args.sink.now ++ output_bytes l) c.as_slice.ensures.value,
+pub give_back-requires-in-Nothing-write_again-clause-out : goal.give_back-requires-in-Nothing-write_again-clause-out
+give_back-requires-in-Nothing-write_again-clause-out g c = (can g (goal.at.give_back-requires-in-Nothing-write_again-clause-out g c).In-Some).out
+
+pub give_back-requires-in-Nothing-write_again-clause-later : goal.give_back-requires-in-Nothing-write_again-clause-later
+give_back-requires-in-Nothing-write_again-clause-later g c = (can g (goal.at.give_back-requires-in-Nothing-write_again-clause-later g c).In-Some).later
+
+pub returns-in-Nothing-write_again-clause-ended : goal.returns-in-Nothing-write_again-clause-ended
+returns-in-Nothing-write_again-clause-ended g c = λ lines numbered below moved. (
+  true,
+  c.in-Some.seats.items,
+  c.in-Some.ensures.reopened,
+  c.give_back-in-Nothing-write_again.ensures.back,
+  false,
+  (λ told. c.in-Nothing-write_again.ensures.written told (lines ++ restarted_at c.args.count ∷ []) (last_numbered c.args.count lines numbered below)
+      (last_moved g (goal.at.returns-in-Nothing-write_again-clause-ended g c).After-push_reserved lines moved)
+      ∙ sym (append-nil (g.K.Sink.written c.args.sink.now))),
+  λ is. absurd cc,
 )
 
-pub returns-in-Err-clause-ended : goal.returns-in-Err-clause-ended
-returns-in-Err-clause-ended g c = (
+pub returns-in-Nothing-write_again-clause-inside : goal.returns-in-Nothing-write_again-clause-inside
+returns-in-Nothing-write_again-clause-inside g c =
+    λ none. subst (λ ns. AllIn ns (g.F.Shelf.is_out c.give_back-in-Nothing-write_again.new.shelf))
+    (names g (goal.at.returns-in-Nothing-write_again-clause-inside g c).In-Some)
+    c.give_back-in-Nothing-write_again.ensures.inside
+
+pub returns-in-Nothing-write_again-clause-others_out : goal.returns-in-Nothing-write_again-clause-others_out
+returns-in-Nothing-write_again-clause-others_out g c =
+    subst (λ ns. SameBeside ns (g.F.Shelf.is_out c.args.shelf.now) (g.F.Shelf.is_out c.give_back-in-Nothing-write_again.new.shelf))
+    (names g (goal.at.returns-in-Nothing-write_again-clause-others_out g c).In-Some)
+    (subst (λ s. SameBeside (journals c.in-Some.seats.items) (g.F.Shelf.is_out s) (g.F.Shelf.is_out c.give_back-in-Nothing-write_again.new.shelf))
+    c.in-Some.ensures.untouched c.give_back-in-Nothing-write_again.ensures.others_out)
+
+pub returns-in-Nothing-write_again-clause-counts : goal.returns-in-Nothing-write_again-clause-counts
+returns-in-Nothing-write_again-clause-counts g c =
+    subst (λ ns. SameBeside ns (g.F.Shelf.disk_faults c.args.shelf.now) (g.F.Shelf.disk_faults c.give_back-in-Nothing-write_again.new.shelf))
+    (names g (goal.at.returns-in-Nothing-write_again-clause-counts g c).In-Some)
+    (subst (λ s. SameBeside (journals c.in-Some.seats.items) (g.F.Shelf.disk_faults s) (g.F.Shelf.disk_faults c.give_back-in-Nothing-write_again.new.shelf))
+    c.in-Some.ensures.untouched c.give_back-in-Nothing-write_again.ensures.counts)
+
+pub returns-in-Nothing-write_again-clause-disks : goal.returns-in-Nothing-write_again-clause-disks
+returns-in-Nothing-write_again-clause-disks g c =
+    subst (λ ns. SameBeside ns (g.F.Shelf.disk c.args.shelf.now) (g.F.Shelf.disk c.give_back-in-Nothing-write_again.new.shelf))
+    (names g (goal.at.returns-in-Nothing-write_again-clause-disks g c).In-Some)
+    (subst (λ s. SameBeside (journals c.in-Some.seats.items) (g.F.Shelf.disk s) (g.F.Shelf.disk c.give_back-in-Nothing-write_again.new.shelf))
+    c.in-Some.ensures.untouched c.give_back-in-Nothing-write_again.ensures.disks)
+
+-- ---- memory was wanting at the openings, and all disks are back
+
+pub write_behind-requires-clause-closed : goal.write_behind-requires-clause-closed
+write_behind-requires-clause-closed g c κs within =
+    subst (λ ns. AllIn ns (g.F.Shelf.is_out c.reopen_all.new.shelf)) c.requires.registered c.in_default.ensures.inside
+
+pub returns-in-All-clause-ended : goal.returns-in-All-clause-ended
+returns-in-All-clause-ended g c = λ lines numbered below moved. (
+  false,
+  c.args.seats.items,
+  refl,
+  c.in_default.ensures.back,
+  true,
+  (λ told. c.in-All.ensures.written told lines numbered moved),
+  λ is. refl,
+)
+
+pub returns-in-Part-clause-ended : goal.returns-in-Part-clause-ended
+returns-in-Part-clause-ended g c = λ lines numbered below moved. (
   false,
   c.args.seats.items,
   refl,
   c.in_default.ensures.back,
   λ told.
-      let part = subst (λ l. AppendsPart (g.K.Sink.written c.args.sink.now) (g.K.Sink.written c.write_behind.new.sink) l)
-      (ap output_bytes c.as_slice.ensures.value ∙ sym (append-nil (output_bytes c.args.lines.now.items))) (c.in-Err.ensures.part told) in
+      let part = subst (AppendsPart (g.K.Sink.written c.args.sink.now) (g.K.Sink.written c.write_behind.new.sink))
+      (sym (append-nil (output_bytes lines))) (c.in-Part.ensures.written told lines numbered moved) in
       (part.0, part.2),
+)
+
+pub returns-in-Nothing-clause-ended : goal.returns-in-Nothing-clause-ended
+returns-in-Nothing-clause-ended g c = λ lines numbered below moved. (
+  false,
+  c.args.seats.items,
+  refl,
+  c.in_default.ensures.back,
+  false,
+  (λ told. c.in-Nothing.ensures.written told lines numbered moved ∙ sym (append-nil (g.K.Sink.written c.args.sink.now))),
+  λ is. refl,
 )

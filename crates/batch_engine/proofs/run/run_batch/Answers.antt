@@ -1,27 +1,92 @@
-use Rattle.std.proofs.Common.{inr, [], ◌++◌, take, map, refl, sym, subst, ◌∙◌, arith}
+use Rattle.std.proofs.Common.{inl, inr, [], ◌++◌, take, map, refl, sym, ap, subst, ◌∙◌, arith}
 use Rattle.cqe_base.specs.History.{UserProfile}
 use Rattle.log_journal.specs.Opening.{header_bytes}
 use Rattle.batch_engine.specs.BatchOf.{items_of}
 use Rattle.desk_crew.specs.Crew.{named_user}
 use Rattle.desk_crew.specs.Registered.{registered_journals}
-use Rattle.desk_crew.specs.Shelved.{journals_on}
+use Rattle.desk_crew.specs.Shelved.{journals_on, KeepsJournals}
 use Rattle.outside.specs.Shelf.{AllIn, SameBeside}
+use Rattle.cqe_base.specs.Schema.{Text, has_duplicate}
+use Rattle.batch_engine.proofs.Posts.{named_so}
 use Rattle.batch_engine.proofs.Running.{Stay, stay_run, runs_then}
 use Rattle.batch_engine.proofs.Failing.{run_broken, all_weaker}
+use Rattle.desk_crew.proofs.Lasting.{keeps_same, keeps_all}
 use Rattle.desk_crew.proofs.Rising.{some_rose}
 use Rattle.desk_crew.specs.Shelved.{AreBack}
 use Rattle.desk_crew.proofs.Giving.{AllReturned}
-use Rattle.desk_crew.proofs.Opening.{seats_limits, AllSeated, all_seated, all_returned}
+use Rattle.desk_crew.proofs.Taking.{seats_limits, AllSeated, all_seated, all_returned}
 use Rattle.batch_engine.proofs.Ending.{batch_begins, all_of, Finishes, finishes, some_alone, to_alone, told_all}
 use Rattle.batch_engine.proofs.run.run_batch.Given.{Over}
 use Rattle.batch_engine.proofs.run.run_batch.Goals as goal
 use Rattle.batch_engine.proofs.run.run_batch.Goals.{After-answer_all, In-Ok-open_all}
 
+-- ---- where nothing was answered, all journals are kept
+
+-- those of a shelf that wasn't touched
+same : (g : Over) (directory : Text) (shelf : _) → KeepsJournals (journals_on g.F.Shelf g.F.D.Disk directory shelf shelf)
+same g directory shelf =
+    keeps_same g.F.D.Disk directory (g.F.Shelf.disk shelf) (g.F.Shelf.disk shelf) (g.F.Shelf.disk_faults shelf) (g.F.Shelf.disk_faults shelf)
+    (g.met.F.D.Disk g.world.𝓛 g.world.𝓜 g.world.𝓡 ((λ s x. x), (λ x. x), (λ x. x), λ x. x)).only_now (λ name. refl)
+
 pub returns-in-Refused-clause-ends : goal.returns-in-Refused-clause-ends
 returns-in-Refused-clause-ends g c =
     λ shelf_told source_told sink_told.
     let reads = c.in-Refused.ensures.reads source_told in
-    (sym (batch_begins _ _ c.new.ensures) ∙ reads.0, (refl, λ name. (refl, λ crash left. left)), reads.1)
+    (sym (batch_begins _ _ c.new.ensures) ∙ reads.0, (refl, same g c.args.registry.now.directory.now c.args.shelf.now), reads.1)
+
+pub returns-in-Refused-clause-journals : goal.returns-in-Refused-clause-journals
+returns-in-Refused-clause-journals g c = λ shelf_told. same g c.args.registry.now.directory.now c.args.shelf.now
+
+pub returns-in-Fault-clause-ends : goal.returns-in-Fault-clause-ends
+returns-in-Fault-clause-ends g c = λ shelf_told source_told sink_told. (refl, same g c.args.registry.now.directory.now c.args.shelf.now)
+
+pub returns-in-Fault-clause-journals : goal.returns-in-Fault-clause-journals
+returns-in-Fault-clause-journals g c = λ shelf_told. same g c.args.registry.now.directory.now c.args.shelf.now
+
+pub returns-in-Memory-clause-ends : goal.returns-in-Memory-clause-ends
+returns-in-Memory-clause-ends g c = λ shelf_told source_told sink_told. inl (refl, same g c.args.registry.now.directory.now c.args.shelf.now)
+
+pub returns-in-Memory-clause-journals : goal.returns-in-Memory-clause-journals
+returns-in-Memory-clause-journals g c = λ shelf_told. inl (same g c.args.registry.now.directory.now c.args.shelf.now)
+
+pub returns-in_default-clause-ends : goal.returns-in_default-clause-ends
+returns-in_default-clause-ends g c = λ shelf_told source_told sink_told. inl (refl, same g c.args.registry.now.directory.now c.args.shelf.now)
+
+pub returns-in_default-clause-journals : goal.returns-in_default-clause-journals
+returns-in_default-clause-journals g c = λ shelf_told. inl (same g c.args.registry.now.directory.now c.args.shelf.now)
+
+-- and where an opening was given up
+pub returns-in-Err-Shelf-clause-ends : goal.returns-in-Err-Shelf-clause-ends
+returns-in-Err-Shelf-clause-ends g c = λ shelf_told source_told sink_told. (
+  (c.in-Whole.ensures.reads source_told).1,
+  (
+    refl,
+    keeps_all g.F.D.Disk c.args.registry.now.directory.now (g.F.Shelf.disk c.args.shelf.now) (g.F.Shelf.disk c.open_all.new.shelf)
+        (g.F.Shelf.disk_faults c.args.shelf.now) (g.F.Shelf.disk_faults c.open_all.new.shelf) (c.in-Err-Shelf.ensures.refused_bytes shelf_told)
+        (c.in-Err-Shelf.ensures.refused_images shelf_told) (c.in-Err-Shelf.ensures.refused_moments shelf_told),
+  ),
+)
+
+pub returns-in-Err-Shelf-clause-journals : goal.returns-in-Err-Shelf-clause-journals
+returns-in-Err-Shelf-clause-journals g c = λ shelf_told.
+    keeps_all g.F.D.Disk c.args.registry.now.directory.now (g.F.Shelf.disk c.args.shelf.now) (g.F.Shelf.disk c.open_all.new.shelf)
+    (g.F.Shelf.disk_faults c.args.shelf.now) (g.F.Shelf.disk_faults c.open_all.new.shelf) (c.in-Err-Shelf.ensures.refused_bytes shelf_told)
+    (c.in-Err-Shelf.ensures.refused_images shelf_told) (c.in-Err-Shelf.ensures.refused_moments shelf_told)
+
+pub returns-in-Err-Memory-clause-ends : goal.returns-in-Err-Memory-clause-ends
+returns-in-Err-Memory-clause-ends g c = λ shelf_told source_told sink_told.
+    inl (
+      refl,
+      keeps_all g.F.D.Disk c.args.registry.now.directory.now (g.F.Shelf.disk c.args.shelf.now) (g.F.Shelf.disk c.open_all.new.shelf)
+          (g.F.Shelf.disk_faults c.args.shelf.now) (g.F.Shelf.disk_faults c.open_all.new.shelf) (c.in-Err-Memory.ensures.refused_bytes shelf_told)
+          (c.in-Err-Memory.ensures.refused_images shelf_told) (c.in-Err-Memory.ensures.refused_moments shelf_told),
+    )
+
+pub returns-in-Err-Memory-clause-journals : goal.returns-in-Err-Memory-clause-journals
+returns-in-Err-Memory-clause-journals g c = λ shelf_told.
+    inl (keeps_all g.F.D.Disk c.args.registry.now.directory.now (g.F.Shelf.disk c.args.shelf.now) (g.F.Shelf.disk c.open_all.new.shelf)
+    (g.F.Shelf.disk_faults c.args.shelf.now) (g.F.Shelf.disk_faults c.open_all.new.shelf) (c.in-Err-Memory.ensures.refused_bytes shelf_told)
+    (c.in-Err-Memory.ensures.refused_images shelf_told) (c.in-Err-Memory.ensures.refused_moments shelf_told))
 
 -- ---- what follows from the opening of all journals
 
@@ -40,8 +105,9 @@ ending : (g : Over) (c : In-Ok-open_all g) (told : g.F.Shelf.tells) (after : _)
     g.F.D.Disk (journals_on g.F.Shelf g.F.D.Disk c.args.registry.now.directory.now c.args.shelf.now after)
     (map named_user c.args.registry.now.users.now) c.in-Ok-open_all.seats.items (g.F.Shelf.disk after) (g.F.Shelf.disk_faults after)
 ending g c told after =
+    let disk = g.met.F.D.Disk g.world.𝓛 g.world.𝓜 g.world.𝓡 ((λ s x. x), (λ x. x), (λ x. x), λ x. x) in
     finishes c.args.registry.now.schema.now c.args.registry.now.world.now (header_bytes c.args.registry.now.header.now) c.args.registry.now.directory.now
-    g.F.Shelf.tells told g.F.D.Disk (g.met.F.Shelf.tells_disks told) g.met.F.D.Disk.read_is_image g.met.F.D.Disk.only_now
+    g.F.Shelf.tells told g.F.D.Disk (g.met.F.Shelf.tells_disks told) disk.read_is_image disk.only_now
     (g.F.Shelf.disk c.args.shelf.now) (g.F.Shelf.disk after) (g.F.Shelf.disk_faults c.args.shelf.now) (g.F.Shelf.disk_faults after)
     (λ (user : UserProfile) entries bytes why. c.law_openings.ensures.unrefused c.args.registry.now.schema.now c.args.registry.now.world.now user
     c.args.registry.now.header.now bytes entries why)
@@ -51,26 +117,33 @@ ending g c told after =
     c.requires.limits c.requires.names c.in-Ok-open_all.seats.items c.in-Ok-open_all.ensures.opened
 
 pub answer_all-requires-clause-limits : goal.answer_all-requires-clause-limits
-answer_all-requires-clause-limits g c =
+answer_all-requires-clause-limits g c κs within =
     seats_limits c.args.registry.now.directory.now c.args.registry.now.schema.now c.args.registry.now.world.now
     (header_bytes c.args.registry.now.header.now) g.F.Shelf.tells g.F.D.Disk (g.F.Shelf.disk c.args.shelf.now)
     (g.F.Shelf.disk_faults c.args.shelf.now) c.args.registry.now.users.now c.in-Ok-open_all.seats.items c.in-Ok-open_all.ensures.opened
     (all_of _ c.args.registry.now.users.now c.requires.limits)
 
 pub answer_all-requires-clause-served : goal.answer_all-requires-clause-served
-answer_all-requires-clause-served g c = (seated g (goal.at.answer_all-requires-clause-served g c).In-Ok-open_all).served
+answer_all-requires-clause-served g c κs within = (seated g (goal.at.answer_all-requires-clause-served g c).In-Ok-open_all).served
 
 pub answer_all-requires-clause-registered : goal.answer_all-requires-clause-registered
-answer_all-requires-clause-registered g c = (seated g (goal.at.answer_all-requires-clause-registered g c).In-Ok-open_all).journals_are
+answer_all-requires-clause-registered g c κs within = (seated g (goal.at.answer_all-requires-clause-registered g c).In-Ok-open_all).journals_are
 
 pub answer_all-requires-clause-distinct : goal.answer_all-requires-clause-distinct
-answer_all-requires-clause-distinct g c = (seated g (goal.at.answer_all-requires-clause-distinct g c).In-Ok-open_all).distinct
+answer_all-requires-clause-distinct g c κs within = (seated g (goal.at.answer_all-requires-clause-distinct g c).In-Ok-open_all).distinct
 
 pub answer_all-requires-clause-later : goal.answer_all-requires-clause-later
-answer_all-requires-clause-later g c = (seated g (goal.at.answer_all-requires-clause-later g c).In-Ok-open_all).later
+answer_all-requires-clause-later g c κs within = (seated g (goal.at.answer_all-requires-clause-later g c).In-Ok-open_all).later
+
+pub answer_all-requires-clause-names : goal.answer_all-requires-clause-names
+answer_all-requires-clause-names g c κs within =
+    ap has_duplicate (named_so c.args.registry.now.directory.now c.args.registry.now.schema.now c.args.registry.now.world.now
+    (header_bytes c.args.registry.now.header.now) g.F.Shelf.tells g.F.D.Disk (g.F.Shelf.disk c.args.shelf.now)
+    (g.F.Shelf.disk_faults c.args.shelf.now) c.args.registry.now.users.now c.in-Ok-open_all.seats.items c.in-Ok-open_all.ensures.opened)
+    ∙ c.requires.names
 
 pub answer_all-requires-clause-refusals : goal.answer_all-requires-clause-refusals
-answer_all-requires-clause-refusals g c =
+answer_all-requires-clause-refusals g c κs within =
     let room = c.in-Ok.ensures.room in
     let count = (seated g (goal.at.answer_all-requires-clause-refusals g c).In-Ok-open_all).many in
     omega (arith, room, count)
@@ -117,6 +190,12 @@ returns-in-All-clause-counts g c =
     let at = goal.at.returns-in-All-clause-counts g c in
     let all = c.in-All.ensures.answered in
     (given g at.After-answer_all (seated g at.In-Ok-open_all) all.0 (stay_run _ _ _ _ _ _ _ _ _ all.1.runs) all.2).counts
+
+pub returns-in-All-clause-other_counts : goal.returns-in-All-clause-other_counts
+returns-in-All-clause-other_counts g c =
+    let at = goal.at.returns-in-All-clause-other_counts g c in
+    let all = c.in-All.ensures.answered in
+    (given g at.After-answer_all (seated g at.In-Ok-open_all) all.0 (stay_run _ _ _ _ _ _ _ _ _ all.1.runs) all.2).other_counts
 
 pub returns-in-All-clause-disks : goal.returns-in-All-clause-disks
 returns-in-All-clause-disks g c =
@@ -178,6 +257,13 @@ returns-in-Cut-clause-counts g c =
     (given g at.After-answer_all (seated g at.In-Ok-open_all) some.0
     (stay_run _ _ _ _ _ _ _ _ _ (runs_then _ _ _ _ _ _ _ _ _ _ _ _ _ some.1.first some.1.last)) some.2).counts
 
+pub returns-in-Cut-clause-other_counts : goal.returns-in-Cut-clause-other_counts
+returns-in-Cut-clause-other_counts g c =
+    let at = goal.at.returns-in-Cut-clause-other_counts g c in
+    let some = c.in-Cut.ensures.answered in
+    (given g at.After-answer_all (seated g at.In-Ok-open_all) some.0
+    (stay_run _ _ _ _ _ _ _ _ _ (runs_then _ _ _ _ _ _ _ _ _ _ _ _ _ some.1.first some.1.last)) some.2).other_counts
+
 pub returns-in-Cut-clause-disks : goal.returns-in-Cut-clause-disks
 returns-in-Cut-clause-disks g c =
     let at = goal.at.returns-in-Cut-clause-disks g c in
@@ -209,34 +295,44 @@ returns-in-Cut-clause-ends g c = λ shelf_told source_told sink_told.
       ),
     )
 
--- ---- where memory was wanting at a restart
+-- ---- where memory was wanting as a stretch began or ended
 
 pub returns-clause-disks : goal.returns-clause-disks
 returns-clause-disks g c =
     let at = goal.at.returns-clause-disks g c in
     let left = c.in-Memory-answer_all.ensures.answered in
-    (given g at.After-answer_all (seated g at.In-Ok-open_all) left.0 (stay_run _ _ _ _ _ _ _ _ _ left.1.all.runs) left.2).disks
+    (given g at.After-answer_all (seated g at.In-Ok-open_all) left.0
+    (stay_run _ _ _ _ _ _ _ _ _ (runs_then _ _ _ _ _ _ _ _ _ _ _ _ _ left.1.0.first left.1.0.last)) left.2).disks
 
 pub returns-clause-inside : goal.returns-clause-inside
 returns-clause-inside g c =
     let at = goal.at.returns-clause-inside g c in
     let left = c.in-Memory-answer_all.ensures.answered in
-    (given g at.After-answer_all (seated g at.In-Ok-open_all) left.0 (stay_run _ _ _ _ _ _ _ _ _ left.1.all.runs) left.2).inside
+    (given g at.After-answer_all (seated g at.In-Ok-open_all) left.0
+    (stay_run _ _ _ _ _ _ _ _ _ (runs_then _ _ _ _ _ _ _ _ _ _ _ _ _ left.1.0.first left.1.0.last)) left.2).inside
 
 pub returns-clause-counts : goal.returns-clause-counts
 returns-clause-counts g c =
     let at = goal.at.returns-clause-counts g c in
     let left = c.in-Memory-answer_all.ensures.answered in
-    (given g at.After-answer_all (seated g at.In-Ok-open_all) left.0 (stay_run _ _ _ _ _ _ _ _ _ left.1.all.runs) left.2).counts
+    (given g at.After-answer_all (seated g at.In-Ok-open_all) left.0
+    (stay_run _ _ _ _ _ _ _ _ _ (runs_then _ _ _ _ _ _ _ _ _ _ _ _ _ left.1.0.first left.1.0.last)) left.2).counts
+
+pub returns-clause-other_counts : goal.returns-clause-other_counts
+returns-clause-other_counts g c =
+    let at = goal.at.returns-clause-other_counts g c in
+    let left = c.in-Memory-answer_all.ensures.answered in
+    (given g at.After-answer_all (seated g at.In-Ok-open_all) left.0
+    (stay_run _ _ _ _ _ _ _ _ _ (runs_then _ _ _ _ _ _ _ _ _ _ _ _ _ left.1.0.first left.1.0.last)) left.2).other_counts
 
 pub returns-clause-journals : goal.returns-clause-journals
 returns-clause-journals g c = λ shelf_told.
     let left = c.in-Memory-answer_all.ensures.answered in
     inr (
       items_of c.in-Whole.batch,
-      left.1.all.output,
+      left.1.0.output ++ take 0 left.1.0.lines,
       (ending g (goal.at.returns-clause-journals g c).In-Ok-open_all shelf_told c.answer_all.new.shelf).to (Unit {0}) tt (items_of c.in-Whole.batch) left.0
-          [] left.1.all.output
+          [] (left.1.0.output ++ take 0 left.1.0.lines)
           (to_alone c.args.registry.now.schema.now c.args.registry.now.world.now (header_bytes c.args.registry.now.header.now)
           g.F.D.Disk g.K.Sink.tells (items_of c.in-Whole.batch) c.in-Ok-open_all.seats.items left.0 _ _ left.1) left.2,
     )

@@ -21,8 +21,8 @@ returns-then-is_empty-clause-answered g c = λ told.
     c.requires.sentences
     [] written written [] (told_nothing parts.schema parts.facts user (admitted parts.schema parts.facts user) [] written [] refl refl))
 
-pub told-reply-requires : goal.told-reply-requires
-told-reply-requires g c =
+pub told-reply-requires-after_bounds : goal.told-reply-requires-after_bounds
+told-reply-requires-after_bounds g c κs within =
     let short = short_item _ _ c.loop-text.text-index c.text-item.result c.deref-text-items.ensures.value c.loop-text-test.true c.text-item.is c.requires.short
     in
     subst (λ t. length t ≤ 4096) (sym c.as_str.ensures.value) short

@@ -20,7 +20,7 @@ pub returns-clause-read_cause : goal.returns-clause-read_cause
 returns-clause-read_cause g c = λ is. absurd (c.answer_all.ensures.no_read is)
 
 pub answer_all-requires-clause-limits : goal.answer_all-requires-clause-limits
-answer_all-requires-clause-limits g c = λ some.
+answer_all-requires-clause-limits g c κs within = λ some.
     let parts = c.in-Ok-into_parts.parts in
     let is = c.in-Ok-into_parts.ensures in
     let same = ap length is.asks in

@@ -12,7 +12,7 @@ returns-clause-line c =
     let n = c.args.clause.now.variables in
     let s = state_at c.args.clauses.now c.args.assignment.now.trail in
     let found = get_or_read s.clauses c.args.number c.clause.result.now c.requires.number c.clause.ensures [] in
-    let clause = ap (λ (m : Marking). m.clause) c.in_ok-append.ensures ∙ (λ i. c.requires.empty i ++ found i) in
+    let clause = ap (λ (m : Marking). m.clause) c.in_ok-append.ensures.appended ∙ (λ i. c.requires.empty i ++ found i) in
     let chain = c.in_ok-push.ensures.items ∙ ap (λ xs. xs ++ c.args.number ∷ []) c.new-chain.ensures.items in
     (λ i. line_with ((c.in_ok-literals.ensures.items ∙ c.literals.ensures) i) c.analyse.new.chain.items)
     ∙ c.in_ok-analyse.ensures.line

@@ -1,4 +1,4 @@
-use Rattle.std.proofs.Common.{◌≡◌, sym, ap, ◌∙◌, map, string_bytes, Option}
+use Rattle.std.proofs.Common.{sym, ap, ◌∙◌, map, string_bytes}
 use Rattle.std.specs.Prelude.{Some, option_map}
 use Rattle.command_words.specs.Readings.{FileNames, reading_in, names_of_files, runs_selfrun}
 use Rattle.cqe_top.specs.Steps.{reading_over, KeepsBounds}
@@ -10,30 +10,30 @@ use Rattle.cqe_top.proofs.command.run.Goals as goal
 -- a task over files keeps the bounds of its reading
 bounds_of : (files : FileNames) (task : Task) → Keeps (reading_over files task) → KeepsBounds task
 bounds_of files Init keeps = tt
-bounds_of files Batch keeps = tt
+bounds_of files (Batch workers) keeps = keeps
 bounds_of files (Audit user json) keeps = tt
 bounds_of files (Serve listening) keeps = keeps
 
 pub run_selfrun-end-requires-clause-some_user : goal.run_selfrun-end-requires-clause-some_user
-run_selfrun-end-requires-clause-some_user g c =
+run_selfrun-end-requires-clause-some_user g c κs within =
     let run = c.in-Selfrun.words in
     (kept (map string_bytes c.args.words.now) (runs_selfrun run.seed run.users run.asks)
     (sym c.in-Ok-Some.ensures ∙ ap (option_map reading_in) c.in-Ok-Some.field-0-is ∙ ap Some (sym c.in-Selfrun.ensures))).some_user
 
 pub run_selfrun-end-requires-clause-few_users : goal.run_selfrun-end-requires-clause-few_users
-run_selfrun-end-requires-clause-few_users g c =
+run_selfrun-end-requires-clause-few_users g c κs within =
     let run = c.in-Selfrun.words in
     (kept (map string_bytes c.args.words.now) (runs_selfrun run.seed run.users run.asks)
     (sym c.in-Ok-Some.ensures ∙ ap (option_map reading_in) c.in-Ok-Some.field-0-is ∙ ap Some (sym c.in-Selfrun.ensures))).few_users
 
 pub run_selfrun-end-requires-clause-some_ask : goal.run_selfrun-end-requires-clause-some_ask
-run_selfrun-end-requires-clause-some_ask g c =
+run_selfrun-end-requires-clause-some_ask g c κs within =
     let run = c.in-Selfrun.words in
     (kept (map string_bytes c.args.words.now) (runs_selfrun run.seed run.users run.asks)
     (sym c.in-Ok-Some.ensures ∙ ap (option_map reading_in) c.in-Ok-Some.field-0-is ∙ ap Some (sym c.in-Selfrun.ensures))).some_ask
 
 pub run_selfrun-end-requires-clause-few_asks : goal.run_selfrun-end-requires-clause-few_asks
-run_selfrun-end-requires-clause-few_asks g c =
+run_selfrun-end-requires-clause-few_asks g c κs within =
     let run = c.in-Selfrun.words in
     (kept (map string_bytes c.args.words.now) (runs_selfrun run.seed run.users run.asks)
     (sym c.in-Ok-Some.ensures ∙ ap (option_map reading_in) c.in-Ok-Some.field-0-is ∙ ap Some (sym c.in-Selfrun.ensures))).few_asks

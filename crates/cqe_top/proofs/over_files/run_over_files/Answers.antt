@@ -22,7 +22,8 @@ use Rattle.cqe_top.proofs.Causes.{files_cause, init_cause, batch_cause, audit_ca
 use Rattle.cqe_top.proofs.Finding.{is_named, one_named, named_at, nobody_named}
 use Rattle.cqe_top.proofs.Good.{unread, init_succeeds, batch_succeeds, audit_succeeds, nobody_succeeds}
 use Rattle.cqe_top.proofs.Over.{serve_over, init_caused, some_rose, same_journals, touches_over, init_over, others_over, bytes_over, images_over, batch_over}
-use Rattle.cqe_top.proofs.Over.{batch_left, serve_left, one_of}
+use Rattle.cqe_top.proofs.Over.{batch_left, serve_left, one_of, silent_end, counts_over, counted_over, moments_over}
+use Rattle.cqe_top.proofs.Over.{durable_over}
 use Rattle.cqe_top.proofs.Serving.{serve_succeeds, served_out}
 use Rattle.cqe_top.proofs.Users.{batch_names_are}
 use Rattle.cqe_top.proofs.over_files.run_over_files.Given.{Over}
@@ -31,7 +32,7 @@ use Rattle.cqe_top.proofs.over_files.run_over_files.Goals.{After-drop-inputs-5, 
 use Rattle.cqe_top.proofs.over_files.run_over_files.Goals.{After-drop-inputs-in-Init-3, After-drop-inputs-in_default-5, In-Err}
 
 pub run_batch-end-requires-clause-names : goal.run_batch-end-requires-clause-names
-run_batch-end-requires-clause-names g c =
+run_batch-end-requires-clause-names g c κs within =
     ap has_duplicate (ap (λ users. map (λ user. user.name) (map named_user users)) c.as_slice.ensures.value ∙ batch_names_are c.in-Ok.inputs.policy.users.items)
     ∙ c.in-Ok.ensures.names
 
@@ -97,6 +98,8 @@ returns-in-Init-clause-command g c =
         record {
           of_policy = refl;
           makes = made;
+          counts = counts_over g.F.Shelf g.F.D.Disk c.args.shelf.now c.read_files.new.shelf c.run_init-end.new.shelf read.disks read.counts files
+              inputs.policy c.as_slice.result.now c.as_slice.ensures.value ran.other_counts;
         },
       );
       looks = λ told. ran.looked ∙ read.both told;
@@ -146,7 +149,7 @@ returns-in-Batch-clause-command g c =
           of_policy = refl;
           touches = touches_over g.F.Shelf g.F.D.Disk c.args.shelf.now c.read_files.new.shelf c.run_batch-end.new.shelf read.disks read.counts files
               inputs.policy c.as_slice.result.now
-              c.as_slice.ensures.value ran.disks;
+              c.as_slice.ensures.value ran.disks ran.other_counts;
           journals = batch_left inputs.policy inputs.world (header_bytes inputs.header) c.as_slice.result.now _ _ c.run_batch-end.result
               (same_journals g.F.Shelf g.F.D.Disk c.args.shelf.now c.read_files.new.shelf c.run_batch-end.new.shelf read.disks read.counts files)
               c.as_slice.ensures.value
@@ -163,6 +166,7 @@ returns-in-Batch-clause-command g c =
         λ name. ap (λ shelf. g.F.Shelf.disk shelf name) (ran.unopened is) ∙ read.disks name,
         λ name. ap (λ shelf. g.F.Shelf.disk_faults shelf name) (ran.unopened is) ∙ read.counts name,
       );
+      silent = ran.silent;
     } in
     let does : OfBatch scene files (ends.Batch inputs.policy.users c.run_batch-end.result) = record {
       ends = runs;
@@ -254,8 +258,17 @@ returns-in-Audit-clause-command g c =
       others = λ told.
           others_over g.F.Shelf g.F.D.Disk c.args.shelf.now c.read_files.new.shelf c.run_audit.new.shelf read.disks read.counts files.directory name
           (string_bytes user.name) is ran.disks;
+      other_counts =
+          counted_over g.F.Shelf g.F.D.Disk c.args.shelf.now c.read_files.new.shelf c.run_audit.new.shelf read.disks read.counts files.directory name
+          (string_bytes user.name) is ran.other_counts;
       bytes = λ told. bytes_over g.F.Shelf g.F.D.Disk c.args.shelf.now c.read_files.new.shelf c.run_audit.new.shelf read.disks read.counts (ran.bytes told);
       images = λ told. images_over g.F.Shelf g.F.D.Disk c.args.shelf.now c.read_files.new.shelf c.run_audit.new.shelf read.disks read.counts (ran.images told);
+      moments = λ told. moments_over g.F.Shelf g.F.D.Disk c.args.shelf.now c.read_files.new.shelf c.run_audit.new.shelf read.disks read.counts
+          (ran.moments told);
+      durable = λ told done.
+          durable_over g.F.Shelf g.F.D.Disk c.args.shelf.now c.read_files.new.shelf c.run_audit.new.shelf read.disks read.counts files.directory name
+          (string_bytes user.name) is (ran.durable told done);
+      silent = silent_end c.run_audit.result ran.silent_fault ran.silent_memory;
     } in
     let does : OfAudit scene files name c.in-Audit.json (ends.Audit c.in-Audit.name c.run_audit.result) = record {
       ends = runs;
@@ -300,7 +313,7 @@ returns-clause-command g c =
           of_policy = refl;
           touches = touches_over g.F.Shelf g.F.D.Disk c.args.shelf.now c.read_files.new.shelf c.run_serve-end.new.shelf read.disks read.counts files
               inputs.policy c.as_slice.result.now
-              c.as_slice.ensures.value ran.disks;
+              c.as_slice.ensures.value ran.disks ran.other_counts;
           journals = serve_left inputs.policy inputs.world (header_bytes inputs.header) c.as_slice.result.now _ _ c.run_serve-end.result
               (same_journals g.F.Shelf g.F.D.Disk c.args.shelf.now c.read_files.new.shelf c.run_serve-end.new.shelf read.disks read.counts files)
               c.as_slice.ensures.value
@@ -321,6 +334,7 @@ returns-clause-command g c =
       few_ended = ran.few_ended;
       ends = λ told done. served_out scene.links listening.workers listening.sessions (ran.ended told done);
       left = ran.left;
+      left_all = ran.left_all;
       limited = ran.limited;
     } in
     let does : OfServe scene files listening.address.now listening.workers listening.sessions (ends.Serve inputs.policy.users c.run_serve-end.result) = record {

@@ -6,6 +6,7 @@ use Rattle.dimacs_text.proofs.reading.read_cnf.Goals as goal
 pub loop-number-init : goal.loop-number-init
 loop-number-init g c = record {
   so_far = λ told. file_starts _ _ _ c.new-problem.ensures c.new-buffer.ensures.ahead;
+  left = λ told bytes ends. ends;
   low = omega arith;
   held = refl;
   later = omega arith;

@@ -1,4 +1,6 @@
-use Rattle.std.proofs.Common.{◌≡◌, ◌≤◌, List, ℕ, false}
+use Rattle.std.proofs.Common.{◌≡◌, ◌≤◌, List, ℕ, false, map}
+use Rattle.outside.specs.Shelf.{SameBeside}
+use Rattle.log_journal.specs.Names.{journal_name}
 use Rattle.log_journal.specs.Opening.{header_bytes}
 use Rattle.init_engine.specs.Disks.{user_names, Readies}
 use Rattle.init_engine.proofs.init.run_init.Given as goal
@@ -10,6 +12,7 @@ invariant-loop-number g l = record {
       l.number l.number;
   out : (name : List ℕ) → g.F.Shelf.is_out l.shelf name ≡ false;
   counts : (name : List ℕ) → g.F.Shelf.disk_faults l.initial.shelf name ≤ g.F.Shelf.disk_faults l.shelf name;
+  other_counts : SameBeside (map (journal_name l.directory) (user_names l.users)) (g.F.Shelf.disk_faults l.initial.shelf) (g.F.Shelf.disk_faults l.shelf);
   files : (name : List ℕ) → g.F.Shelf.file l.shelf name ≡ g.F.Shelf.file l.initial.shelf name;
   looked : g.F.Shelf.looked l.shelf ≡ g.F.Shelf.looked l.initial.shelf;
   later : g.F.Shelf.faults l.initial.shelf ≤ g.F.Shelf.faults l.shelf;

@@ -7,6 +7,7 @@ pub loop-number-init : goal.loop-number-init
 loop-number-init g c = record {
   so_far = λ told. script_starts g.T.Script.step (g.T.Script.said c.args.start) _ _ c.new-buffer.ensures.ahead;
   cut = λ told. cut_starts _ _ c.new-buffer.ensures.ahead;
+  left = λ told bytes ends. ends;
   low = omega arith;
   held = refl;
   later = omega arith;

@@ -13,7 +13,7 @@ use Rattle.selfrun_engine.proofs.Undisturbed.{batch_undisturbed}
 use Rattle.selfrun_engine.proofs.run.answers.Goals as goal
 
 pub run_batch-requires-clause-names : goal.run_batch-requires-clause-names
-run_batch-requires-clause-names g c =
+run_batch-requires-clause-names g c κs within =
     ap has_duplicate (ap (λ users. map (λ user. user.name) (map named_user users)) c.as_slice-users.ensures.value
     ∙ batch_names_are c.args.policy.now.users.items) ∙ c.requires.names
 

@@ -5,7 +5,7 @@ use Rattle.selfrun_engine.proofs.Workloads.{names_differ, tallied}
 use Rattle.selfrun_engine.proofs.run.run.Goals as goal
 
 pub answers-requires-clause-names : goal.answers-requires-clause-names
-answers-requires-clause-names g c = names_differ c.in-Ok.policy c.in-Ok.ensures.kept
+answers-requires-clause-names g c κs within = names_differ c.in-Ok.policy c.in-Ok.ensures.kept
 
 pub returns : goal.returns
 returns g c =

@@ -1,8 +1,9 @@
-use Rattle.std.proofs.Common.{inr, ◌++◌, ◌+◌, ap, sym, ◌∙◌, arith}
+use Rattle.std.proofs.Common.{inl, inr, ◌++◌, refl, ◌+◌, ap, sym, ◌∙◌, arith}
 use Rattle.std.specs.List.{sum_by, flat_map}
 use Rattle.outside.specs.Visits.{one_if_any}
 use Rattle.log_journal.specs.Opening.{header_bytes}
 use Rattle.desk_crew.specs.Shelved.{journals_by}
+use Rattle.desk_crew.proofs.Lasting.{keeps_same}
 use Rattle.serve_engine.proofs.Connections.{ends_of, new_given, at_end, leaves_journals, few_ended, not_longer}
 use Rattle.serve_engine.proofs.run.run_serve.Goals as goal
 
@@ -50,6 +51,19 @@ returns-clause-left g c links_told all =
     let at_hand = back.at_hand links_told in
     omega (arith, all, none, spread, same, served, left, at_hand)
 
+pub returns-clause-left_all : goal.returns-clause-left_all
+returns-clause-left_all g c links_told all =
+    let heard = c.in-Ok.ensures in
+    let back = c.take_back_all.ensures in
+    let none = new_given g.L.D.Door c.in-Ok.doors.items (heard.fresh links_told) in
+    let spread = heard.spread links_told in
+    let same = heard.left links_told in
+    let served = c.serve_opened-end.ensures.left (g.met.L.Links.tells_doors links_told) in
+    let left = back.left links_told in
+    let gave = back.given links_told in
+    let was = heard.given links_told in
+    omega (arith, all, none, spread, same, served, left, gave, was)
+
 pub returns-clause-limited : goal.returns-clause-limited
 returns-clause-limited g c links_told =
     let heard = c.in-Ok.ensures in
@@ -85,3 +99,43 @@ returns-clause-few_ended g c =
     let many = c.serve_opened-end.ensures.doors in
     let count = c.in-Ok.ensures.count in
     omega (arith, heard, back, few, many, count)
+
+-- ---- where nothing was listened to, all journals are kept
+
+pub returns-in-Err-Failed-clause-ends : goal.returns-in-Err-Failed-clause-ends
+returns-in-Err-Failed-clause-ends g c = λ shelf_told links_told.
+    inl (record {
+      given_same = c.listen.ensures.given links_told;
+      back_same = c.listen.ensures.back links_told;
+      kept = keeps_same g.F.D.Disk c.args.registry.now.directory.now (g.F.Shelf.disk c.args.shelf.now) (g.F.Shelf.disk c.args.shelf.now)
+          (g.F.Shelf.disk_faults c.args.shelf.now) (g.F.Shelf.disk_faults c.args.shelf.now)
+          (g.met.F.D.Disk g.world.𝓛 g.world.𝓜 g.world.𝓡 ((λ s x. x), (λ x. x), (λ x. x), λ x. x)).only_now (λ name. refl);
+    })
+
+pub returns-in-Err-Failed-clause-journals : goal.returns-in-Err-Failed-clause-journals
+returns-in-Err-Failed-clause-journals g c = λ shelf_told.
+    inl (keeps_same g.F.D.Disk c.args.registry.now.directory.now (g.F.Shelf.disk c.args.shelf.now) (g.F.Shelf.disk c.args.shelf.now)
+    (g.F.Shelf.disk_faults c.args.shelf.now) (g.F.Shelf.disk_faults c.args.shelf.now)
+    (g.met.F.D.Disk g.world.𝓛 g.world.𝓜 g.world.𝓡 ((λ s x. x), (λ x. x), (λ x. x), λ x. x)).only_now (λ name. refl))
+
+pub returns-in-Err-Memory-clause-ends : goal.returns-in-Err-Memory-clause-ends
+returns-in-Err-Memory-clause-ends g c = λ shelf_told links_told.
+    inl (record {
+      given_same = c.listen.ensures.given links_told;
+      back_same = c.listen.ensures.back links_told;
+      kept = keeps_same g.F.D.Disk c.args.registry.now.directory.now (g.F.Shelf.disk c.args.shelf.now) (g.F.Shelf.disk c.args.shelf.now)
+          (g.F.Shelf.disk_faults c.args.shelf.now) (g.F.Shelf.disk_faults c.args.shelf.now)
+          (g.met.F.D.Disk g.world.𝓛 g.world.𝓜 g.world.𝓡 ((λ s x. x), (λ x. x), (λ x. x), λ x. x)).only_now (λ name. refl);
+    })
+
+pub returns-in-Err-Memory-clause-journals : goal.returns-in-Err-Memory-clause-journals
+returns-in-Err-Memory-clause-journals g c = λ shelf_told.
+    inl (keeps_same g.F.D.Disk c.args.registry.now.directory.now (g.F.Shelf.disk c.args.shelf.now) (g.F.Shelf.disk c.args.shelf.now)
+    (g.F.Shelf.disk_faults c.args.shelf.now) (g.F.Shelf.disk_faults c.args.shelf.now)
+    (g.met.F.D.Disk g.world.𝓛 g.world.𝓜 g.world.𝓡 ((λ s x. x), (λ x. x), (λ x. x), λ x. x)).only_now (λ name. refl))
+
+pub returns-in-Err-Failed-clause-left_all : goal.returns-in-Err-Failed-clause-left_all
+returns-in-Err-Failed-clause-left_all g c links_told all = λ i. c.listen.ensures.given links_told i + c.listen.ensures.left links_told i
+
+pub returns-in-Err-Memory-clause-left_all : goal.returns-in-Err-Memory-clause-left_all
+returns-in-Err-Memory-clause-left_all g c links_told all = λ i. c.listen.ensures.given links_told i + c.listen.ensures.left links_told i

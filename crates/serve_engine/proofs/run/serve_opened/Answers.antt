@@ -1,10 +1,11 @@
-use Rattle.std.proofs.Common.{◌∙◌, length, map, sym, ap, subst, arith}
+use Rattle.std.proofs.Common.{◌∙◌, length, map, inl, refl, sym, ap, subst, arith}
 use Rattle.log_journal.specs.Opening.{header_bytes}
 use Rattle.desk_crew.specs.Registered.{registered_journals}
 use Rattle.desk_crew.specs.Shelved.{journals_on}
+use Rattle.desk_crew.proofs.Lasting.{keeps_same, keeps_all}
 use Rattle.desk_crew.proofs.Rising.{some_rose, any_failed}
 use Rattle.desk_crew.proofs.Giving.{CanGive, AllReturned}
-use Rattle.desk_crew.proofs.Opening.{AllSeated, all_seated}
+use Rattle.desk_crew.proofs.Taking.{AllSeated, all_seated}
 use Rattle.serve_engine.specs.Serving.{HaveServed, EndsDoors, IsDone, IsBroken}
 use Rattle.serve_engine.specs.Served.{Served}
 use Rattle.serve_engine.specs.Sharing.{seat_member, IsServedAt}
@@ -14,6 +15,42 @@ use Rattle.serve_engine.proofs.Histories.{ended_at, failed_at, ends_at, own_from
 use Rattle.serve_engine.proofs.run.serve_opened.Given.{Over}
 use Rattle.serve_engine.proofs.run.serve_opened.Goals as goal
 use Rattle.serve_engine.proofs.run.serve_opened.Goals.{After-end_of, After-give_back-arg-1, In-Ok-open_all}
+
+pub open_all-requires-clause-some : goal.open_all-requires-clause-some
+open_all-requires-clause-some g c κs within =
+    let some = c.requires.some in
+    let items = c.args.doors.ok.0 in
+    let count = c.len-workers.ensures in
+    omega (arith, some, items, count)
+
+-- ---- where no journal was opened, all are kept
+
+pub returns-in_default-clause-ends : goal.returns-in_default-clause-ends
+returns-in_default-clause-ends g c = λ shelf_told.
+    inl (record {
+      doors_same = refl;
+      kept = keeps_same g.F.D.Disk c.args.registry.now.directory.now (g.F.Shelf.disk c.args.shelf.now) (g.F.Shelf.disk c.args.shelf.now)
+          (g.F.Shelf.disk_faults c.args.shelf.now) (g.F.Shelf.disk_faults c.args.shelf.now)
+          (g.met.F.D.Disk g.world.𝓛 g.world.𝓜 g.world.𝓡 ((λ s x. x), (λ x. x), (λ x. x), λ x. x)).only_now (λ name. refl);
+    })
+
+pub returns-in-Err-Shelf-clause-ends : goal.returns-in-Err-Shelf-clause-ends
+returns-in-Err-Shelf-clause-ends g c = λ shelf_told.
+    record {
+      doors_same = refl;
+      kept = keeps_all g.F.D.Disk c.args.registry.now.directory.now (g.F.Shelf.disk c.args.shelf.now) (g.F.Shelf.disk c.open_all.new.shelf)
+          (g.F.Shelf.disk_faults c.args.shelf.now) (g.F.Shelf.disk_faults c.open_all.new.shelf) (c.in-Err-Shelf.ensures.refused_bytes shelf_told)
+          (c.in-Err-Shelf.ensures.refused_images shelf_told) (c.in-Err-Shelf.ensures.refused_moments shelf_told);
+    }
+
+pub returns-in-Err-Memory-clause-ends : goal.returns-in-Err-Memory-clause-ends
+returns-in-Err-Memory-clause-ends g c = λ shelf_told.
+    inl (record {
+      doors_same = refl;
+      kept = keeps_all g.F.D.Disk c.args.registry.now.directory.now (g.F.Shelf.disk c.args.shelf.now) (g.F.Shelf.disk c.open_all.new.shelf)
+          (g.F.Shelf.disk_faults c.args.shelf.now) (g.F.Shelf.disk_faults c.open_all.new.shelf) (c.in-Err-Memory.ensures.refused_bytes shelf_told)
+          (c.in-Err-Memory.ensures.refused_images shelf_told) (c.in-Err-Memory.ensures.refused_moments shelf_told);
+    })
 
 -- ---- what follows from the opening of all journals
 
@@ -82,6 +119,9 @@ returns-clause-inside g c = (returned g c).inside
 
 pub returns-clause-counts : goal.returns-clause-counts
 returns-clause-counts g c = (returned g c).counts
+
+pub returns-clause-other_counts : goal.returns-clause-other_counts
+returns-clause-other_counts g c = (returned g c).other_counts
 
 pub returns-clause-ends : goal.returns-clause-ends
 returns-clause-ends g c shelf_told =

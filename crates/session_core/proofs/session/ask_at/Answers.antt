@@ -20,7 +20,7 @@ index_mut-pass-requires g c =
     omega (arith, c.requires.place, passes_many passes.items counters c.requires.passes.are, length-map counters kept_by, passes.ok.0)
 
 pub ask-requires-clause-pass : goal.ask-requires-clause-pass
-ask-requires-clause-pass g c =
+ask-requires-clause-pass g c κs within =
     let passes = c.args.passes.now.passes.items in
     let counters = c.args.counters.now.counters.items in
     let place = c.args.place in
@@ -30,7 +30,7 @@ ask-requires-clause-pass g c =
     (pass_at passes counters place c.index_mut-pass.result.now c.index-counter.result.now low c.requires.passes.are))
 
 pub ask-requires-clause-turns : goal.ask-requires-clause-turns
-ask-requires-clause-turns g c =
+ask-requires-clause-turns g c κs within =
     let passes = c.args.passes.now.passes.items in
     let counters = c.args.counters.now.counters.items in
     let low : c.args.place < length passes = omega (arith, c.requires.place, passes_many passes counters c.requires.passes.are, length-map counters kept_by) in

@@ -22,6 +22,7 @@ loop-init g c =
           (ap (λ a. a ++ left) c.new-buffer.ensures.ahead);
       passes = c.requires.passes;
       place = tt;
+      left = λ told bytes ends. ends;
       held = refl;
       answers = refl;
       source_later = omega arith;
@@ -49,10 +50,11 @@ pub returns-in-ReadFault-clause-read_cause : goal.returns-in-ReadFault-clause-re
 returns-in-ReadFault-clause-read_cause g c = λ is. rose_since _ _ _ c.loop.invariant.source_later (c.in-ReadFault.ensures.cause refl)
 
 pub reply_to-next-requires-clause-turns : goal.reply_to-next-requires-clause-turns
-reply_to-next-requires-clause-turns g c = turns_left _ _ _ _ _ _ _ _ _ _ _ _ c.loop.invariant.so_far (omega (arith, c.loop-test.true)) c.requires.turns
+reply_to-next-requires-clause-turns g c κs within =
+    turns_left _ _ _ _ _ _ _ _ _ _ _ _ c.loop.invariant.so_far (omega (arith, c.loop-test.true)) c.requires.turns
 
 pub reply_to-next-requires-clause-short : goal.reply_to-next-requires-clause-short
-reply_to-next-requires-clause-short g c = subst IsShort (sym c.read_request-request.ensures) (short_request c.line.result.now c.line.ensures.short)
+reply_to-next-requires-clause-short g c κs within = subst IsShort (sym c.read_request-request.ensures) (short_request c.line.result.now c.line.ensures.short)
 
 pub returns-in-Err-clause-session : goal.returns-in-Err-clause-session
 returns-in-Err-clause-session g c =
@@ -101,6 +103,7 @@ loop-preserved g c =
           (sym (ap is_quit same) ∙ sym c.is_quit.ensures ∙ c.if-is_quit.false);
       passes = c.reply_to-next.ensures.passes;
       place = c.reply_to-next.ensures.place;
+      left = λ told bytes ends. c.in-Line.ensures.left told bytes (before.left told bytes ends);
       held = c.in-Line.ensures.held ∙ before.held;
       answers = c.write_reply.ensures.answers ∙ before.answers;
       source_later = omega (arith, before.source_later, c.in-Line.ensures.later);
@@ -130,3 +133,23 @@ returns-then-is_quit-clause-hides g c =
 
 pub returns-clause-hides : goal.returns-clause-hides
 returns-clause-hides g c = all_hide c.law_hides.ensures (fixeds_of c.args.counters.now) (passes_in c.loop.passes) c.loop.invariant.passes.legal
+
+-- ---- what is left of the source
+
+pub returns-in-End-clause-left : goal.returns-in-End-clause-left
+returns-in-End-clause-left g c = λ told bytes ends. c.in-End.ensures.left told bytes (c.loop.invariant.left told bytes ends)
+
+pub returns-in-TooLong-clause-left : goal.returns-in-TooLong-clause-left
+returns-in-TooLong-clause-left g c = λ told bytes ends. c.in-TooLong.ensures.left told bytes (c.loop.invariant.left told bytes ends)
+
+pub returns-in-ReadFault-clause-left : goal.returns-in-ReadFault-clause-left
+returns-in-ReadFault-clause-left g c = λ told bytes ends. c.in-ReadFault.ensures.left told bytes (c.loop.invariant.left told bytes ends)
+
+pub returns-in-Err-clause-left : goal.returns-in-Err-clause-left
+returns-in-Err-clause-left g c = λ told bytes ends. c.in-Line.ensures.left told bytes (c.loop.invariant.left told bytes ends)
+
+pub returns-then-is_quit-clause-left : goal.returns-then-is_quit-clause-left
+returns-then-is_quit-clause-left g c = λ told bytes ends. c.in-Line.ensures.left told bytes (c.loop.invariant.left told bytes ends)
+
+pub returns-clause-left : goal.returns-clause-left
+returns-clause-left g c = c.loop.invariant.left

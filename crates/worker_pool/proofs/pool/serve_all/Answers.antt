@@ -1,7 +1,8 @@
 use Rattle.std.proofs.Common.{rules, ◌≡◌, ◌≤◌, map, ap, ◌∙◌, sym, subst, All}
+use Rattle.list_sums.proofs.Lent.{lent_whole}
 use Rattle.worker_pool.specs.declared.pool.Seated.{Seated}
 use Rattle.worker_pool.specs.Drawers.{IsAt}
-use Rattle.worker_pool.proofs.Seating.{in_seats, lent_whole}
+use Rattle.worker_pool.proofs.Seating.{in_seats}
 use Rattle.worker_pool.proofs.Serving.{together}
 use Rattle.worker_pool.proofs.pool.serve_all.Goals as goal
 

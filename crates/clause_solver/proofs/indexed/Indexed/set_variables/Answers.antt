@@ -21,7 +21,7 @@ returns-clause-kept c =
     (c.in_ok-set_variables-2.ensures.watches s.assignment.variables s.assignment.trail k.indexed.looked.watches
     (below_same c.args.variables s.clauses s.watches.sorted k.indexed.looked.same c.requires.below))
     (subst (HaveSameLiterals s.clauses) (sym c.set_variables-2.ensures.sorted) k.indexed.looked.same)
-    (c.in_ok-set_variables-3.ensures ∙ ap (λ (m : Marking). record m { variables = c.args.variables }) k.indexed.looked.idle)
+    (c.in_ok-set_variables-3.ensures.set ∙ ap (λ (m : Marking). record m { variables = c.args.variables }) k.indexed.looked.idle)
 
 pub returns-clause-bases : goal.returns-clause-bases
 returns-clause-bases c =

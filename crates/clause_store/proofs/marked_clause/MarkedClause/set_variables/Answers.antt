@@ -2,6 +2,7 @@ use Rattle.std.proofs.Common.{◌≡◌, ◌∙◌, ℕ, [], false, get_or, ap, 
 use Rattle.cqe_base.specs.Literal.{has_literal}
 use Rattle.clause_store.specs.Codes.{code_of, literal_of_code, code_of-literal_of_code}
 use Rattle.clause_store.specs.Marking.{Marking, AreMarksOf}
+use Rattle.clause_store.proofs.Marking.{at_refusal}
 use Rattle.clause_store.proofs.marked_clause.MarkedClause.set_variables.Goals as goal
 
 pub invariant_of-self : goal.invariant_of-self
@@ -20,3 +21,6 @@ invariant_of-self-2 c =
       room = c.in_ok-resize.ensures.length;
       marked = λ l. c.in_ok-resize.ensures.none none (code_of l) ∙ sym (ap (λ ls. has_literal ls l) empty);
     }
+
+pub returns-in_err-resize-clause-refused : goal.returns-in_err-resize-clause-refused
+returns-in_err-resize-clause-refused c = at_refusal c.from_residual.result c.self.view_is

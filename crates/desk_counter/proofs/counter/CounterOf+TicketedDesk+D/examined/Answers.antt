@@ -15,24 +15,27 @@ use Rattle.desk_counter.proofs.counter.CounterOf+TicketedDesk+D.examined.Goals a
 pub returns-then-shares-eq-ALL_SHARES-clause-looked : goal.returns-then-shares-eq-ALL_SHARES-clause-looked
 returns-then-shares-eq-ALL_SHARES-clause-looked g c = looked_not (kept_by c.args.self.now) c.args.pass.now
 
+pub returns-then-is_large-clause-looked : goal.returns-then-is_large-clause-looked
+returns-then-is_large-clause-looked g c = looked_not (kept_by c.args.self.now) c.args.pass.now
+
 pub returns-in_err-query-clause-looked : goal.returns-in_err-query-clause-looked
 returns-in_err-query-clause-looked g c = looked_not (kept_by c.args.self.now) c.args.pass.now
 
 pub examine-requires-clause-schema : goal.examine-requires-clause-schema
-examine-requires-clause-schema g c = c.in_ok-view.ensures.lent.schema_is ∙ sym c.args.self.now.schemed
+examine-requires-clause-schema g c κs within = c.in_ok-lent.ensures.lent.schema_is ∙ sym c.args.self.now.schemed
 
 pub examine-requires-clause-fits : goal.examine-requires-clause-fits
-examine-requires-clause-fits g c =
+examine-requires-clause-fits g c κs within =
     let self = c.args.self.now in
-    let lent = c.in_ok-view.ensures.lent in
+    let lent = c.in_ok-lent.ensures.lent in
     let query = sentence_of c.in_ok-query.query in
-    subst (λ s. log_nodes s (log_of c.in_ok-view.view) + nodes s query ≤ 60000) (sym self.schemed)
+    subst (λ s. log_nodes s (log_of c.in_ok-lent.lent) + nodes s query ≤ 60000) (sym self.schemed)
     (subst (λ told. log_nodes (kept_by self).schema told + nodes (kept_by self).schema query ≤ 60000) (sym lent.log_is) lent.fits)
 
 pub returns-clause-examined : goal.returns-clause-examined
 returns-clause-examined g c =
     let self = c.args.self.now in
-    let lent = c.in_ok-view.ensures.lent in
+    let lent = c.in_ok-lent.ensures.lent in
     let grow = c.law_logs.ensures.grows in
     examined_behind (kept_by self) (seen c.lend.new.pass) c.args.text.now c.examine.result (examiner_schema self.examiner) (examiner_user self.examiner)
     self.schemed self.owned

@@ -15,19 +15,19 @@ use Rattle.desk_counter.proofs.counter.CounterOf+TicketedDesk+D.lend.Goals as go
 pub leave-requires-clause-grows : goal.leave-requires-clause-grows
 leave-requires-clause-grows g c =
     let began = ap (λ (v : View TurnItem (Fixed g.row.D.Denot)). v.seen) c.enter-turn.ensures.view in
-    inl (c.lend-view.ensures.pairs ∙ sym began)
+    inl (c.lend-lent.ensures.pairs ∙ sym began)
 
 pub returns-clause-used : goal.returns-clause-used
 returns-clause-used g c =
     let behind = turns_used (kept_by c.args.self.now) (view_of c.args.pass.now) (view_of c.leave.new.pass) _ c.enter-turn.result.ticket
-    (pairs_in c.enter-turn.result.value) (pairs_in c.lend-view.new.self) c.enter-turn.ensures.view c.leave.ensures.view in
+    (pairs_in c.enter-turn.result.value) (pairs_in c.lend-lent.new.self) c.enter-turn.ensures.view c.leave.ensures.view in
     omega (arith, behind.1, c.requires.turns)
 
 pub returns-clause-looked : goal.returns-clause-looked
 returns-clause-looked g c =
     let entered = c.enter-turn.ensures in
-    looked_in_turn (kept_by c.args.self.now) c.enter-turn.result.ticket (pairs_in c.enter-turn.result.value) (pairs_in c.lend-view.new.self) _
-    entered.view entered.later entered.whole entered.mine c.leave.ensures.view c.leave.ensures.mine c.lend-view.ensures.pairs
+    looked_in_turn (kept_by c.args.self.now) c.enter-turn.result.ticket (pairs_in c.enter-turn.result.value) (pairs_in c.lend-lent.new.self) _
+    entered.view entered.later entered.whole entered.mine c.leave.ensures.view c.leave.ensures.mine c.lend-lent.ensures.pairs
 
 pub returns-clause-lent : goal.returns-clause-lent
 returns-clause-lent g c =
@@ -36,7 +36,7 @@ returns-clause-lent g c =
     let query = sentence_of c.args.query.now in
     let same = one_fixed _ (fixed_in value) kept c.enter-turn.ensures.fixed c.requires.pass.kept in
     let saw : seen c.leave.new.pass ≡ pairs_in value =
-    ap (λ (v : View TurnItem (Fixed g.row.D.Denot)). v.seen) c.leave.ensures.view ∙ c.lend-view.ensures.pairs in
-    subst (λ ps. IfSome c.lend-view.result (IsLent kept.schema kept.user (history_of ps) query)) (sym saw)
-    (subst (λ (f : Fixed g.row.D.Denot). IfSome c.lend-view.result (IsLent f.schema f.user (history_of (pairs_in value)) query)) same
-    c.lend-view.ensures.lent)
+    ap (λ (v : View TurnItem (Fixed g.row.D.Denot)). v.seen) c.leave.ensures.view ∙ c.lend-lent.ensures.pairs in
+    subst (λ ps. IfSome c.lend-lent.result (IsLent kept.schema kept.user (history_of ps) query)) (sym saw)
+    (subst (λ (f : Fixed g.row.D.Denot). IfSome c.lend-lent.result (IsLent f.schema f.user (history_of (pairs_in value)) query)) same
+    c.lend-lent.ensures.lent)

@@ -2,13 +2,13 @@ use Rattle.std.proofs.Common.{ap, sym, ◌∙◌, subst, refl, ℕ, List, true, 
 use Rattle.std.specs.Prelude.{◌↔◌, IsTrue, IfSome}
 use Rattle.user_log.specs.declared.reply.Reply.TheVariants.{Broken}
 use Rattle.user_log.specs.Examining.{IsExamined}
-use Rattle.user_desk.specs.Desks.{desk_schema, desk_user, desk_history, entry_in_flight}
+use Rattle.user_desk.specs.Desks.{desk_schema, desk_user, desk_history, desk_disk, entry_in_flight}
 use Rattle.desk_counter.specs.Items.{pairs_of}
 use Rattle.desk_counter.specs.Desks.{fixed_of}
 use Rattle.desk_counter.specs.Asks.{Adds, wanted}
 use Rattle.desk_counter.proofs.Settling.{not_mark}
 use Rattle.desk_counter.proofs.DeskSettles.{broke_pairs, broken_adds, same_fixed, desk_changes, desk_adds_mark, desk_adds_broke, desk_adds_none, counted_mark}
-use Rattle.desk_counter.proofs.DeskSettles.{counted_broke, counted_none, history_in}
+use Rattle.desk_counter.proofs.DeskSettles.{counted_broke, counted_none, history_in, broken_stops, whole_stops}
 use Rattle.desk_counter.proofs.ticketed_desk.TicketedDesk.settle.Goals as goal
 
 pub settle-reply-requires-clause-examined : goal.settle-reply-requires-clause-examined
@@ -26,6 +26,18 @@ returns-then-broken-clause-broken g c =
       λ same. broke_pairs value.tickets.items (desk_history value.desk) value.broke (entry_in_flight value.desk) ∙ (sym c.broken.ensures ∙ c.if-broken.true),
       λ is. refl,
     )
+
+pub returns-then-broken-clause-moments : goal.returns-then-broken-clause-moments
+returns-then-broken-clause-moments g c told served c' here =
+    let desk = c.args.self.now.desk in
+    broken_stops desk c.args.text.now (sym c.broken.ensures ∙ c.if-broken.true) c.known.ensures.idle c'
+    (c.known.ensures.images told served c' (g.met.D.Disk.only_now (desk_disk desk) c' here))
+
+pub returns-then-is_err-clause-moments : goal.returns-then-is_err-clause-moments
+returns-then-is_err-clause-moments g c told served c' here =
+    let desk = c.args.self.now.desk in
+    whole_stops desk c.args.text.now (sym c.broken.ensures ∙ c.if-broken.false) c'
+    (c.known.ensures.images told served c' (g.met.D.Disk.only_now (desk_disk desk) c' here))
 
 pub returns-then-is_err-clause-adds : goal.returns-then-is_err-clause-adds
 returns-then-is_err-clause-adds g c =
@@ -100,6 +112,9 @@ returns-in-Mark-clause-broken g c =
     (sym (broke_pairs c.push_reserved.new.self.items (desk_history c.settle-reply.new.self) c.args.self.now.broke
     (entry_in_flight c.settle-reply.new.self))) c.settle-reply.ensures.broken
 
+pub returns-in-Mark-clause-moments : goal.returns-in-Mark-clause-moments
+returns-in-Mark-clause-moments g c = c.settle-reply.ensures.moments
+
 pub returns-in-Broken-clause-adds : goal.returns-in-Broken-clause-adds
 returns-in-Broken-clause-adds g c =
     let value = c.args.self.now in
@@ -122,6 +137,9 @@ returns-in-Broken-clause-broken g c =
     (sym (broke_pairs c.reserve.new.self.items (desk_history c.settle-reply.new.self) c.args.ticket (entry_in_flight c.settle-reply.new.self)))
     c.settle-reply.ensures.broken
 
+pub returns-in-Broken-clause-moments : goal.returns-in-Broken-clause-moments
+returns-in-Broken-clause-moments g c = c.settle-reply.ensures.moments
+
 pub returns-in_default : goal.returns-in_default
 returns-in_default g c =
     let value = c.args.self.now in
@@ -140,4 +158,7 @@ returns-in_default g c =
           (sym c.reserve.ensures.items) adds;
       broken = subst (λ b. (c.settle-reply.result ≡ Broken) ↔ IsTrue b)
           (sym (broke_pairs c.reserve.new.self.items (desk_history new) value.broke (entry_in_flight new))) c.settle-reply.ensures.broken;
+      untouched = c.settle-reply.ensures.untouched;
+      still_broken = c.settle-reply.ensures.still_broken;
+      moments = c.settle-reply.ensures.moments;
     }

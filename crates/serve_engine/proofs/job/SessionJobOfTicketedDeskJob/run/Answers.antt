@@ -11,7 +11,7 @@ use Rattle.serve_engine.proofs.Visiting.{session_served}
 use Rattle.serve_engine.proofs.job.SessionJobOfTicketedDeskJob.run.Goals as goal
 
 pub serve_session-ended-requires-clause-passes : goal.serve_session-ended-requires-clause-passes
-serve_session-ended-requires-clause-passes g c =
+serve_session-ended-requires-clause-passes g c κs within =
     let job = c.args.self.now in
     let passes = passes_in job.passes in
     let counters = counters_in job.counters.now in
@@ -19,7 +19,7 @@ serve_session-ended-requires-clause-passes g c =
     record { are = are; legal = have_legal passes counters are job.legal }
 
 pub serve_session-ended-requires-clause-turns : goal.serve_session-ended-requires-clause-turns
-serve_session-ended-requires-clause-turns g c = turns_enough (passes_in c.args.self.now.passes) c.requires.room
+serve_session-ended-requires-clause-turns g c κs within = turns_enough (passes_in c.args.self.now.passes) c.requires.room
 
 pub invariant_of-self : goal.invariant_of-self
 invariant_of-self g c =

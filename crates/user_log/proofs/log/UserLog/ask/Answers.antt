@@ -1,39 +1,28 @@
-use Rattle.std.proofs.Common.{◌++◌, ◌∷◌, [], length, sym, ap, subst, ◌∙◌}
-use Rattle.cqe_base.specs.Formula.{formula_of}
-use Rattle.cqe_base.specs.History.{AnsweredQuery}
-use Rattle.user_log.specs.Asked.{IsAsked, wanted}
+use Rattle.std.proofs.Common.{sym, subst}
+use Rattle.std.specs.Prelude.{IfSome}
+use Rattle.user_log.specs.Asked.{IsAsked}
+use Rattle.user_log.specs.Examining.{IsExamined}
 use Rattle.user_log.specs.Replies.{reply_of}
-use Rattle.user_log.specs.UserLogs.{kept_schema, kept_world, kept_user, kept_history}
+use Rattle.user_log.specs.Undecided.{IsReplyByCost}
+use Rattle.user_log.specs.UserLogs.{kept_schema, kept_world, kept_user, kept_history, IsOfSame}
 use Rattle.user_log.specs.declared.log.UserLog.{UserLog}
-use Rattle.user_log.proofs.Asking.{code_asked, mark_asked}
-use Rattle.user_log.proofs.Costs.{code_by_cost, answer_by_cost}
 use Rattle.user_log.proofs.log.UserLog.ask.Goals as goal
 
-pub returns-in-Ok-Code-clause-asked : goal.returns-in-Ok-Code-clause-asked
-returns-in-Ok-Code-clause-asked c =
-    let old = c.args.self.now in
-    subst (λ (l : UserLog). IsAsked (kept_schema old) (kept_world old) (kept_user old) (kept_history old) (kept_history l) c.args.text.now
-    (reply_of c.in-Ok-Code.code))
-    (sym c.weigh.ensures.same) (code_asked _ _ _ _ _ _ (rw c.in-Ok-Code.field-0-is at c.in-Ok-Code.ensures.weighed))
+pub settle-requires-clause-examined : goal.settle-requires-clause-examined
+settle-requires-clause-examined g c =
+    subst (λ (l : UserLog). IfSome c.examined-examined.result (IsExamined (kept_schema l) (kept_user l) (kept_history l) c.args.text.now))
+    (sym c.examined-examined.ensures.same) c.examined-examined.ensures.examined
 
-pub returns-in-Ok-clause-asked : goal.returns-in-Ok-clause-asked
-returns-in-Ok-clause-asked c =
-    let entry : AnsweredQuery = record { query = formula_of c.in-Ok-Answer.query; mark = c.in-Ok-Answer.mark; length = length c.args.text.now } in
-    mark_asked _ _ _ _ _ _ _ _ (rw c.in-Ok-Answer.field-0-is at c.in-Ok-Answer.ensures.weighed)
-    (c.in-Ok.ensures.added ∙ ap (λ (l : UserLog). kept_history l ++ entry ∷ []) c.weigh.ensures.same)
+pub returns-clause-same : goal.returns-clause-same
+returns-clause-same g c = subst (λ (l : UserLog). IsOfSame l c.settle.new.self) c.examined-examined.ensures.same c.settle.ensures.same
 
-pub returns-in-Err-add-clause-asked : goal.returns-in-Err-add-clause-asked
-returns-in-Err-add-clause-asked c = wanted (c.in-Err-add.ensures.refused ∙ ap kept_history c.weigh.ensures.same)
+pub returns-clause-asked : goal.returns-clause-asked
+returns-clause-asked g c =
+    subst (λ (l : UserLog). IsAsked (kept_schema l) (kept_world l) (kept_user l) (kept_history l) (kept_history c.settle.new.self) c.args.text.now
+    (reply_of c.settle.result))
+    c.examined-examined.ensures.same c.settle.ensures.asked
 
-pub returns-in-Err-clause-asked : goal.returns-in-Err-clause-asked
-returns-in-Err-clause-asked c = wanted (ap kept_history c.weigh.ensures.same)
-
-pub returns-in-Ok-Code-clause-undecided : goal.returns-in-Ok-Code-clause-undecided
-returns-in-Ok-Code-clause-undecided c =
-    code_by_cost _ _ _ _ _ _ (rw c.in-Ok-Code.field-0-is at c.in-Ok-Code.ensures.weighed)
-
-pub returns-in-Ok-clause-undecided : goal.returns-in-Ok-clause-undecided
-returns-in-Ok-clause-undecided c =
-    answer_by_cost _ _ _ _ _ _ _
-    (rw c.in-Ok-Answer.field-0-is at c.in-Ok-Answer.ensures.weighed)
-    (rw c.in-Ok-Answer.field-0-is at c.in-Ok-Answer.ensures.undecided)
+pub returns-clause-undecided : goal.returns-clause-undecided
+returns-clause-undecided g c =
+    subst (λ (l : UserLog). IsReplyByCost (kept_schema l) (kept_user l) (kept_history l) c.args.text.now c.settle.result)
+    c.examined-examined.ensures.same c.settle.ensures.undecided

@@ -6,12 +6,12 @@ use Rattle.user_log.proofs.log.UserLog.lend.Goals as goal
 
 pub invariant_of-self : goal.invariant_of-self
 invariant_of-self c = record {
-  kept = kept_with c.args.self.now c.lend.new.self c.lend.ensures.same;
+  kept = kept_with c.args.self.now c.lend.new.views c.lend.ensures.same;
   guarding = c.args.self.now.guarding;
 }
 
 pub returns-in-Ok-clause-same : goal.returns-in-Ok-clause-same
-returns-in-Ok-clause-same c = same_log c.args.self.now c.lend.new.self c.lend.ensures.same _ _
+returns-in-Ok-clause-same c = same_log c.args.self.now c.lend.new.views c.lend.ensures.same _ _
 
 pub returns-in-Ok-clause-lent : goal.returns-in-Ok-clause-lent
 returns-in-Ok-clause-lent c =
@@ -25,4 +25,4 @@ returns-in-Ok-clause-lent c =
     }
 
 pub returns-in-Err-clause-same : goal.returns-in-Err-clause-same
-returns-in-Err-clause-same c = same_log c.args.self.now c.lend.new.self c.lend.ensures.same _ _
+returns-in-Err-clause-same c = same_log c.args.self.now c.lend.new.views c.lend.ensures.same _ _

@@ -12,13 +12,13 @@ use Rattle.user_log.proofs.log.UserLog.weigh_examined.Goals as goal
 pub put-requires : goal.put-requires
 put-requires c =
     let self = c.args.self.now in
-    let view = c.args.examined.view in
-    subst (λ s. IsViewWithin s (log_of self.views) view) (sym self.kept.schema_is)
-    (subst (λ told. IsViewWithin (kept_schema self) told view) (sym self.kept.log_is) c.requires.examined.within)
+    let lent = c.args.examined.lent in
+    subst (λ s. IsViewWithin s (log_of self.views) lent) (sym self.kept.schema_is)
+    (subst (λ told. IsViewWithin (kept_schema self) told lent) (sym self.kept.log_is) c.requires.examined.within)
 
 pub invariant_of-self : goal.invariant_of-self
 invariant_of-self c = record {
-  kept = kept_with c.args.self.now c.put.new.self c.put.ensures;
+  kept = kept_with c.args.self.now c.put.new.views c.put.ensures;
   guarding = c.args.self.now.guarding;
 }
 
@@ -33,21 +33,21 @@ mark_with-requires-clause-found c whole =
     let self = c.args.self.now in
     let examined = c.args.examined in
     let given = c.requires.examined in
-    let long : length (log_of examined.view) ≡ length (log_of self.views) = sym c.len.ensures ∙ eqb-true _ _ whole ∙ c.len-2.ensures in
+    let long : length (log_of examined.lent) ≡ length (log_of self.views) = sym c.len.ensures ∙ eqb-true _ _ whole ∙ c.len-2.ensures in
     subst (λ told. HasFindings (kept_schema self) (kept_user self) told (sentence_of examined.query) examined.findings)
     (whole-log _ _ given.within.1 (long ∙ ap length self.kept.log_is)) given.findings
 
 pub returns-in-Some-clause-same : goal.returns-in-Some-clause-same
-returns-in-Some-clause-same c = same_log c.args.self.now c.put.new.self c.put.ensures _ _
+returns-in-Some-clause-same c = same_log c.args.self.now c.put.new.views c.put.ensures _ _
 
 pub returns-in-Some-clause-weighed : goal.returns-in-Some-clause-weighed
 returns-in-Some-clause-weighed c = c.in-Some.ensures.code c.requires.examined.read
 
 pub returns-in_err-mark-clause-same : goal.returns-in_err-mark-clause-same
-returns-in_err-mark-clause-same c = c.mark_with.ensures.same ∙ same_log c.args.self.now c.put.new.self c.put.ensures _ _
+returns-in_err-mark-clause-same c = c.mark_with.ensures.same ∙ same_log c.args.self.now c.put.new.views c.put.ensures _ _
 
 pub returns-clause-same : goal.returns-clause-same
-returns-clause-same c = c.mark_with.ensures.same ∙ same_log c.args.self.now c.put.new.self c.put.ensures _ _
+returns-clause-same c = c.mark_with.ensures.same ∙ same_log c.args.self.now c.put.new.views c.put.ensures _ _
 
 pub returns-clause-weighed : goal.returns-clause-weighed
 returns-clause-weighed c =
