@@ -412,7 +412,7 @@ class Program(unittest.TestCase):
         text = "true".ljust(4092)
         digests = b"".join(hashlib.sha256(content.encode()).digest() for content in [POLICY, FACTS])
         record = b"\1\4" + len(text).to_bytes(2, "big") + text.encode()
-        (self.place / "journals" / "hasty.log").write_bytes(b"CQEJRNL1" + digests + record * 255 + b"\0")
+        (self.place / "journals" / "hasty.log").write_bytes(b"CQEJRNL2" + digests + record * 255 + b"\0")
         with self.server(sessions=1) as address, self.session(address, "hasty") as hasty:
             self.assertIs(hasty.ask(text), cqe.Reply.UNDECIDED)
             with self.assertRaises(cqe.HistoryFull):

@@ -81,6 +81,18 @@ class Questions(InDirectory):
         finding = self.explained_once(*said, policy=POLICY, script=script, sort="batch")
         self.assertPoints(finding, 4, 16, "carl")
 
+    def test_an_operators_line(self):
+        script = "eve 1 ask true\neve op protect hiv(carl)\neve op protect hiv(ann)\neve op protect true\n"
+        said = ["eve 1 yes", "eve op error 20 3 4", "eve op protected", "eve op unsafe"]
+        sentence, unsafe = self.explained(*said, policy=POLICY, script=script, sort="batch")
+        self.assertPoints(sentence, 2, 20, "carl")
+        self.assertPoints(unsafe, 4, 16, "true")
+        self.assertSays(unsafe, "isn't added", "close him")
+
+    def test_a_user_with_sixteen_secrets(self):
+        finding = self.explained_once("eve op error 27", policy=POLICY, script="eve op protect true\n", sort="batch")
+        self.assertSays(finding, "16 secrets", "join")
+
     def test_replies_that_are_not_all_there_point_nowhere(self):
         script = HEAD + "ask true\nask hiv(carl)\n"
         finding = self.explained_once("error 20 3 4", script=script, complete=False)
@@ -93,6 +105,7 @@ class Questions(InDirectory):
 
     def test_what_sort_a_script_is_of(self):
         cases = {"domain d = a\nask true\n": "case", "# mine\n\neve 1 ask true\n": "batch",
+                 "eve op protect true\n": "batch",
                  "eve ask\n* restart\n": "batch",
                  "login eve abc\nask true\n": "session", "ask true\n": "session", "": "case"}
         for script, sort in cases.items():
@@ -175,6 +188,13 @@ class Codes(InDirectory):
         finding = self.explained_once("welcome", "error 26", script="login eve abc\nlogin eve abc\n", sort="session",
                                       policy=POLICY)
         self.assertSays(finding, "logged in already")
+
+    def test_sentences_that_cannot_be_listed(self):
+        table = [("error 28 1", "exists"), ("error 28 2", "256"), ("error 28 3", "too long")]
+        for reply, words in table:
+            with self.subTest(reply):
+                self.assertSays(self.explained_once("list 1 hiv(ann)", reply, policy=POLICY), "can't be listed", words)
+        self.assertSays(self.explained_once("list 5 hiv(ann)", "error 26", policy=POLICY), "list K SENTENCE")
 
     @program.needed
     def test_the_program_says_so(self):

@@ -23,7 +23,8 @@ STATUSES = {
     7: "Standard output couldn't be written (cqe: write fault); a beginning of the replies was.",
     8: "The policy file or the facts file isn't there (cqe: missing NAME).",
     9: "A file or the directory of the journals couldn't be opened (cqe: shelf fault).",
-    10: "A user's journal was refused (cqe: journal NAME CAUSE); batch and serve served the others.",
+    10: "A user's journal was refused (cqe: journal NAME CAUSE), or isn't empty where one would be moved to; batch and "
+    "serve served the others.",
     11: "A write or a sync of a journal failed (cqe: disk fault).",
     12: "The server couldn't listen at its address, or take in a client (cqe: links fault).",
     13: "Memory was wanting (cqe: out of memory).",
@@ -34,10 +35,12 @@ STATUS_ADVICE = "the line on standard error says more: give it to cqe-explain, w
 class Context:
     """The files and words of a run, as far as they are known."""
 
-    def __init__(self, policy=None, facts=None, script=None, journals=None, listen=None, words=None, sort=None):
+    def __init__(self, policy=None, facts=None, script=None, journals=None, listen=None, words=None, sort=None,
+                 to=None):
         self.policy_name = policy
         self.facts_name = facts
         self.journals = journals
+        self.to = to
         self.listen = listen
         self.words = words
         self.policy = PolicyFile.of_file(policy)
@@ -138,7 +141,7 @@ class Explainer:
             self.said.append(("reply", line))
             self.replies += 1
             return True
-        if re.match(r"(login|ask)( |\Z)|quit\Z", line):
+        if re.match(r"(login|ask|list)( |\Z)|quit\Z", line):
             self.said.append(("request", line))
             return True
         return False
@@ -188,11 +191,13 @@ class Explainer:
             ask = self.of_request(requests.pop(0))
         elif asked is not None:
             ask = self.of_item(asked[number], user)
+        ask = ask or replies.Asked(user)
+        if reply == "unsafe":
+            return replies.unsafe(line, ask)
         code = replies.CODE.match(reply)
         if code is None:
             return None
-        ask = ask or replies.Asked(user)
-        kind, place = (int(code[2]), int(code[3])) if code[2] else (None, None)
+        kind, place = (int(number) if number else None for number in code.group(2, 3))
         return replies.explain(line, int(code[1]), kind, place, ask, self.context)
 
     def of_item(self, item, user):

@@ -159,7 +159,7 @@ class Trial:
             shown["budget"] = budget_of(self.users[name])
         code = replies.CODE.match(said)
         if code:
-            kind, place = (int(code[2]), int(code[3])) if code[2] else (None, None)
+            kind, place = (int(number) if number else None for number in code.group(2, 3))
             text = bytes_of(self.told[name][number - 1].text)
             asked = replies.Asked(name, text, Text("the question", text))
             shown["explained"] = self.explained(replies.explain(said, int(code[1]), kind, place, asked, self.context))
