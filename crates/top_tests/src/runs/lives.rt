@@ -183,6 +183,10 @@ fn a_crash_leaves_the_secret_that_was_added(rt: HostRuntime) -> Result<(), Fail>
             let first = image.get(72) == Some(&1);
             let second = first && image.get(80) == Some(&1);
             assert!(rt;
+                if stop < 2 { !first } else { stop < 4 || first },
+                "stop {stop}, image {picked}"
+            );
+            assert!(rt;
                 if stop < 6 {
                     !second
                 } else {
