@@ -592,7 +592,7 @@ impl<'w> UserLog<'w> {
         requires { IsPrepared self.old prepared }
         ensures same { IsOfSame self.old self.new }
         ensures added { kept_history self.new
-            ≡ kept_history self.old ++ prepared_entry prepared ∷ [] }
+            ≡ kept_history self.old ++ prepared_entry prepared.entry ∷ [] }
     {
         law_limits();
         law_logs();
@@ -673,7 +673,7 @@ impl<'w> UserLog<'w> {
 
 /// Puts a user with one more secret in the place of the user as he was, if there is one.
 fn amend<'w>(current: &mut User, guarding: &mut Guards<'w>, amended: Option<Amended<'w>>)
-    ensures { IsAmendedTo amended (profile_of current.old) guarding.old (profile_of current.new)
+    ensures { IsAmendedTo amended.entry (profile_of current.old) guarding.old (profile_of current.new)
         guarding.new }
 {
     match amended {

@@ -30,7 +30,7 @@ impl<'w> Prepared<'w> {
 
     /// Gives the item, which isn't added.
     pub fn into_entry(self) -> Entry
-        ensures { answered_query_of result ≡ prepared_entry self }
+        ensures { answered_query_of result ≡ prepared_entry self.entry }
     {
         self.new_entry
     }
