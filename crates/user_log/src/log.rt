@@ -673,8 +673,8 @@ impl<'w> UserLog<'w> {
 
 /// Puts a user with one more secret in the place of the user as he was, if there is one.
 fn amend<'w>(current: &mut User, guarding: &mut Guards<'w>, amended: Option<Amended<'w>>)
-    ensures { IsAmendedTo amended.entry (profile_of current.old) guarding.old (profile_of current.new)
-        guarding.new }
+    ensures { IsAmendedTo amended.entry (profile_of current.old) guarding.old
+        (profile_of current.new) guarding.new }
 {
     match amended {
         Some(amended) => {
