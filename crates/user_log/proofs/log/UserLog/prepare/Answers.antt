@@ -31,8 +31,8 @@ returns-clause-prepared c =
     let same : map answered_query_of log.entries.items ≡ map answered_query_of c.reserve.new.self.items =
     ap (λ l. map answered_query_of l) (sym c.reserve.ensures.items) in
     record {
-      room = omega arith;
-      view_room = omega arith;
+      room = omega (arith, c.in_ok-reserve.ensures.ok);
+      view_room = c.in_ok-reserve-2.ensures.room;
       told = c.in_ok-told.ensures;
       nodes = c.told_nodes-nodes.ensures;
       sizes = subst (λ (h : History). KeepsSizesAt log.schema.now (profile_of log.user.now) h entry) same fits.0;
