@@ -70,11 +70,11 @@ returns-in-LinksFault-clause-part g c = λ told.
 
 pub returns-in-JournalAt-clause-part : goal.returns-in-JournalAt-clause-part
 returns-in-JournalAt-clause-part g c = λ told.
-    subst (λ text. OnErr c.give_user-in-JournalAt.result
-    (AppendsPart (g.E.Sink.written c.args.complaints.now) (g.E.Sink.written c.give_user-in-JournalAt.new.complaints) text))
-    (ap (λ users. user_line (slice_get users c.in-JournalAt.number) c.opening_cause.result) c.as_slice-in-JournalAt.ensures.value
+    subst (λ text. OnErr c.give_user.result
+    (AppendsPart (g.E.Sink.written c.args.complaints.now) (g.E.Sink.written c.give_user.new.complaints) text))
+    (ap (λ users. user_line (slice_get users c.in-JournalAt.number) c.opening_cause.result) c.as_slice.ensures.value
     ∙ ap (user_line (slice_get c.in-JournalAt.users.items c.in-JournalAt.number)) c.opening_cause.ensures ∙ ap complaint_of (sym c.in-JournalAt.is))
-    (c.give_user-in-JournalAt.ensures.part told)
+    (c.give_user.ensures.part told)
 
 pub returns-in-TargetAt-clause-part : goal.returns-in-TargetAt-clause-part
 returns-in-TargetAt-clause-part g c = λ told.

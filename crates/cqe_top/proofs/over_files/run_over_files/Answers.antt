@@ -29,8 +29,8 @@ use Rattle.cqe_top.proofs.Serving.{serve_succeeds, served_out}
 use Rattle.cqe_top.proofs.Users.{batch_names_are}
 use Rattle.cqe_top.proofs.over_files.run_over_files.Given.{Over}
 use Rattle.cqe_top.proofs.over_files.run_over_files.Goals as goal
-use Rattle.cqe_top.proofs.over_files.run_over_files.Goals.{After-drop-inputs-6, After-drop-inputs-in-Audit-5, After-drop-inputs-in-Batch-4}
-use Rattle.cqe_top.proofs.over_files.run_over_files.Goals.{After-drop-inputs-in-Init-3, After-drop-inputs-in-Migrate-6, After-drop-inputs-in_default-5, In-Err}
+use Rattle.cqe_top.proofs.over_files.run_over_files.Goals.{After-drop-inputs-5, After-drop-inputs-in-Audit-5, After-drop-inputs-in-Batch-4}
+use Rattle.cqe_top.proofs.over_files.run_over_files.Goals.{After-drop-inputs-in-Init-3, After-drop-inputs-in-Migrate-4, After-drop-inputs-in_default-5, In-Err}
 
 pub run_batch-end-requires-clause-names : goal.run_batch-end-requires-clause-names
 run_batch-end-requires-clause-names g c κs within =
@@ -281,7 +281,7 @@ returns-in-Audit-clause-command g c =
 
 -- ---- the moving of journals
 
-abbrev migrate_scene : (g : Over) → After-drop-inputs-in-Migrate-6 g → Scene
+abbrev migrate_scene : (g : Over) → After-drop-inputs-in-Migrate-4 g → Scene
 migrate_scene g c =
     scene_of (shelf_of g.F.Shelf g.F.D.Disk c.args.shelf.now c.run_migrate-end.new.shelf) (input_of g.S.Source c.args.source.now c.args.source.now)
     (output_of g.K.Sink c.args.sink.now c.args.sink.now) (links_of g.L.Links c.args.links.now c.args.links.now)
@@ -342,7 +342,7 @@ returns-in-Migrate-clause-command g c =
 
 -- ---- a server
 
-abbrev serve_scene : (g : Over) → After-drop-inputs-6 g → Scene
+abbrev serve_scene : (g : Over) → After-drop-inputs-5 g → Scene
 serve_scene g c =
     scene_of (shelf_of g.F.Shelf g.F.D.Disk c.args.shelf.now c.run_serve-end.new.shelf) (input_of g.S.Source c.args.source.now c.args.source.now)
     (output_of g.K.Sink c.args.sink.now c.args.sink.now) (links_of g.L.Links c.args.links.now c.run_serve-end.new.links)
