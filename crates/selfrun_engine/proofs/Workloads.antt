@@ -56,7 +56,7 @@ batch_names_are (user ∷ users) = ap (λ names. string_bytes user.name ∷ name
 
 -- they differ
 pub names_differ : (policy : Policy) → IsKeptPolicy (policy_value_of policy) → has_duplicate (user_names policy.users.items) ≡ false
-names_differ policy kept = ap has_duplicate (names_are policy.users.items) ∙ kept.differ
+names_differ policy is = ap has_duplicate (names_are policy.users.items) ∙ is.differ
 
 -- ---- journals that were made
 
