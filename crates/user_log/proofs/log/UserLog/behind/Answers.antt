@@ -10,8 +10,8 @@ new-requires c =
     let self = c.args.self.now in
     let item = answered_query_of c.args.entry.now in
     let made_is : profile_of c.in_ok-user-in-Protected.user ≡ user_at (kept_user self) (kept_history self ++ item ∷ []) =
-    amended_added (kept_user self) (kept_history self) item (profile_of self.current) (profile_of c.in_ok-user-in-Protected.user) c.law_added_secrets.ensures.grows
-    c.in-Protected.is self.amended.current_is c.in_ok-user-in-Protected.ensures in
+    amended_added (kept_user self) (kept_history self) item (profile_of self.current) (profile_of c.in_ok-user-in-Protected.user)
+    c.law_added_secrets.ensures.grows c.in-Protected.is self.amended.current_is c.in_ok-user-in-Protected.ensures in
     subst (FitsProbes (kept_schema self)) (sym made_is)
     (c.law_amended_limits.ensures.probes (kept_schema self) (kept_user self) (kept_history self ++ item ∷ []) self.kept.limits
     (sizes_push (kept_schema self) (kept_user self) (kept_history self) item self.kept.sizes c.requires))
