@@ -151,6 +151,13 @@ impl<'w> UserLog<'w> {
         self.entries.as_slice()
     }
 
+    /// The items, and nothing else.
+    pub fn into_entries(self) -> Vec<Entry>
+        ensures { map answered_query_of result.items ≡ kept_history self.entry }
+    {
+        self.entries
+    }
+
     /// What is known of the items: the user keeps the limits, and each item came within them and
     /// is legal behind those before it. It computes nothing.
     pub fn known(&self)
