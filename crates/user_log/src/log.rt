@@ -758,7 +758,7 @@ fn safe_after(
 }
 
 /// What an item with this mark adds to the nodes of the view.
-fn told_nodes(schema: &Schema, query: &Sentence, mark: Mark) -> u64
+pub fn told_nodes(schema: &Schema, query: &Sentence, mark: Mark) -> u64
     requires { nodes schema.now (formula_of query.now) ≤ 20000 }
     ensures { result ≡ told_nodes schema.now mark (formula_of query.now) }
 {
