@@ -57,6 +57,13 @@ pub data Awaited : Type 0 where
   item : (entries : History) → Awaited
   nothing : (entries : History) → Awaited
 
+-- the probe of a log against what is guarded with one more secret
+abbrev pub addition_probe : UserProfile → History → Formula → Probe
+addition_probe user entries secret = record {
+  premises = log user entries;
+  goal = (guard_by user.method ((user_at user entries).secrets ++ secret ∷ []) secret, true);
+}
+
 -- whether in a world the premises of a probe are true and its goal is false
 abbrev pub is_countermodel : DatabaseSchema → Probe → FactSet → Bool
 is_countermodel schema probe other =
@@ -161,21 +168,11 @@ module _ (schema : DatabaseSchema) (world : FactSet) (name : Text) (user : UserP
   ask_line line entries (Some mark) (b ∷ text) =
       asked line entries mark (length (b ∷ text)) (sentence_in entries Asking (b ∷ text))
 
-  -- the probe of the log against what is guarded with one more secret
-  abbrev pub addition_probe : History → Formula → Probe
-  addition_probe entries secret = record {
-    premises = log user entries;
-    goal = (
-      guard_by user.method ((user_at user entries).secrets ++ secret ∷ []) secret,
-      true,
-    );
-  }
-
   -- a sentence that is to be added
   abbrev pub added : ℕ → History → ℕ → Option Formula → Result Awaited DossierError
   added line entries size None = Err (refused.Text line)
   added line entries size (Some secret) =
-      awaited_for entries (adding secret size) (addition_probe entries secret ∷ []) []
+      awaited_for entries (adding secret size) (addition_probe user entries secret ∷ []) []
 
   -- the text of a sentence that is to be added
   abbrev pub protect_line : ℕ → History → Text → Result Awaited DossierError

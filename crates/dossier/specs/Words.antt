@@ -2,15 +2,15 @@
 -- of a world.
 use Rattle.std.specs.Prelude.{ℕ, ◌==◌, Bool, true, false, ◌&&◌, ◌||◌, not, nat_le, List, [], ◌∷◌}
 use Rattle.std.specs.Prelude.{◌++◌, length, map, Option, Some, None, option_map, if◌then◌else◌}
-use Rattle.std.specs.Prelude.{codes, bytes_eq, fold}
+use Rattle.std.specs.Prelude.{codes, bytes_eq}
 use Rattle.std.specs.FinSet as set
-use Rattle.std.specs.List.{list_any, slice_split, before_first, after_first}
+use Rattle.std.specs.List.{list_all, list_any, slice_split, before_first, after_first}
 use Rattle.std.specs.Ordering.{is_lt}
 use Rattle.cqe_base.specs.declared.user.Mark.{Mark}
 use Rattle.cqe_base.specs.declared.user.Mark.TheVariants.{Yes, No, Refused, Undecided}
 use Rattle.cqe_base.specs.declared.world.Fact.{Fact}
 use Rattle.cqe_base.specs.Schema.{DatabaseSchema, Text}
-use Rattle.cqe_base.specs.Facts.{FactSet, fact_cmp}
+use Rattle.cqe_base.specs.Facts.{FactSet, fact_cmp, is_fact_of}
 use Rattle.cqe_base.specs.FactText.{stated_fact}
 use Rattle.cqe_base.specs.Literal.{Literal, Positive, Negative}
 use Rattle.cqe_base.specs.Refutation.{RefutationLine}
@@ -108,7 +108,7 @@ facts_in schema texts = all_some (map (λ text. fact_in schema (text ++ codes ")
 
 -- the world that has these facts and no other
 abbrev pub world_of : List Fact → FactSet
-world_of facts = fold (λ world fact. set.insert world fact) set.empty facts
+world_of facts = set.from_list facts
 
 -- whether each fact stands behind the one before it in the order of facts
 abbrev pub ascends : List Fact → Bool
@@ -116,10 +116,10 @@ ascends [] = true
 ascends (f ∷ []) = true
 ascends (f ∷ g ∷ facts) = is_lt (fact_cmp f g) && ascends (g ∷ facts)
 
--- whether this is how an audit lists these facts, which are at most 100,000
+-- whether this is how an audit lists these facts of the schema, which are at most 100,000
 abbrev pub is_listing : DatabaseSchema → Text → List Fact → Bool
 is_listing schema text facts =
-    (nat_le (length facts) 100000 && ascends facts)
+    (list_all (is_fact_of schema) facts && (nat_le (length facts) 100000 && ascends facts))
     && bytes_eq text (world_text (Some (world_said schema facts)))
 
 -- these facts, where the text lists them so

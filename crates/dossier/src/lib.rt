@@ -29,4 +29,4 @@ pub use checking::check_dossier;
 pub use error::DossierError;
 pub use fields::{Field, FieldIter, fields};
 pub use laws::{law_checked_is_sound, law_sound};
-pub use writing::write_dossier;
+pub use writing::{write_dossier, write_unserved};

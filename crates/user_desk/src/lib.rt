@@ -25,6 +25,7 @@ mod standing;
 mod store;
 
 pub use desk::Desk;
+pub use kinds::mark_of;
 pub use opening::open_desk;
 pub use replay::{Replayed, replay};
 pub use standing::{DeskError, Standing};
