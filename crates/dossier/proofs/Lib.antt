@@ -1,8 +1,6 @@
 mod Lines
-mod Spelling
 mod Shown
 mod Reads
 mod Kept
 mod Items
-mod Blocks
-mod Printing
+mod Whole

@@ -177,7 +177,7 @@ fn read_items(
     ensures kept { OnOk result (IsKept past.new) }
     ensures same { IsPastOfSame past.old past.new }
 {
-    loop {
+    'items: loop {
         let field = lines.take_line()?;
         if field.word == "ask" {
             read_ask(alloc, world, past, &field, lines)?;
