@@ -21,23 +21,26 @@ module _ (schema : DatabaseSchema) (world : FactSet) (name : Text) (user : UserP
   pub memory-check : (why : DossierError) → why ≡ refused.Memory → IsCheckOf schema world name user text (Err why)
   memory-check why is isnt = absurd (isnt (ap Err is))
 
-  -- a refusal behind what was read is the answer
+  -- a refusal that the rest shows is the answer
+  pub exact-check : (awaited : Result Awaited DossierError) (left : Unread) (why : DossierError)
+      → answer schema world name user (Ok head) start ≡ answer schema world name user awaited left
+      → answer schema world name user awaited left ≡ Err why → IsCheckOf schema world name user text (Err why)
+  exact-check awaited left why so_far is isnt = ap counted (sym (sym begins ∙ so_far ∙ is))
+
+  -- and so is one of what is read next
   pub refused-check : {X : Type 0} (awaited : Result Awaited DossierError) (left new : Unread) (then : X → Result Awaited DossierError) (why : DossierError)
       → answer schema world name user (Ok head) start ≡ answer schema world name user awaited left
       → ReadsOn schema world name user awaited left new then (Err why) → IsCheckOf schema world name user text (Err why)
   refused-check awaited left new then why so_far next = by why next
     where
-      exact : (why : DossierError) → answer schema world name user awaited left ≡ Err why → IsCheckOf schema world name user text (Err why)
-      exact why is isnt = ap counted (sym (sym begins ∙ so_far ∙ is))
-
       by : (why : DossierError) → ReadsOn schema world name user awaited left new then (Err why) → IsCheckOf schema world name user text (Err why)
       by refused.Memory next = memory-check refused.Memory refl
-      by (refused.Form line) next = exact (refused.Form line) next
-      by (refused.Text line) next = exact (refused.Text line) next
-      by (refused.Verdict line) next = exact (refused.Verdict line) next
-      by (refused.Mark line) next = exact (refused.Mark line) next
-      by (refused.Admission line) next = exact (refused.Admission line) next
-      by (refused.Unsafe line) next = exact (refused.Unsafe line) next
+      by (refused.Form line) next = exact-check awaited left (refused.Form line) so_far next
+      by (refused.Text line) next = exact-check awaited left (refused.Text line) so_far next
+      by (refused.Verdict line) next = exact-check awaited left (refused.Verdict line) so_far next
+      by (refused.Mark line) next = exact-check awaited left (refused.Mark line) so_far next
+      by (refused.Admission line) next = exact-check awaited left (refused.Admission line) so_far next
+      by (refused.Unsafe line) next = exact-check awaited left (refused.Unsafe line) so_far next
 
   module _ (entries : History) (whole : answer schema world name user (Ok head) start ≡ Ok entries) where
     shown : checked schema world name user text ≡ Ok entries

@@ -1,11 +1,9 @@
-use Rattle.std.proofs.Common.{length, map, sym, ap, subst, ◌∙◌, arith}
+use Rattle.std.proofs.Common.{refl, ◌∙◌, arith, rules}
 use Rattle.std.specs.Prelude.{string_bytes}
 use Rattle.std.proofs.lemmas.List.{length-map}
 use Rattle.cqe_base.specs.History.{profile_of, answered_query_of}
-use Rattle.dossier.specs.Checked.{admission, item, nothing}
-use Rattle.dossier.specs.Reading.{answer}
 use Rattle.dossier.specs.Logs.{past_history}
-use Rattle.dossier.proofs.Whole.{memory-check, refused-check, whole-check, whole-accepted}
+use Rattle.dossier.proofs.Whole.{exact-check, refused-check, whole-check, whole-accepted}
 use Rattle.dossier.proofs.checking.check_dossier.Goals as goal
 
 pub fields-requires : goal.fields-requires
@@ -24,7 +22,7 @@ with_items c = with_admission c ∙ c.in_ok-read_items.ensures.reads (string_byt
 pub returns-in_err-read_head-clause-check : goal.returns-in_err-read_head-clause-check
 returns-in_err-read_head-clause-check c =
     refused-check c.args.schema.now c.args.world.now (string_bytes c.args.user.now.name) (profile_of c.args.user.now) c.args.text.now c.fields-lines.result
-    c.fields-lines.ensures.first c.fields-lines.ensures.fields _ _ _ _ _ (search rules) (c.in_err-read_head.ensures.reads c.args.schema.now c.args.world.now)
+    c.fields-lines.ensures.first c.fields-lines.ensures.fields _ _ _ _ _ refl (c.in_err-read_head.ensures.reads c.args.schema.now c.args.world.now)
 
 pub returns-in_err-past-clause-check : goal.returns-in_err-past-clause-check
 returns-in_err-past-clause-check c isnt = absurd (isnt (search rules))
@@ -45,8 +43,8 @@ pub returns-in_err-read_end-clause-check : goal.returns-in_err-read_end-clause-c
 returns-in_err-read_end-clause-check c =
     let ends = c.in_err-read_end.ensures c.args.schema.now c.args.world.now (string_bytes c.args.user.now.name) (profile_of c.args.user.now)
     (past_history c.read_items.new.past) in
-    refused-check c.args.schema.now c.args.world.now (string_bytes c.args.user.now.name) (profile_of c.args.user.now) c.args.text.now c.fields-lines.result
-    c.fields-lines.ensures.first c.fields-lines.ensures.fields _ _ _ _ _ (with_items c) ends
+    exact-check c.args.schema.now c.args.world.now (string_bytes c.args.user.now.name) (profile_of c.args.user.now) c.args.text.now c.fields-lines.result
+    c.fields-lines.ensures.first c.fields-lines.ensures.fields _ _ _ (with_items c) ends
 
 pub returns-clause-check : goal.returns-clause-check
 returns-clause-check c =
