@@ -1,6 +1,7 @@
 mod Lines
 mod Shown
 mod Reads
+mod BlockReads
 mod Kept
 mod Items
 mod Whole
