@@ -1,21 +1,18 @@
 -- What is kept of the items stays right as items are added.
-use Rattle.std.proofs.Common.{◌≡◌, ℕ, ◌+◌, true, false, List, [], ◌∷◌, ◌++◌, map, sum_by, refl, sym, ap, subst, ◌∙◌, arith, append-nil}
-use Rattle.std.proofs.lemmas.List.{map-append}
+use Rattle.std.proofs.Common.{◌≡◌, ◌+◌, true, false, [], ◌∷◌, ◌++◌, sum_by, refl, ap, ◌∙◌, arith, append-nil}
 use Rattle.std.proofs.lemmas.List.Sums.{sum_by-append}
 use Rattle.cqe_base.specs.declared.user.Mark.{Mark}
 use Rattle.cqe_base.specs.declared.user.Mark.TheVariants.{Yes, No, Refused, Undecided, Protected}
 use Rattle.cqe_base.specs.Schema.{DatabaseSchema}
-use Rattle.cqe_base.specs.Formula.{Formula, nodes}
-use Rattle.cqe_base.specs.History.{UserProfile, AnsweredQuery, History, log, told_by, secrets_by, user_at, with_secrets, view_size, signed_nodes, is_added}
+use Rattle.cqe_base.specs.Formula.{Formula}
+use Rattle.cqe_base.specs.History.{UserProfile, AnsweredQuery, History, log, told_by, secrets_by, user_at, with_secrets, is_added}
 use Rattle.cqe_base.specs.History.{LogsGrow, SecretsGrow}
-use Rattle.cqe_base.specs.Limits.{KeepsSizesAt, KeepsSizes}
-use Rattle.cqe_base.proofs.Legal.{each-push}
-use Rattle.user_log.specs.Nodes.{told_nodes}
+use Rattle.cqe_base.specs.Limits.{KeepsSizes}
 
--- a history within the limits with one more item that came within them
-pub sizes-more : (schema : DatabaseSchema) (user : UserProfile) (entries : History) (item : AnsweredQuery) → KeepsSizes schema user entries
-    → KeepsSizesAt schema user entries item → KeepsSizes schema user (entries ++ item ∷ [])
-sizes-more schema user entries item sizes fits = each-push (KeepsSizesAt schema user) entries item sizes fits
+-- no items are within the limits
+pub no-sizes : (schema : DatabaseSchema) (user : UserProfile) (entries : History) → entries ≡ [] → KeepsSizes schema user entries
+no-sizes schema user entries none [] entry after is = absurd cc
+no-sizes schema user entries none (first ∷ before) entry after is = absurd cc
 
 -- the bytes of the texts with one more
 pub bytes-more : (entries : History) (item : AnsweredQuery)
@@ -49,7 +46,7 @@ own-secret Refused query is = absurd cc
 own-secret Undecided query is = absurd cc
 own-secret Protected query is = refl
 
-module _ (logs : LogsGrow) (secrets : SecretsGrow) (schema : DatabaseSchema) (user : UserProfile) (entries : History) (item : AnsweredQuery) where
+module _ (logs : LogsGrow) (secrets : SecretsGrow) (user : UserProfile) (entries : History) (item : AnsweredQuery) where
   -- the user stays as he was behind an ask
   pub user-asked : is_added item.mark ≡ false → user_at user (entries ++ item ∷ []) ≡ user_at user entries
   user-asked isnt =
@@ -69,23 +66,3 @@ module _ (logs : LogsGrow) (secrets : SecretsGrow) (schema : DatabaseSchema) (us
   pub log-added : is_added item.mark ≡ true → log user (entries ++ item ∷ []) ≡ log user entries
   log-added is =
       logs user entries item ∙ ap (λ more. log user entries ++ more) (no-telling item.mark item.query is) ∙ append-nil (log user entries)
-
-  -- the nodes that an item adds to the view
-  told-nodes-are : (mark : Mark) (query : Formula)
-      → sum_by (λ signed. signed_nodes schema signed.0 signed.1) (told_by mark query) + sum_by (λ s. 1 + nodes schema s) (secrets_by mark query)
-      ≡ told_nodes schema mark query
-  told-nodes-are Yes query = omega arith
-  told-nodes-are No query = omega arith
-  told-nodes-are Refused query = refl
-  told-nodes-are Undecided query = refl
-  told-nodes-are Protected query = omega arith
-
-  pub view-more : view_size schema user (entries ++ item ∷ []) ≡ view_size schema user entries + told_nodes schema item.mark item.query
-  unfolding view_size
-  view-more =
-      let told = ap (sum_by (λ signed. signed_nodes schema signed.0 signed.1)) (logs user entries item)
-      ∙ sum_by-append (λ signed. signed_nodes schema signed.0 signed.1) (log user entries) (told_by item.mark item.query) in
-      let kept = ap (sum_by (λ s. 1 + nodes schema s)) (secrets user entries item)
-      ∙ sum_by-append (λ s. 1 + nodes schema s) (user_at user entries).secrets (secrets_by item.mark item.query) in
-      let one = told-nodes-are item.mark item.query in
-      omega (arith, told, kept, one)

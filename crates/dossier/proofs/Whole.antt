@@ -11,6 +11,13 @@ use Rattle.dossier.specs.Reading.{Unread, next_line, fields_left, answer, ReadsO
 use Rattle.dossier.specs.declared.error.DossierError.{DossierError}
 use Rattle.dossier.specs.declared.error.DossierError.TheVariants as refused
 
+-- a reading over the schema and the user that were kept is one over those that they are
+pub reads-at : {X : Type 0} (schema schema' : DatabaseSchema) (world : FactSet) (name : Text) (user user' : UserProfile) (awaited : Result Awaited DossierError)
+    (old new : Unread) (then : X → Result Awaited DossierError) (result : Result X DossierError) → schema' ≡ schema → user' ≡ user
+    → ReadsOn schema' world name user' awaited old new then result → ReadsOn schema world name user awaited old new then result
+reads-at schema schema' world name user user' awaited old new then result s u reads =
+    subst (λ x. ReadsOn x world name user awaited old new then result) s (subst (λ x. ReadsOn schema' world name x awaited old new then result) u reads)
+
 module _ (schema : DatabaseSchema) (world : FactSet) (name : Text) (user : UserProfile) (text : Text) (start : Unread) (first : next_line start ≡ 1)
     (fields : fields_left start ≡ fields_of text) where
   -- what the unread text shows at first is what the text shows
