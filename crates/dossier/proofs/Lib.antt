@@ -1,4 +1,7 @@
 mod Lines
+mod Spelling
+mod Colons
+mod Worlds
 mod Shown
 mod Reads
 mod BlockReads

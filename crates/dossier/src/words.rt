@@ -1,5 +1,6 @@
 //! What the words of a dossier say: numbers, literals, lines of a refutation, and marks.
-ghost use Rattle.std.specs.Prelude.{◌≡◌, ◌<◌, ◌+◌, ◌^◌, true, map, option_map, IfOk, IfSome};
+ghost use Rattle.std.specs.Prelude.{◌≡◌, ◌<◌, ◌+◌, ◌^◌, true, map, position, option_map};
+ghost use Rattle.std.specs.Prelude.{IfOk, IfSome};
 ghost use Rattle.clause_store.specs.PlainLines.{line_of};
 ghost use Rattle.dossier.specs.Words.{all_some, has_leading_zero, number_of, literal_of, is_colon};
 ghost use Rattle.dossier.specs.Words.{words_of, line_by, line_of_words, line_in, mark_named};
@@ -124,12 +125,19 @@ pub(crate) fn line_in(alloc: Global, text: &str) -> Result<Option<Line>, AllocEr
     line_of_words(alloc, &words)
 }
 
+/// The place of the first colon.
+fn first_colon(words: &[&[u8]]) -> Option<usize>
+    ensures { result ≡ position (λ word. is_colon word.now) words.now }
+{
+    words.iter().position(|word| is_colon(word))
+}
+
 /// The line that words write: literals, a colon, and the numbers of the chain, at least one.
 fn line_of_words(alloc: Global, words: &[&[u8]]) -> Result<Option<Line>, AllocError>
     ensures { IfOk result (λ read. option_map line_of read
         ≡ line_of_words (map (λ word. word.now) words.now)) }
 {
-    let Some(colon) = words.iter().position(|word| is_colon(word)) else {
+    let Some(colon) = first_colon(words) else {
         return Ok(None);
     };
     let clause = literals_in(alloc, &words[..colon])?;
