@@ -7,4 +7,5 @@ mod Reads
 mod BlockReads
 mod Kept
 mod Items
+mod ItemLines
 mod Whole

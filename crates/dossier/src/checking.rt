@@ -1,6 +1,6 @@
 //! The check of a dossier.
-ghost use Rattle.std.specs.Prelude.{◌≡◌, ◌≤◌, ◌&&◌, [], codes, length, decimal, bytes_eq, Ok};
-ghost use Rattle.std.specs.Prelude.{string_bytes, IfOk, OnOk};
+ghost use Rattle.std.specs.Prelude.{◌≡◌, ◌≤◌, ◌&&◌, false, [], codes, length, decimal, bytes_eq};
+ghost use Rattle.std.specs.Prelude.{string_bytes, Ok, IfOk, OnOk};
 ghost use Rattle.cqe_base.specs.Facts.{FactSet};
 ghost use Rattle.cqe_base.specs.Schema.{DatabaseSchema, Text};
 ghost use Rattle.cqe_base.specs.History.{UserProfile, History, profile_of, known};
@@ -11,7 +11,7 @@ ghost use Rattle.dossier.specs.Promised.{IsCheckOf, IsAccepted};
 ghost use Rattle.dossier.specs.Reading.{bytes_left, field_said, ReadsOn};
 ghost use Rattle.dossier.specs.Logs.{past_schema, past_user, past_history, IsKept, IsSamePast};
 ghost use Rattle.dossier.specs.Logs.{IsPastOfSame};
-ghost use Rattle.dossier.specs.Items.{ReadsItems, EndsHere};
+ghost use Rattle.dossier.specs.Items.{ReadsItem, ReadsItems, EndsHere};
 
 use crate::blocks::{Reason, Told, read_each};
 use crate::error::DossierError;
@@ -70,9 +70,12 @@ fn read_head(alloc: Global, user: &User, lines: &mut FieldIter<'_>) -> Result<()
     if says_head(alloc, user, "open", field.rest)? {
         return Ok(());
     }
-    if says_head(alloc, user, "closed", field.rest)?
-        || says_head(alloc, user, "sealed", field.rest)?
-    {
+    let closed = says_head(alloc, user, "closed", field.rest)?;
+    if closed {
+        return Err(DossierError::Admission(field.line));
+    }
+    let sealed = says_head(alloc, user, "sealed", field.rest)?;
+    if sealed {
         return Err(DossierError::Admission(field.line));
     }
     Err(DossierError::Form(field.line))
@@ -177,17 +180,40 @@ fn read_items(
     ensures kept { OnOk result (IsKept past.new) }
     ensures same { IsPastOfSame past.old past.new }
 {
-    'items: loop {
+    loop {
         let field = lines.take_line()?;
-        if field.word == "ask" {
-            read_ask(alloc, world, past, &field, lines)?;
-        } else if field.word == "protect" {
-            read_protect(alloc, past, &field, lines)?;
-        } else if says_done(alloc, past, &field)? {
+        if says_done(alloc, past, &field)? {
             return Ok(());
-        } else {
-            return Err(DossierError::Form(field.line));
         }
+        read_item(alloc, world, past, &field, lines)?;
+    }
+}
+
+/// Reads an item, of which this is the line.
+fn read_item(
+    alloc: Global,
+    world: &World,
+    past: &mut Past<'_>,
+    field: &Field<'_>,
+    lines: &mut FieldIter<'_>,
+) -> Result<(), DossierError>
+    requires kept { IsKept past.old }
+    requires not_done { (bytes_eq (field_said field.now).word (codes "done")
+        && bytes_eq (field_said field.now).rest (decimal (length (past_history past.old))))
+        ≡ false }
+    ensures reads { (name : Text) → ReadsItem (past_schema past.old) world.now name
+        (past_user past.old) (past_history past.old) (field_said field.now) lines.old lines.new
+        (past_history past.new) result }
+    ensures kept { OnOk result (IsKept past.new) }
+    ensures same { IsPastOfSame past.old past.new }
+    ensures less { bytes_left lines.new ≤ bytes_left lines.old }
+{
+    if field.word == "ask" {
+        read_ask(alloc, world, past, field, lines)
+    } else if field.word == "protect" {
+        read_protect(alloc, past, field, lines)
+    } else {
+        Err(DossierError::Form(field.line))
     }
 }
 

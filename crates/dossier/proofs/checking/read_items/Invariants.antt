@@ -6,8 +6,8 @@ use Rattle.dossier.specs.Logs.{past_schema, past_user, past_history, IsKept, IsP
 use Rattle.dossier.proofs.checking.read_items.Given as goal
 
 -- the items so far were read: what the text showed at first is what the rest shows behind them
-abbrev pub invariant-items : goal.invariant-items
-invariant-items l = record {
+abbrev pub invariant-loop-field : goal.invariant-loop-field
+invariant-loop-field l = record {
   kept : IsKept l.past;
   same : IsPastOfSame l.initial.past l.past;
   reads : (name : Text) → answer (past_schema l.initial.past) l.world name (past_user l.initial.past) (Ok (item (past_history l.initial.past))) l.initial.lines
@@ -15,5 +15,5 @@ invariant-items l = record {
 }
 
 -- each line that is read makes what is left shorter
-abbrev pub decreases-items : goal.decreases-items
-decreases-items l = bytes_left l.lines
+abbrev pub decreases-loop-field : goal.decreases-loop-field
+decreases-loop-field l = bytes_left l.lines
