@@ -8,4 +8,5 @@ mod BlockReads
 mod Kept
 mod Items
 mod ItemLines
+mod Probing
 mod Whole

@@ -49,6 +49,7 @@ pub(crate) fn read_ask(
     ensures less { bytes_left lines.new ≤ bytes_left lines.old }
 {
     law_reading();
+    law_limits();
     let (word, text) = first_word(field.rest);
     let Some(mark) = mark_named(word) else {
         return Err(DossierError::Form(field.line));
@@ -127,7 +128,6 @@ fn read_findings(
     ensures same { IsSamePast past.old past.new }
     ensures less { bytes_left lines.new ≤ bytes_left lines.old }
 {
-    law_amended_limits();
     let implied = read_implied(alloc, past, query, lines)?;
     let yes_harm = read_harm(alloc, past, (query, true), lines)?;
     let no_harm = read_harm(alloc, past, (query, false), lines)?;
@@ -207,6 +207,7 @@ fn read_goal(
     ensures same { IsSamePast past.old past.new }
     ensures less { bytes_left lines.new ≤ bytes_left lines.old }
 {
+    law_sizes();
     let told = Told {
         schema: past.schema,
         user: past.user,
@@ -247,6 +248,7 @@ fn read_harm(
     ensures same { IsSamePast past.old past.new }
     ensures less { bytes_left lines.new ≤ bytes_left lines.old }
 {
+    law_sizes();
     law_amended_limits();
     let told = Told {
         schema: past.schema,
@@ -282,6 +284,8 @@ pub(crate) fn read_protect(
     ensures less { bytes_left lines.new ≤ bytes_left lines.old }
 {
     law_reading();
+    law_limits();
+    law_sizes();
     law_amended_limits();
     let text = field.rest;
     if text.is_empty() {
