@@ -11,6 +11,7 @@ use Rattle.cqe_base.specs.Formula.{Formula}
 use Rattle.cqe_base.specs.Entailment.{Signed}
 use Rattle.cqe_base.specs.History.{UserProfile, History, known, log, user_at, EmptyLogIsKnown, EmptyHistoryAddsNone}
 use Rattle.cqe_base.specs.Censor.{Probe, guarded, probes, probes_by, probes_against, with_query, with_negation, knows_truth_by, mark_by}
+use Rattle.cqe_base.specs.Limits.{FitsLog}
 use Rattle.soundness.specs.Verdicts.{mark_found}
 use Rattle.dossier.specs.Fields.{is_alone}
 use Rattle.dossier.specs.Checked.{Task, Awaited, admission, admitting, item, awaited_for, behind_task}
@@ -115,6 +116,54 @@ module _ (schema : DatabaseSchema) (world : FactSet) (name : Text) (user : UserP
   first-many Lying told query = refl
   first-many Refusal told query = refl
   first-many Combined told query = refl
+
+  module _ (before : History) (task : Task) (query : Formula) (more : List Probe) where
+    -- for refusal both blocks were read
+    pub implied-read : user.method ≡ Refusal → (old middle new : Unread) (yes no : Bool)
+        → answer schema world name user (awaited_for schema world name user before task
+        (goal_probe (log user before) (query, true) ∷ (goal_probe (log user before) (query, false) ∷ more)) []) old
+        ≡ answer schema world name user (awaited_for schema world name user before task (goal_probe (log user before) (query, false) ∷ more) (yes ∷ [])) middle
+        → answer schema world name user (awaited_for schema world name user before task (goal_probe (log user before) (query, false) ∷ more) (yes ∷ [])) middle
+        ≡ answer schema world name user (awaited_for schema world name user before task more (yes ∷ no ∷ [])) new
+        → ReadsImplied schema world name user before task query more old new (Ok (if yes then Some true else if no then Some false else None))
+    implied-read is old middle new yes no first second =
+        (yes ∷ no ∷ [], refl,
+        sym (ap (λ m. length (implied_probes m (log user before) query)) is),
+        ap (λ m. answer schema world name user (awaited_for schema world name user before task
+        (implied_probes m (log user before) query ++ more) []) old) is ∙ first ∙ second)
+
+    -- the other methods have none
+    pub implied-none : implied_probes user.method (log user before) query ≡ [] → (old : Unread)
+        → ReadsImplied schema world name user before task query more old old (Ok None)
+    implied-none none old =
+        ([], refl, sym (ap length none),
+        ap (λ ps. answer schema world name user (awaited_for schema world name user before task (ps ++ more) []) old) none)
+
+    -- one of them was refused
+    pub implied-refused : user.method ≡ Refusal → {X : Type 0} (old middle new : Unread) (between : Result Awaited DossierError)
+        (then : X → Result Awaited DossierError) (why : DossierError)
+        → answer schema world name user (awaited_for schema world name user before task
+        (goal_probe (log user before) (query, true) ∷ (goal_probe (log user before) (query, false) ∷ more)) []) old
+        ≡ answer schema world name user between middle
+        → ReadsOn schema world name user between middle new then (Err why)
+        → ReadsImplied schema world name user before task query more old new (Err why)
+    implied-refused is {X} old middle new between then why first next = by why next
+      where
+        start : answer schema world name user (awaited_for schema world name user before task
+            (implied_probes user.method (log user before) query ++ more) []) old ≡ answer schema world name user between middle
+        start =
+            ap (λ m. answer schema world name user (awaited_for schema world name user before task
+            (implied_probes m (log user before) query ++ more) []) old) is ∙ first
+
+        by : (why : DossierError) → ReadsOn schema world name user between middle new then (Err why)
+            → ReadsImplied schema world name user before task query more old new (Err why)
+        by refused.Memory next = tt
+        by (refused.Form line) next = start ∙ next
+        by (refused.Text line) next = start ∙ next
+        by (refused.Verdict line) next = start ∙ next
+        by (refused.Mark line) next = start ∙ next
+        by (refused.Admission line) next = start ∙ next
+        by (refused.Unsafe line) next = start ∙ next
 
   module _ (before : History) (task : Task) (query : Formula) where
     abbrev told : List Signed
@@ -232,3 +281,27 @@ harm-at schema schema' world name user user' before before' task premise more sh
     subst (λ x. ReadsHarm x world name user before task premise more shown old new result) s
     (subst (λ x. ReadsHarm schema' world name x before task premise more shown old new result) u
     (subst (λ x. ReadsHarm schema' world name user' x task premise more shown old new result) b reads))
+
+-- one block of the log against a goal, over what is kept
+abbrev pub ReadsGoal : DatabaseSchema → FactSet → Text → UserProfile → (before : History) → Task → Signed → (more : List Probe) → (shown : List Bool)
+    → Unread → Unread → Result Bool DossierError → Type 0
+ReadsGoal schema world name user before task goal more shown old new =
+    ReadsOn schema world name user (awaited_for schema world name user before task (goal_probe (log user before) goal ∷ more) shown) old new
+    (λ follows. awaited_for schema world name user before task more (shown ++ follows ∷ []))
+
+pub goal-at : (schema schema' : DatabaseSchema) (world : FactSet) (name : Text) (user user' : UserProfile) (before before' : History) (task : Task)
+    (goal : Signed) (more : List Probe) (shown : List Bool) (old new : Unread) (result : Result Bool DossierError)
+    → schema' ≡ schema → user' ≡ user → before' ≡ before
+    → ReadsGoal schema' world name user' before' task goal more shown old new result
+    → ReadsGoal schema world name user before task goal more shown old new result
+goal-at schema schema' world name user user' before before' task goal more shown old new result s u b reads =
+    subst (λ x. ReadsGoal x world name user before task goal more shown old new result) s
+    (subst (λ x. ReadsGoal schema' world name x before task goal more shown old new result) u
+    (subst (λ x. ReadsGoal schema' world name user' x task goal more shown old new result) b reads))
+
+-- a query that fits the log fits an equal one
+pub fits-at : (schema schema' : DatabaseSchema) (user user' : UserProfile) (before before' : History) (query : Formula)
+    → schema' ≡ schema → user' ≡ user → before' ≡ before → FitsLog schema user before query → FitsLog schema' user' before' query
+fits-at schema schema' user user' before before' query s u b fits =
+    subst (λ x. FitsLog x user' before' query) (sym s) (subst (λ x. FitsLog schema x before' query) (sym u)
+    (subst (λ x. FitsLog schema user x query) (sym b) fits))
