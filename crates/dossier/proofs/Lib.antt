@@ -9,4 +9,5 @@ mod Kept
 mod Items
 mod ItemLines
 mod Probing
+mod Asking
 mod Whole

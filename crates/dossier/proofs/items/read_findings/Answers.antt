@@ -24,10 +24,12 @@ read_harm-requires-clause-fits c =
 
 pub read_harm-2-requires-clause-sentence : goal.read_harm-2-requires-clause-sentence
 read_harm-2-requires-clause-sentence c =
-    subst (λ s. is_sentence_of s (sentence_of c.args.query.now) ≡ true) (sym (c.read_harm.ensures.same.0.schema ∙ c.read_implied.ensures.same.0.schema)) c.requires.sentence
+    subst (λ s. is_sentence_of s (sentence_of c.args.query.now) ≡ true)
+    (sym (c.read_harm.ensures.same.0.schema ∙ c.read_implied.ensures.same.0.schema)) c.requires.sentence
 
 pub read_harm-2-requires-clause-grounded : goal.read_harm-2-requires-clause-grounded
-read_harm-2-requires-clause-grounded c = subst (λ s. IsGroundOver s c.args.query.now) (sym (c.read_harm.ensures.same.0.schema ∙ c.read_implied.ensures.same.0.schema)) c.requires.grounded
+read_harm-2-requires-clause-grounded c =
+    subst (λ s. IsGroundOver s c.args.query.now) (sym (c.read_harm.ensures.same.0.schema ∙ c.read_implied.ensures.same.0.schema)) c.requires.grounded
 
 pub read_harm-2-requires-clause-fits : goal.read_harm-2-requires-clause-fits
 read_harm-2-requires-clause-fits c =
