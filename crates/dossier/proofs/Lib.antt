@@ -8,6 +8,7 @@ mod BlockReads
 mod Kept
 mod Items
 mod ItemLines
+mod Each
 mod Probing
 mod Asking
 mod Whole

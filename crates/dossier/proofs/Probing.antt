@@ -140,14 +140,14 @@ module _ (schema : DatabaseSchema) (world : FactSet) (name : Text) (user : UserP
         ap (λ ps. answer schema world name user (awaited_for schema world name user before task (ps ++ more) []) old) none)
 
     -- one of them was refused
-    pub implied-refused : user.method ≡ Refusal → {X : Type 0} (old middle new : Unread) (between : Result Awaited DossierError)
+    pub implied-refused : {X : Type 0} → user.method ≡ Refusal → (old middle new : Unread) (between : Result Awaited DossierError)
         (then : X → Result Awaited DossierError) (why : DossierError)
         → answer schema world name user (awaited_for schema world name user before task
         (goal_probe (log user before) (query, true) ∷ (goal_probe (log user before) (query, false) ∷ more)) []) old
         ≡ answer schema world name user between middle
         → ReadsOn schema world name user between middle new then (Err why)
         → ReadsImplied schema world name user before task query more old new (Err why)
-    implied-refused is {X} old middle new between then why first next = by why next
+    implied-refused is old middle new between then why first next = by why next
       where
         start : answer schema world name user (awaited_for schema world name user before task
             (implied_probes user.method (log user before) query ++ more) []) old ≡ answer schema world name user between middle
