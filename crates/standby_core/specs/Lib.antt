@@ -1,0 +1,4 @@
+pub mod Frames
+pub mod Mirrors
+pub mod Books
+pub mod Exchanges
