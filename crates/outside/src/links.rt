@@ -206,6 +206,7 @@ pub trait Links {
     /// Takes a dial back. Its faults are added to the second count. It takes no memory.
     fn hang_up(&mut self, dial: Self::Dial)
         ensures mirror { RisesBy (mirror self.old) (Self.Dial.faults dial) (mirror self.new) }
+        ensures later { mirror self.old ≤ mirror self.new }
         ensures out { out self.new ≡ out self.old }
         ensures ended { ended self.new ≡ ended self.old }
         ensures given { tells → given self.new ≡ given self.old }

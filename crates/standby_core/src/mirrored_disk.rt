@@ -1,88 +1,57 @@
 //! A disk of which a standby has a copy.
-ghost use Rattle.std.specs.Prelude.{◌≡◌, ◌<◌, ◌≤◌, ◌+◌, length, string_bytes, OnOk};
+ghost use Rattle.std.specs.Prelude.{◌≡◌, ◌<◌, ◌≤◌, ◌+◌, length, OnOk};
 ghost use Rattle.outside.specs.Faults.{HasCause};
 
-use crate::FrameRoom;
-use log_journal::Header;
+use crate::Mirror;
 use outside::{Dial, Disk, Failed};
 
-/// A disk whose records are told once a standby has them: each call but `tell` is that of the disk
-/// under it. Its faults are those of the disk and those of the dial.
-///
-/// It keeps the last count that the standby answered, so that a record that the standby has anyway
-/// needs no exchange, as those before the last one at an opening.
+/// A disk with a mirror, whose records are told once the standby has them: each call but `tell` is
+/// that of the disk under it. Its faults are those of the disk and those of the dial. One without a
+/// mirror is as the disk under it; a `MirroredShelf` gives none.
 #[derive(Drop)]
-pub struct MirroredDisk<'a, D: Disk, C: Dial> {
+pub struct MirroredDisk<'h, D, C: Dial> {
     inner: D,
-    dial: C,
-    header: &'a Header,
-    /// The user's name, or nothing where the disk's name isn't that of a journal. A standby refuses
-    /// a frame without a name.
-    name: String,
-    room: FrameRoom,
-    count: u64,
-    ghost answered: { count ≡ C.answered dial },
-    ghost short: { length (string_bytes name) ≤ 32 },
+    mirror: Option<Mirror<'h, C>>,
 }
 
-impl<'a, D: Disk, C: Dial> MirroredDisk<'a, D, C> {
-    ghost use Rattle.standby_core.specs.Mirrors.{inner_of, dial_of, kept_count};
+impl<'h, D, C: Dial> MirroredDisk<'h, D, C> {
+    ghost use Rattle.standby_core.specs.MirroredDisks.{inner_of, mirror_of, mirrored};
+    ghost use Rattle.standby_core.specs.MirroredDisks.{told_by, faults_by};
 
-    /// A disk with a dial that was answered nothing yet.
-    pub fn new(inner: D, dial: C, header: &'a Header, name: String) -> Self
-        requires unanswered { C.answered dial ≡ 0 }
-        requires short { length (string_bytes name) ≤ 32 }
-        ensures inner { inner_of result ≡ inner }
-        ensures dial { dial_of result ≡ dial }
-        ensures count { kept_count result ≡ 0 }
+    /// A disk with a mirror, or without one.
+    pub fn new(inner: D, mirror: Option<Mirror<'h, C>>) -> Self
+        ensures { result ≡ mirrored inner mirror.entry }
     {
-        MirroredDisk {
-            inner,
-            dial,
-            header,
-            name,
-            room: FrameRoom::new(),
-            count: 0,
-        }
+        MirroredDisk { inner, mirror }
     }
 
-    /// The disk and the dial.
-    pub fn split(self) -> (D, C)
-        ensures inner { result.0 ≡ inner_of self }
-        ensures dial { result.1 ≡ dial_of self }
+    /// The disk and the mirror.
+    pub fn split(self) -> (D, Option<Mirror<'h, C>>)
+        ensures { self.entry ≡ mirrored result.0 result.1 }
     {
-        let MirroredDisk {
-            inner,
-            dial,
-            header: _,
-            name: _,
-            room: _,
-            count: _,
-        } = self;
-        (inner, dial)
+        let MirroredDisk { inner, mirror } = self;
+        (inner, mirror)
     }
 
-    // Has the standby answer a count above this number, unless it has answered one.
+    // Tells the standby of a record, where there is one.
     fn ask(&mut self, number: u64, kind: u8, text: &[u8]) -> Result<(), Failed>
         requires short { length text.now ≤ 4096 }
         ensures inner { inner_of self.new ≡ inner_of self.old }
-        ensures above { OnOk result (number < C.answered (dial_of self.new)) }
-        ensures told { C.answered (dial_of self.old) ≤ C.answered (dial_of self.new) }
-        ensures cause { HasCause (C.faults (dial_of self.old)) (C.faults (dial_of self.new))
-            result }
+        ensures above { OnOk result (number < told_by C.answered (mirror_of self.new)) }
+        ensures told { told_by C.answered (mirror_of self.old)
+            ≤ told_by C.answered (mirror_of self.new) }
+        ensures cause { HasCause (faults_by C.faults (mirror_of self.old))
+            (faults_by C.faults (mirror_of self.new)) result }
     {
-        if number < self.count {
-            return Ok(());
+        match &mut self.mirror {
+            Some(mirror) => mirror.tell(number, kind, text),
+            None => Ok(()),
         }
-        self.room
-            .fill(self.header, self.name.as_str(), number, kind, text);
-        self.count = self.dial.exchange(self.room.bytes(), number)?;
-        Ok(())
     }
 }
 
 impl<D: Disk, C: Dial> Disk for MirroredDisk<'_, D, C> {
-    ghost use Rattle.standby_core.specs.Mirrors.{inner_of, dial_of};
+    ghost use Rattle.standby_core.specs.MirroredDisks.{inner_of, mirror_of, told_by, faults_by};
 
     ghost tells = { D.tells };
 
@@ -94,9 +63,9 @@ impl<D: Disk, C: Dial> Disk for MirroredDisk<'_, D, C> {
 
     ghost image_since = { λ disk. D.image_since (inner_of disk) };
 
-    ghost faults = { λ disk. D.faults (inner_of disk) + C.faults (dial_of disk) };
+    ghost faults = { λ disk. D.faults (inner_of disk) + faults_by C.faults (mirror_of disk) };
 
-    ghost told = { λ disk. C.answered (dial_of disk) };
+    ghost told = { λ disk. told_by C.answered (mirror_of disk) };
 
     ghost read_is_image = { λ disk told. D.read_is_image (inner_of disk) told };
 
