@@ -55,7 +55,8 @@ module _ {C : Type 0} {g : _} where
     pub others : SameOthers name (place_at slots) (place_at (slice_set slots place new))
 
   pub slot_set : (name : List ℕ) (slots : List (Slot C g)) (place : ℕ) (old new : Slot C g)
-      → Some place ≡ position (λ slot. bytes_eq (slot_name slot) name) slots → old ≡ get_or slots place old → slot_name new ≡ slot_name old → IsSlotSet name slots place old new
+      → Some place ≡ position (λ slot. bytes_eq (slot_name slot) name) slots → old ≡ get_or slots place old → slot_name new ≡ slot_name old
+      → IsSlotSet name slots place old new
   slot_set name slots place old new is here named =
       let at : IsAt slot_name name slots place old = found slot_name name slots place old (sym is) in
       let it : bytes_eq (slot_name new) name ≡ true = still_named slot_name name slots place old new at here named in

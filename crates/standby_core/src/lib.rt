@@ -2,8 +2,8 @@
 //! the copy has its record.
 //!
 //! At the primary a `MirroredShelf` gives the disks of a shelf with a mirror each, as
-//! `MirroredDisk`s. Such a disk tells of a record by an exchange with the standby: a frame goes out,
-//! and the count of the standby's records comes back. At the standby `serve_standby` takes
+//! `MirroredDisk`s. Such a disk tells of a record by an exchange with the standby: a frame goes
+//! out, and the count of the standby's records comes back. At the standby `serve_standby` takes
 //! frames for as long as they come, a `StandbyBook` appends each record that is the next of its
 //! user, and each answer is the count of the records that the standby has then. What that is worth
 //! whatever becomes of the frames on their way stands in `replica`.

@@ -38,7 +38,8 @@ returns-clause-none g c =
     c.take.ensures.name in
     if_none c.take.result c.take.ensures.none
     (λ same. for_all
-    (λ one. place_at (slice_set c.args.self.now.slots.items c.in-Some.place c.take.new.self) one ≡ place_at c.args.self.now.slots.items one) name (set.now ∙ ap Some same ∙ sym set.was) set.others)
+    (λ one. place_at (slice_set c.args.self.now.slots.items c.in-Some.place c.take.new.self) one ≡ place_at c.args.self.now.slots.items one)
+    name (set.now ∙ ap Some same ∙ sym set.was) set.others)
 
 pub returns-clause-others : goal.returns-clause-others
 returns-clause-others g c =
