@@ -1,5 +1,8 @@
 pub mod Agreeing
 pub mod Causes
+pub mod Filling
+pub mod Frames
+pub mod Framing
 pub mod Keeping
 pub mod Naming
 pub mod Slotting

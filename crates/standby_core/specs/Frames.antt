@@ -39,10 +39,12 @@ tail_bytes one =
     ++ one.text
 
 -- The frame: its first bytes, the digests of the policy and of the facts, the length of the name in
--- one byte, and what stands behind it.
+-- one byte, and what stands behind it, as above.
 abbrev pub frame_bytes : Header → Carried → List ℕ
 frame_bytes header one =
-    frame_mark ++ header.policy ++ header.facts ++ (length one.name ∷ []) ++ tail_bytes one
+    frame_mark ++ header.policy ++ header.facts ++ (length one.name ∷ []) ++ one.name
+    ++ to_be_bytes w64 one.number ++ (one.kind ∷ []) ++ to_be_bytes w16 (length one.text)
+    ++ one.text
 
 -- the answer to a frame: the standby's count of records of that user
 abbrev pub answer_bytes : ℕ → List ℕ
@@ -95,7 +97,7 @@ Shows header bytes (Short need) = (length bytes < need) × (need ≤ 4212)
     × ((one : Carried) (rest more : List ℕ) → IsCarried one
     → bytes ++ rest ≡ frame_bytes header one ++ more → need ≤ length (frame_bytes header one))
     × (IsOther header bytes → ⊥)
-Shows header bytes Bad = ((one : Carried) (rest more : List ℕ) → IsCarried one
+Shows header bytes Bad = (bytes ≢ []) × ((one : Carried) (rest more : List ℕ) → IsCarried one
     → bytes ++ rest ≡ frame_bytes header one ++ more → ⊥)
     × ((rest : List ℕ) → IsOther header (bytes ++ rest) → ⊥)
 Shows header bytes Other = IsOther header bytes
@@ -117,6 +119,11 @@ ShowsTail named bytes (Short need) = (73 + length bytes < need) × (need ≤ 421
     × ((one : Carried) → GoesOn named bytes one → need ≤ 73 + length (tail_bytes one))
 ShowsTail named bytes Bad = (one : Carried) → GoesOn named bytes one → ⊥
 ShowsTail named bytes Other = ⊥
+
+-- where the input ends behind these bytes of a frame
+abbrev pub end_behind : List ℕ → FrameOutcome
+end_behind [] = InputEnd
+end_behind (byte ∷ bytes) = BadFrame
 
 -- what came of reading a frame from what was left, where the room has the frame afterwards
 abbrev pub Reads : FrameOutcome → Header → List ℕ → List ℕ → List ℕ → Type 0

@@ -1,8 +1,10 @@
 //! The frame by which a record goes to a standby, made at one end and read at the other.
-ghost use Rattle.std.specs.Prelude.{◌≡◌, ◌+◌, ◌<◌, ◌≤◌, [], ◌++◌, length, take, IfOk, OnErr};
+ghost use Rattle.std.specs.Prelude.{◌≡◌, ◌+◌, ◌<◌, ◌≤◌, [], ◌++◌, length, take, drop, IfOk, OnErr};
+ghost use Rattle.std.specs.Int.{w16, w64, to_be_bytes, from_be_bytes};
 ghost use Rattle.outside.specs.Faults.{HasCause, Rose};
-ghost use Rattle.standby_core.specs.Frames.{Carried, frame_bytes, tail_bytes, agree, IsFrame};
-ghost use Rattle.standby_core.specs.Frames.{IsWithin, GoesOn, Shows, ShowsTail, Reads};
+ghost use Rattle.standby_core.specs.Frames.{Carried, frame_mark, frame_bytes, tail_bytes, agree};
+ghost use Rattle.standby_core.specs.Frames.{IsFrame, IsWithin, GoesOn, Shows, ShowsTail, Reads};
+ghost use Rattle.standby_core.specs.Frames.{end_behind};
 
 use log_journal::Header;
 use outside::{Failed, Source};
@@ -16,6 +18,13 @@ const HEAD: usize = 73;
 
 // The number, the kind and the length of the text.
 const FIELDS: usize = 11;
+
+// The longest name, the greatest kind, and the longest text.
+const NAME: usize = 32;
+
+const KINDS: u8 = 5;
+
+const TEXT: usize = 4096;
 
 /// Room for one frame. It has a fixed size.
 #[derive(Drop)]
@@ -60,7 +69,8 @@ impl FrameRoom {
 
     fn push(&mut self, bytes: &[u8])
         requires { length self.old + length bytes.now ≤ 4212 }
-        ensures { self.new ≡ self.old ++ bytes.now }
+        ensures added { self.new ≡ self.old ++ bytes.now }
+        ensures size { length self.new ≡ length self.old + length bytes.now }
     {
         let end = self.length + bytes.len();
         self.bytes[self.length..end].copy_from_slice(bytes);
@@ -96,7 +106,7 @@ impl FrameRoom {
         requires fits { size ≤ 4212 }
         ensures more { IfOk result (λ n. length self.new ≡ length self.old + n) }
         ensures size { IfOk result (λ n. length self.new ≤ size) }
-        ensures front { take (length self.old) self.new ≡ self.old }
+        ensures front { IfOk result (λ n. take (length self.old) self.new ≡ self.old) }
         ensures moved { S.tells → IfOk result
             (λ n. self.old ++ S.left source.old ≡ self.new ++ S.left source.new) }
         ensures end { S.tells → IfOk result (λ n. n ≡ 0 → S.left source.old ≡ []) }
@@ -138,18 +148,41 @@ pub fn judge<'a>(header: &Header, bytes: &'a [u8]) -> Judged<'a>
     requires { IsWithin header.now bytes.now }
     ensures { Shows header.now bytes.now result }
 {
-    if !agrees(bytes, b"CQEMIRR1") {
+    if !is_marked(bytes) {
         return Judged::Bad;
     }
-    let behind = bytes.get(8..).unwrap_or(&[]);
-    let facts = bytes.get(40..).unwrap_or(&[]);
-    if !agrees(behind, &header.policy) || !agrees(facts, &header.facts) {
+    if !has_header(bytes, header) {
         return Judged::Other;
     }
-    if bytes.len() < HEAD {
+    let length = bytes.len();
+    if length < HEAD {
         return Judged::Short(HEAD);
     }
     judge_fields(&bytes[HEAD..], bytes[HEAD - 1] as usize)
+}
+
+// Whether the bytes begin as a frame does, as far as they go.
+fn is_marked(bytes: &[u8]) -> bool
+    ensures { result ≡ agree bytes.now frame_mark }
+{
+    agrees(bytes, b"CQEMIRR1")
+}
+
+// Whether both digests stand behind that, as far as the bytes go.
+fn has_header(bytes: &[u8], header: &Header) -> bool
+    ensures { result ≡ agree (drop 8 bytes.now) (header.now.policy ++ header.now.facts) }
+{
+    let has_policy = agrees(behind(bytes, 8), &header.policy);
+    let has_facts = agrees(behind(bytes, 40), &header.facts);
+    has_policy && has_facts
+}
+
+// What stands behind so many bytes, or nothing.
+fn behind(bytes: &[u8], count: usize) -> &[u8]
+    ensures { result.now ≡ drop count bytes.now }
+{
+    let place = count.min(bytes.len());
+    &bytes[place..]
 }
 
 // The same of a frame whose header is right, by what follows the length of the name.
@@ -158,34 +191,82 @@ fn judge_fields(bytes: &[u8], named: usize) -> Judged<'_>
         → length bytes.now ≤ length (tail_bytes one) }
     ensures { ShowsTail named bytes.now result }
 {
-    if named < 1 || named > 32 {
+    if named < 1 {
+        return Judged::Bad;
+    }
+    if named > NAME {
         return Judged::Bad;
     }
     let start = named + FIELDS;
-    if bytes.len() < start {
+    let length = bytes.len();
+    if length < start {
         return Judged::Short(HEAD + start);
     }
-    let (name, fields) = bytes.split_at(named);
-    let [a, b, c, d, e, f, g, h, kind, high, low, text @ ..] = fields else {
-        return Judged::Short(HEAD + start);
-    };
-    let number = u64::from_be_bytes([*a, *b, *c, *d, *e, *f, *g, *h]);
-    let size = u16::from_be_bytes([*high, *low]) as usize;
-    let Ok(name) = str::from_utf8(name) else {
+    let (name, rest) = bytes.split_at(named);
+    let (fields, text) = rest.split_at(FIELDS);
+    judge_record(name, fields, text)
+}
+
+// The same of a name with the fields behind it, and as much of the text as there is.
+fn judge_record<'a>(name: &'a [u8], fields: &[u8], text: &'a [u8]) -> Judged<'a>
+    requires some { 1 ≤ length name.now }
+    requires few { length name.now ≤ 32 }
+    requires fields { length fields.now ≡ 11 }
+    requires within { (one : Carried)
+        → GoesOn (length name.now) (name.now ++ (fields.now ++ text.now)) one
+        → length name.now + 11 + length text.now ≤ length (tail_bytes one) }
+    ensures { ShowsTail (length name.now) (name.now ++ (fields.now ++ text.now)) result }
+{
+    let number = number_in(&fields[..8]);
+    let kind = fields[8];
+    let size = size_in(&fields[9..]) as usize;
+    let length = text.len();
+    let named = name.len();
+    let Ok(user) = str::from_utf8(name) else {
         return Judged::Bad;
     };
-    if *kind < 1 || *kind > 5 || size > 4096 || text.len() > size {
+    if kind < 1 {
         return Judged::Bad;
     }
-    if text.len() < size {
-        return Judged::Short(HEAD + start + size);
+    if kind > KINDS {
+        return Judged::Bad;
+    }
+    if size > TEXT {
+        return Judged::Bad;
+    }
+    if length > size {
+        return Judged::Bad;
+    }
+    if length < size {
+        return Judged::Short(HEAD + named + FIELDS + size);
     }
     Judged::Frame(Frame {
-        name,
+        name: user,
         number,
-        kind: *kind,
+        kind,
         text,
     })
+}
+
+// The number that eight bytes are.
+fn number_in(bytes: &[u8]) -> u64
+    requires { length bytes.now ≡ 8 }
+    ensures { to_be_bytes w64 result ≡ bytes.now }
+{
+    let mut array = [0; 8];
+    array.copy_from_slice(bytes);
+    u64::from_be_bytes(array)
+}
+
+// The length that two bytes are.
+fn size_in(bytes: &[u8]) -> u16
+    requires { length bytes.now ≡ 2 }
+    ensures bytes { to_be_bytes w16 result ≡ bytes.now }
+    ensures size { result ≡ from_be_bytes w16 bytes.now }
+{
+    let mut array = [0; 2];
+    array.copy_from_slice(bytes);
+    u16::from_be_bytes(array)
 }
 
 // Whether two lists are the same as far as both go.
@@ -230,11 +311,23 @@ pub fn read_frame<S: Source>(source: &mut S, header: &Header, room: &mut FrameRo
             Judged::Bad => return FrameOutcome::BadFrame,
             Judged::Other => return FrameOutcome::OtherHeader,
         };
-        match room.take_up_to(source, size) {
-            Ok(0) if room.bytes().is_empty() => return FrameOutcome::InputEnd,
-            Ok(0) => return FrameOutcome::BadFrame,
-            Ok(_) => (),
+        let count = match room.take_up_to(source, size) {
+            Ok(count) => count,
             Err(Failed) => return FrameOutcome::ReadFault,
+        };
+        if count == 0 {
+            return end_behind(room);
         }
     }
+}
+
+// How the input ends behind what is in the room.
+fn end_behind(room: &FrameRoom) -> FrameOutcome
+    ensures { result ≡ end_behind room.now }
+{
+    let length = room.bytes().len();
+    if length == 0 {
+        return FrameOutcome::InputEnd;
+    }
+    FrameOutcome::BadFrame
 }
