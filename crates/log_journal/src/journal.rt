@@ -148,7 +148,9 @@ impl<D: Disk> Journal<D> {
 
     /// How many records it has.
     pub fn count(&self) -> u64
-        ensures { result ≡ count_of self.now }
+        ensures same { result ≡ count_of self.now }
+        ensures records { D.tells → is_broken self.now ≡ false
+            → result ≡ length (records (D.reads (disk_of self.now))) }
     {
         self.count
     }

@@ -27,7 +27,7 @@ never_fault (byte ∷ bytes) is = let clash : BadFrame ≡ ReadFault = is in abs
 
 -- where no byte was taken the room is the same
 pub same_room : (room room' : List ℕ) → length room' ≡ length room → take (length room) room' ≡ room → room' ≡ room
-same_room room room' size front = sym (take_all room' (omega (arith, size))) ∙ front
+same_room room room' size front = sym (take_all (length room) room' (omega (arith, size))) ∙ front
 
 module _ (header : Header) where
   -- nothing is within every frame

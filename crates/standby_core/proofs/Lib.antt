@@ -1,4 +1,5 @@
 pub mod Agreeing
+pub mod Booking
 pub mod Causes
 pub mod Filling
 pub mod Frames

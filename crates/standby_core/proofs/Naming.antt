@@ -18,6 +18,11 @@ other_name own wanted other same differs = by (bytes_eq own other) refl
         let clash : true ≡ false = sym same ∙ ap (λ n. bytes_eq n wanted) other_is ∙ differs in
         absurd cc
 
+-- this one stands at a place, and is the first of which a test holds
+pub data Stands {X : Type 0} (has : X → Bool) : List X → ℕ → X → Type 0 where
+  here : (x : X) (xs : List X) → has x ≡ true → Stands has (x ∷ xs) 0 x
+  further : (y x : X) (xs : List X) (place : ℕ) → has y ≡ false → Stands has xs place x → Stands has (y ∷ xs) (suc place) x
+
 module _ {X : Type 0} (name : X → List ℕ) (wanted : List ℕ) where
   abbrev has_it : X → Bool
   has_it x = bytes_eq (name x) wanted
@@ -26,7 +31,8 @@ module _ {X : Type 0} (name : X → List ℕ) (wanted : List ℕ) where
   pub record IsAt (xs : List X) (place : ℕ) (other : X) : Type 0 where
     pub low : place < length xs
     pub named : has_it (get_or xs place other) ≡ true
-    pub here : first_named name xs wanted ≡ Some (get_or xs place other)
+    pub stands : Stands has_it xs place (get_or xs place other)
+    pub is_first : first_named name xs wanted ≡ Some (get_or xs place other)
     pub set : (y : X) → has_it y ≡ true → first_named name (slice_set xs place y) wanted ≡ Some y
     pub others : (y : X) → has_it y ≡ true → (one : List ℕ) → bytes_eq one wanted ≡ false
         → first_named name (slice_set xs place y) one ≡ first_named name xs one
@@ -35,7 +41,8 @@ module _ {X : Type 0} (name : X → List ℕ) (wanted : List ℕ) where
   at_front x xs other is = record {
     low = omega arith;
     named = is;
-    here = ap (λ b. if b then Some x else first_named name xs wanted) is;
+    stands = here x xs is;
+    is_first = ap (λ b. if b then Some x else first_named name xs wanted) is;
     set = λ y same. ap (λ b. if b then Some y else first_named name xs wanted) same;
     others = λ y same one differs.
         ap (λ b. if b then Some y else first_named name xs one) (other_name (name y) wanted one same differs)
@@ -46,7 +53,8 @@ module _ {X : Type 0} (name : X → List ℕ) (wanted : List ℕ) where
   at_next x xs place other miss at = record {
     low = omega (arith, at.low);
     named = at.named;
-    here = ap (λ b. if b then Some x else first_named name xs wanted) miss ∙ at.here;
+    stands = further x (get_or xs place other) xs place miss at.stands;
+    is_first = ap (λ b. if b then Some x else first_named name xs wanted) miss ∙ at.is_first;
     set = λ y same. ap (λ b. if b then Some x else first_named name (slice_set xs place y) wanted) miss ∙ at.set y same;
     others = λ y same one differs. ap (λ r. if bytes_eq (name x) one then Some x else r) (at.others y same one differs);
   }
@@ -57,7 +65,7 @@ module _ {X : Type 0} (name : X → List ℕ) (wanted : List ℕ) where
   found_from (x ∷ xs) i found other is = by (has_it x) refl is
     where
       by : (b : Bool) → has_it x ≡ b → cond b (Some i) (position_from has_it (i + 1) xs) ≡ Some found → (k : ℕ) × (found ≡ i + k) × IsAt (x ∷ xs) k other
-      by true here is = let same : i ≡ found = cc in (0, omega (arith, same), at_front x xs other here)
+      by true it is = let same : i ≡ found = cc in (0, omega (arith, same), at_front x xs other it)
       by false miss is =
           let later = found_from xs (i + 1) found other is in
           (suc later.0, omega (arith, later.1.0), at_next x xs later.0 other miss later.1.1)

@@ -61,7 +61,7 @@ module _ {C : Type 0} {g : _} where
       let at : IsAt slot_name name slots place old = found slot_name name slots place old (sym is) in
       let it : bytes_eq (slot_name new) name ≡ true = still_named slot_name name slots place old new at here named in
       record {
-        was = ap (λ o. option_map (λ (s : Slot C g). s.place) o) (at.here ∙ ap Some (sym here));
+        was = ap (λ o. option_map (λ (s : Slot C g). s.place) o) (at.is_first ∙ ap Some (sym here));
         now = ap (λ o. option_map (λ (s : Slot C g). s.place) o) (at.set new it);
         others = λ one differs. ap (λ o. option_map (λ (s : Slot C g). s.place) o) (at.others new it one differs);
       }

@@ -6,6 +6,7 @@ use Rattle.log_journal.specs.Walk.{records}
 use Rattle.log_journal.specs.Journal.{disk_of, is_broken}
 use Rattle.replica.specs.Replica.{records_after}
 use Rattle.standby_core.specs.Frames.{Carried}
+use Rattle.standby_core.specs.Named.{first_named}
 use Rattle.standby_core.specs.declared.book.Held.{Held}
 use Rattle.standby_core.specs.declared.book.StandbyBook.{StandbyBook}
 
@@ -31,8 +32,7 @@ copies_in reads book = map (copy_in reads) book.journals.items
 
 -- the copy of a name
 abbrev pub copy_at : List Copy → List ℕ → Option Copy
-copy_at [] name = None
-copy_at (copy ∷ copies) name = if bytes_eq copy.name name then Some copy else copy_at copies name
+copy_at copies name = first_named (λ copy. copy.name) copies name
 
 -- the copy after a record comes: where its number is the count, it joins the records
 abbrev pub copy_after : Copy → Carried → Copy
@@ -57,12 +57,14 @@ HasCount copies name count =
 abbrev pub HasFailed : List Copy → List ℕ → Type 0
 HasFailed copies name = (copy : Copy) × (copy_at copies name ≡ Some copy) × (copy.failed ≡ true)
 
+-- the name of a journal's user
+abbrev pub held_name : {D : Type 0} {g : _} → Held D g → List ℕ
+held_name held = string_bytes held.name
+
 -- the count of faults of the disk of a name
-abbrev pub faults_at : {D : Type 0} {g : _} → (D → ℕ) → List (Held D g) → List ℕ → ℕ
-faults_at faults [] name = 0
-faults_at faults (held ∷ more) name =
-    if bytes_eq (string_bytes held.name) name then faults (disk_of held.journal)
-    else faults_at faults more name
+abbrev pub faults_held : {D : Type 0} {g : _} → (D → ℕ) → Option (Held D g) → ℕ
+faults_held faults None = 0
+faults_held faults (Some held) = faults (disk_of held.journal)
 
 abbrev pub book_faults : {D : Type 0} {g : _} → (D → ℕ) → StandbyBook D g → List ℕ → ℕ
-book_faults faults book name = faults_at faults book.journals.items name
+book_faults faults book name = faults_held faults (first_named held_name book.journals.items name)

@@ -5,4 +5,5 @@ pub mod Named
 pub mod Slots
 pub mod Doors
 pub mod Books
+pub mod Lasting
 pub mod Exchanges

@@ -1,10 +1,11 @@
 //! The journals of a standby, by user.
-ghost use Rattle.std.specs.Prelude.{◌≡◌, ◌≤◌, ◌+◌, ◌++◌, ◌∷◌, [], All, length, false, string_bytes};
-ghost use Rattle.std.specs.Prelude.{IfOk, OnOk, IsErrOf, IsTrue, ◌↔◌, Some, None};
+ghost use Rattle.std.specs.Prelude.{◌≡◌, ◌⊎◌, ◌≤◌, ◌<◌, All, length, position, string_bytes, bytes_eq};
+ghost use Rattle.std.specs.Prelude.{IfOk, IfSome, OnOk, IsErrOf, IsTrue, ◌↔◌, None, List, ℕ, map};
 ghost use Rattle.outside.specs.Faults.{Rose};
 ghost use Rattle.log_journal.specs.Journal.{disk_of, is_broken, count_of};
-ghost use Rattle.log_journal.specs.Walk.{records};
-ghost use Rattle.standby_core.specs.Books.{copy_in, copy_after};
+ghost use Rattle.log_journal.specs.Records.{Recorded};
+ghost use Rattle.standby_core.specs.Books.{copy_in, copy_after, held_name};
+ghost use Rattle.standby_core.specs.Lasting.{Lasts, IsCounted};
 
 use log_journal::{AppendError, Journal};
 use outside::Disk;
@@ -37,9 +38,9 @@ pub struct StandbyBook<D: Disk> {
 }
 
 impl<D: Disk> StandbyBook<D> {
-    ghost use Rattle.std.specs.Prelude.{not, option_is_some};
     ghost use Rattle.standby_core.specs.Books.{copies_in, copy_at, copies_after, HasCount};
     ghost use Rattle.standby_core.specs.Books.{HasFailed, book_faults};
+    ghost use Rattle.standby_core.specs.Lasting.{AllLast, AllCounted, has_broken};
 
     /// The journals of users whose names differ. It takes no memory.
     pub fn new(journals: Vec<Held<D>>) -> StandbyBook<D>
@@ -51,7 +52,8 @@ impl<D: Disk> StandbyBook<D> {
 
     /// Gives the journals back. It takes no memory.
     pub fn close(self) -> Vec<Held<D>>
-        ensures { result ≡ self.journals }
+        ensures same { result ≡ self.journals }
+        ensures counted { All (λ held. held.count ≡ count_of held.journal) result.items }
     {
         self.journals
     }
@@ -85,16 +87,33 @@ impl<D: Disk> StandbyBook<D> {
             → copies_in D.reads self.new ≡ copies_in D.reads self.old }
         ensures memory { IsErrOf result TakeError.Memory
             → copies_in D.reads self.new ≡ copies_in D.reads self.old }
+
+        // What was there stays: each crash leaves the records with which a journal began.
+        ensures lasts { D.tells → (header : List ℕ) (firsts : List (List Recorded))
+            → AllLast D.reads D.image header firsts self.old.journals.items
+            → AllLast D.reads D.image header firsts self.new.journals.items }
+        ensures names { map held_name self.new.journals.items
+            ≡ map held_name self.old.journals.items }
+        ensures counted { (counts : List ℕ)
+            → AllCounted D.faults counts self.old.journals.items
+            → AllCounted D.faults counts self.new.journals.items }
+        ensures broke { IsErrOf result TakeError.DiskFault ⊎ IsErrOf result TakeError.Broken
+            → IsTrue (has_broken self.new.journals.items) }
     {
-        match self
-            .journals
-            .iter()
-            .position(|held| held.name.as_str() == name)
-        {
-            Some(place) => self.journals[place].take(number, kind, text),
-            None => Err(TakeError::UnknownName),
-        }
+        let Some(place) = place_of(self.journals.as_slice(), name) else {
+            return Err(TakeError::UnknownName);
+        };
+        let held = &mut self.journals[place];
+        held.take(number, kind, text)
     }
+}
+
+// The place of the journal of this name.
+fn place_of<D: Disk>(journals: &[Held<D>], name: &str) -> Option<usize>
+    ensures place { result ≡ position (λ held. bytes_eq (held_name held) name.now) journals.now }
+    ensures within { IfSome result (λ place. place < length journals.now) }
+{
+    journals.iter().position(|held| held.name.as_str() == name)
 }
 
 impl<D: Disk> Held<D> {
@@ -122,26 +141,31 @@ impl<D: Disk> Held<D> {
         ensures untouched { IsErrOf result TakeError.Broken → self.new ≡ self.old }
         ensures memory { IsErrOf result TakeError.Memory
             → copy_in D.reads self.new ≡ copy_in D.reads self.old }
+        ensures lasts { D.tells → (header : List ℕ) (first : List Recorded)
+            → Lasts D.reads D.image header first self.old
+            → Lasts D.reads D.image header first self.new }
+        ensures faults { (count : ℕ) → IsCounted D.faults count self.old
+            → IsCounted D.faults count self.new }
+        ensures broke { IsErrOf result TakeError.DiskFault ⊎ IsErrOf result TakeError.Broken
+            → IsTrue (is_broken self.new.journal) }
     {
         if self.journal.has_failed() {
             return Err(TakeError::Broken);
         }
-        if number != self.count {
-            return Ok(self.count);
+        let count = self.journal.count();
+        if number != count {
+            return Ok(count);
         }
         if self.journal.reserve(text.len() as u32).is_err() {
             return Err(TakeError::Memory);
         }
-        match self.journal.append(kind, text) {
-            Ok(()) => {
-                self.count = self.journal.count();
-                Ok(self.count)
-            }
-            Err(AppendError::DiskFault) => {
-                self.count = self.journal.count();
-                Err(TakeError::DiskFault)
-            }
-            Err(AppendError::Broken) => unreachable!(),
+        let appended = self.journal.append(kind, text);
+        let grown = self.journal.count();
+        self.count = grown;
+        match appended {
+            Ok(()) => Ok(grown),
+            Err(AppendError::DiskFault) => Err(TakeError::DiskFault),
+            Err(AppendError::Broken) => Err(TakeError::Broken),
         }
     }
 }
