@@ -4,11 +4,11 @@ use Rattle.std.proofs.Common.{sym, ap, subst, ◌∙◌, ⊎_elim, arith, append
 use Rattle.std.specs.Int.{w16, w64, to_be_bytes, from_be_bytes}
 use Rattle.std.specs.Prelude.{IsUtf8}
 use Rattle.std.proofs.lemmas.Bool.{cases_lt, eqb-true}
-use Rattle.std.proofs.lemmas.List.{append_cancel_left, drop_more, drop-drop}
+use Rattle.std.proofs.lemmas.List.{append_cancel_left, append-nil, drop_more, drop-drop}
 use Rattle.std.proofs.lemmas.Nat.{from_be_bytes-to_be_bytes_2}
 use Rattle.std.proofs.Math.ListN.{drop_of_length-le}
 use Rattle.log_journal.specs.declared.header.Header.{Header}
-use Rattle.standby_core.specs.Frames.{Carried, IsCarried, frame_mark, tail_bytes, frame_bytes, agree, IsOther, IsWithin, Shows, GoesOn, ShowsTail}
+use Rattle.standby_core.specs.Frames.{Carried, IsCarried, frame_mark, tail_bytes, frame_bytes, IsFrame, agree, IsOther, IsWithin, Shows, GoesOn, ShowsTail}
 use Rattle.standby_core.specs.Frames.{carried_in}
 use Rattle.standby_core.specs.declared.frame.Judged.{Judged}
 use Rattle.standby_core.specs.declared.frame.Judged.TheVariants.{Frame, Short, Bad, Other}
@@ -97,13 +97,13 @@ module _ (header : Header) (policy_size : length header.policy ≡ 32) (facts_si
       ∙ append_assoc head (one.name ++ number ++ kind) size)
       ∙ append_assoc head (one.name ++ number ++ kind ++ size) one.text
 
-  frame_goes : (one : Carried) (more : List ℕ)
+  pub frame_goes : (one : Carried) (more : List ℕ)
       → frame_bytes header one ++ more ≡ frame_mark ++ (digests ++ (length one.name ∷ (tail_bytes one ++ more)))
   frame_goes one more =
       ap (λ l. l ++ more) (frame_split one) ∙ append_assoc (head_bytes (length one.name)) (tail_bytes one) more
       ∙ head_split (length one.name) (tail_bytes one ++ more)
 
-  frame_size : (one : Carried) → length (frame_bytes header one) ≡ 73 + length (tail_bytes one)
+  pub frame_size : (one : Carried) → length (frame_bytes header one) ≡ 73 + length (tail_bytes one)
   frame_size one =
       ap length (frame_split one) ∙ length-append (head_bytes (length one.name)) (tail_bytes one)
       ∙ ap (λ n. n + length (tail_bytes one)) (head_size (length one.name))
@@ -248,6 +248,18 @@ split_even (x ∷ xs) ys (z ∷ zs) ws is same =
     let rest = split_even xs ys zs ws others (omega (arith, same)) in
     (λ i. one i ∷ rest.0 i, rest.1)
 
+-- the number, the kind and the length of the text
+abbrev fields_bytes : Carried → List ℕ
+fields_bytes one = to_be_bytes w64 one.number ++ (one.kind ∷ to_be_bytes w16 (length one.text))
+
+tail_parts : (one : Carried) (more : List ℕ) → tail_bytes one ++ more ≡ one.name ++ (fields_bytes one ++ (one.text ++ more))
+tail_parts one more =
+    let number = to_be_bytes w64 one.number in
+    let size = to_be_bytes w16 (length one.text) in
+    append_assoc (one.name ++ number ++ (one.kind ∷ []) ++ size) one.text more
+    ∙ ap (λ l. l ++ (one.text ++ more)) (append_assoc (one.name ++ number) (one.kind ∷ []) size ∙ append_assoc one.name number (one.kind ∷ size))
+    ∙ append_assoc one.name (fields_bytes one) (one.text ++ more)
+
 -- too few bytes for the fields
 pub short_of_fields : (named : ℕ) (bytes : List ℕ) → named ≤ 32 → length bytes < named + 11 → ShowsTail named bytes (Short (73 + (named + 11)))
 short_of_fields named bytes few short = (
@@ -263,22 +275,15 @@ module _ (name fields text : List ℕ) (size : length fields ≡ 11) where
   -- the fields of a record that these bytes go on as
   pub record HasFields (one : Carried) : Type 0 where
     pub name_is : name ≡ one.name
-    pub fields_are : fields ≡ to_be_bytes w64 one.number ++ (one.kind ∷ to_be_bytes w16 (length one.text))
+    pub fields_are : fields ≡ fields_bytes one
 
   pub fields_of : (one : Carried) → GoesOn (length name) bytes one → HasFields one
   fields_of one goes =
-      let number = to_be_bytes w64 one.number in
-      let length_bytes = to_be_bytes w16 (length one.text) in
       let left : name ++ (fields ++ (text ++ goes.rest)) ≡ bytes ++ goes.rest =
       ap (λ l. name ++ l) (sym (append_assoc fields text goes.rest)) ∙ sym (append_assoc name (fields ++ text) goes.rest) in
-      let right : tail_bytes one ++ goes.more ≡ one.name ++ ((number ++ (one.kind ∷ length_bytes)) ++ (one.text ++ goes.more)) =
-      append_assoc (one.name ++ number ++ (one.kind ∷ []) ++ length_bytes) one.text goes.more
-      ∙ ap (λ l. l ++ (one.text ++ goes.more))
-      (append_assoc (one.name ++ number) (one.kind ∷ []) length_bytes ∙ append_assoc one.name number (one.kind ∷ length_bytes))
-      ∙ append_assoc one.name (number ++ (one.kind ∷ length_bytes)) (one.text ++ goes.more) in
-      let first = split_even name (fields ++ (text ++ goes.rest)) one.name ((number ++ (one.kind ∷ length_bytes)) ++ (one.text ++ goes.more))
-      (left ∙ goes.is ∙ right) (sym goes.size) in
-      let second = split_even fields (text ++ goes.rest) (number ++ (one.kind ∷ length_bytes)) (one.text ++ goes.more) first.1 size in
+      let first = split_even name (fields ++ (text ++ goes.rest)) one.name (fields_bytes one ++ (one.text ++ goes.more))
+      (left ∙ goes.is ∙ tail_parts one goes.more) (sym goes.size) in
+      let second = split_even fields (text ++ goes.rest) (fields_bytes one) (one.text ++ goes.more) first.1 size in
       record { name_is = first.0; fields_are = second.0 }
 
   kind_of : (one : Carried) → GoesOn (length name) bytes one → get_or fields 8 0 ≡ one.kind
@@ -324,3 +329,49 @@ module _ (name fields text : List ℕ) (size : length fields ≡ 11) where
       ∙ ap (λ l. l ++ text)
       (sym (append_assoc name (to_be_bytes w64 number) (kind ∷ to_be_bytes w16 (length text)))
       ∙ sym (append_assoc (name ++ to_be_bytes w64 number) (kind ∷ []) (to_be_bytes w16 (length text))))
+
+-- two records with names of one length, of which the tails go on to the same bytes
+same_texts : (one other : Carried) (rest more : List ℕ) → IsCarried one → IsCarried other → length one.name ≡ length other.name
+    → tail_bytes one ++ rest ≡ tail_bytes other ++ more → length one.text ≡ length other.text
+same_texts one other rest more proper proper' named is =
+    let first = tail_parts one rest in
+    let second = tail_parts other more in
+    let fields = (split_even one.name _ other.name _ (sym first ∙ is ∙ second) named).1 in
+    let same = (split_even (fields_bytes one) (one.text ++ rest) (fields_bytes other) (other.text ++ more) fields refl).0 in
+    let sizes : to_be_bytes w16 (length one.text) ≡ to_be_bytes w16 (length other.text) = ap (λ l. drop 9 l) same in
+    sym (from_be_bytes-to_be_bytes_2 (length one.text) (omega (arith, proper.short))) ∙ ap (from_be_bytes w16) sizes
+    ∙ from_be_bytes-to_be_bytes_2 (length other.text) (omega (arith, proper'.short))
+
+-- ---- a whole frame is judged as one
+
+module _ (header : Header) (policy_size : length header.policy ≡ 32) (facts_size : length header.facts ≡ 32) (room : List ℕ) (one : Carried)
+    (frame : IsFrame header room one) where
+  -- what goes on from a frame is that frame
+  pub frame_within : IsWithin header room
+  frame_within other rest more proper goes =
+      let is : frame_bytes header one ++ rest ≡ frame_bytes header other ++ more = ap (λ l. l ++ rest) (sym frame.is) ∙ goes in
+      let left = frame_goes header policy_size facts_size one rest in
+      let right = frame_goes header policy_size facts_size other more in
+      let behind : length one.name ∷ (tail_bytes one ++ rest) ≡ length other.name ∷ (tail_bytes other ++ more) =
+      append_cancel_left (header.policy ++ header.facts) _ _ (append_cancel_left frame_mark _ _ (sym left ∙ is ∙ right)) in
+      let named : length one.name ≡ length other.name = cc in
+      let tails : tail_bytes one ++ rest ≡ tail_bytes other ++ more = cc in
+      let sizes : length one.text ≡ length other.text = same_texts one other rest more frame.proper proper named tails in
+      omega (arith, ap length frame.is, frame_size header policy_size facts_size one, frame_size header policy_size facts_size other,
+      tail_size one, tail_size other, named, sizes)
+
+  pub never_short : (need : ℕ) → Shows header room (Short need) → ⊥
+  never_short need shows =
+      let most = shows.1.1.0 one [] [] frame.proper (ap (λ l. l ++ []) frame.is) in
+      omega (arith, most, shows.0, ap length frame.is)
+
+  pub never_bad : Shows header room Bad → ⊥
+  never_bad shows = shows.1.0 one [] [] frame.proper (ap (λ l. l ++ []) frame.is)
+
+  pub never_other : Shows header room Other → ⊥
+  never_other other =
+      let same : agree (drop 8 room) (header.policy ++ header.facts) ≡ true =
+      ap (λ l. agree (drop 8 l) (header.policy ++ header.facts)) (frame.is ∙ sym (append-nil (frame_bytes header one))
+      ∙ frame_goes header policy_size facts_size one [])
+      ∙ agree-with (header.policy ++ header.facts) (length one.name ∷ (tail_bytes one ++ [])) in
+      not_other_now header policy_size facts_size room same other

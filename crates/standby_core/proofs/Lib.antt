@@ -6,5 +6,5 @@ pub mod Frames
 pub mod Framing
 pub mod Keeping
 pub mod Naming
+pub mod Serving
 pub mod Slotting
-pub mod Taking

@@ -1,7 +1,8 @@
 -- What a standby does with the bytes of a connection.
-use Rattle.std.specs.Prelude.{◌≡◌, ℕ, ◌≤◌, List, [], ◌++◌, length, take}
+use Rattle.std.specs.Prelude.{◌≡◌, ℕ, ◌≤◌, List, [], ◌++◌, length, take, Result, Ok, Err}
 use Rattle.log_journal.specs.declared.header.Header.{Header}
-use Rattle.standby_core.specs.Frames.{Carried, IsCarried, frame_bytes, answer_bytes, IsBad, IsOther}
+use Rattle.standby_core.specs.Frames.{Carried, IsCarried, IsFrame, frame_bytes, answer_bytes}
+use Rattle.standby_core.specs.Frames.{IsBad, IsOther}
 use Rattle.standby_core.specs.Books.{Copy, copies_after, HasCount}
 use Rattle.standby_core.specs.declared.serve.StandbyEnd.{StandbyEnd}
 use Rattle.standby_core.specs.declared.serve.StandbyEnd.TheVariants.{InputEnd, BadFrame}
@@ -32,6 +33,33 @@ HasEnded header left OtherHeader = IsOther header left
 HasEnded header left (Take why) = BeginsWithFrame header left
 HasEnded header left ReadFault = Unit {0}
 HasEnded header left WriteFault = Unit {0}
+
+-- it ended at a frame that was whole
+abbrev pub IsTaking : StandbyEnd → Type 0
+IsTaking (Take why) = Unit {0}
+IsTaking WriteFault = Unit {0}
+IsTaking end = ⊥
+
+-- a record was taken, and this is the count then
+pub record IsTakenAs (copies copies' : List Copy) (one : Carried) (count : ℕ) : Type 0 where
+  pub left : copies' ≡ copies_after copies one
+  pub counted : HasCount copies' one.name count
+
+-- What came of the frame in a room: its record was taken and answered, or it wasn't taken, or a
+-- part of the answer was written.
+abbrev pub TookOne : Carried → List Copy → List Copy → List ℕ → List ℕ → Result (Unit {0}) StandbyEnd
+    → Type 0
+TookOne one copies copies' old new (Ok _) =
+    (count : ℕ) × IsTakenAs copies copies' one count × (new ≡ old ++ answer_bytes count)
+TookOne one copies copies' old new (Err WriteFault) = (count : ℕ)
+    × IsTakenAs copies copies' one count
+    × ((n : ℕ) × (n ≤ length (answer_bytes count)) × (new ≡ old ++ take n (answer_bytes count)))
+TookOne one copies copies' old new (Err end) = new ≡ old
+
+abbrev pub Took : Header → List ℕ → List Copy → List Copy → List ℕ → List ℕ
+    → Result (Unit {0}) StandbyEnd → Type 0
+Took header room copies copies' old new result =
+    (one : Carried) × IsFrame header room one × TookOne one copies copies' old new result
 
 -- What was written: all answers, or where the sink failed the first bytes of them.
 abbrev pub IsAnswered : StandbyEnd → List ℕ → List ℕ → List ℕ → Type 0

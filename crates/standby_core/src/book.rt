@@ -1,6 +1,7 @@
 //! The journals of a standby, by user.
-ghost use Rattle.std.specs.Prelude.{◌≡◌, ◌⊎◌, ◌≤◌, ◌<◌, All, length, position, string_bytes, bytes_eq};
-ghost use Rattle.std.specs.Prelude.{IfOk, IfSome, OnOk, IsErrOf, IsTrue, ◌↔◌, None, List, ℕ, map};
+ghost use Rattle.std.specs.Prelude.{◌≡◌, ◌⊎◌, ◌↔◌, ◌≤◌, ◌<◌, All, List, ℕ, map, length};
+ghost use Rattle.std.specs.Prelude.{string_bytes, bytes_eq, IfOk, IfSome, OnOk, IsErrOf, IsTrue};
+ghost use Rattle.std.specs.Prelude.{None, position};
 ghost use Rattle.outside.specs.Faults.{Rose};
 ghost use Rattle.log_journal.specs.Journal.{disk_of, is_broken, count_of};
 ghost use Rattle.log_journal.specs.Records.{Recorded};
