@@ -47,8 +47,8 @@ pub record IsTakenAs (copies copies' : List Copy) (one : Carried) (count : ℕ) 
 
 -- What came of the frame in a room: its record was taken and answered, or it wasn't taken, or a
 -- part of the answer was written.
-abbrev pub TookOne : Carried → List Copy → List Copy → List ℕ → List ℕ → Result (Unit {0}) StandbyEnd
-    → Type 0
+abbrev pub TookOne : Carried → List Copy → List Copy → List ℕ → List ℕ
+    → Result (Unit {0}) StandbyEnd → Type 0
 TookOne one copies copies' old new (Ok _) =
     (count : ℕ) × IsTakenAs copies copies' one count × (new ≡ old ++ answer_bytes count)
 TookOne one copies copies' old new (Err WriteFault) = (count : ℕ)

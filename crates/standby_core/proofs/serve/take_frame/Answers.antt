@@ -75,28 +75,28 @@ take-requires-clause-high g c = (in_room g (goal.at.take-requires-clause-high g 
 pub take-requires-clause-short : goal.take-requires-clause-short
 take-requires-clause-short g c = (in_room g (goal.at.take-requires-clause-short g c).In-Frame).proper.short
 
-pub returns-in-Err-take-clause-took : goal.returns-in-Err-take-clause-took
-returns-in-Err-take-clause-took g c disk sink =
-    (carried_in c.in-Frame.frame, in_room g (goal.at.returns-in-Err-take-clause-took g c).In-Frame, refl)
-
-pub returns-in-Ok-clause-took : goal.returns-in-Ok-clause-took
-returns-in-Ok-clause-took g c disk sink =
-    (
-      carried_in c.in-Frame.frame,
-      in_room g (goal.at.returns-in-Ok-clause-took g c).In-Frame,
-      c.in-Ok-take.count,
-      record { left = c.in-Ok-take.ensures.taken disk; counted = c.in-Ok-take.ensures.count disk },
-      c.in-Ok.ensures.all sink ∙ ap (λ l. g.K.Sink.written c.args.sink.now ++ l) c.to_be_bytes.ensures,
-    )
-
 pub returns-in-Err-clause-took : goal.returns-in-Err-clause-took
 returns-in-Err-clause-took g c disk sink =
-    let part = c.in-Err.ensures.part sink in
+    (carried_in c.in-Frame.frame, in_room g (goal.at.returns-in-Err-clause-took g c).In-Frame, refl)
+
+pub returns-in-Ok-write_all-clause-took : goal.returns-in-Ok-write_all-clause-took
+returns-in-Ok-write_all-clause-took g c disk sink =
     (
       carried_in c.in-Frame.frame,
-      in_room g (goal.at.returns-in-Err-clause-took g c).In-Frame,
-      c.in-Ok-take.count,
-      record { left = c.in-Ok-take.ensures.taken disk; counted = c.in-Ok-take.ensures.count disk },
+      in_room g (goal.at.returns-in-Ok-write_all-clause-took g c).In-Frame,
+      c.in-Ok.count,
+      record { left = c.in-Ok.ensures.taken disk; counted = c.in-Ok.ensures.count disk },
+      c.in-Ok-write_all.ensures.all sink ∙ ap (λ l. g.K.Sink.written c.args.sink.now ++ l) c.to_be_bytes.ensures,
+    )
+
+pub returns-in-Err-write_all-clause-took : goal.returns-in-Err-write_all-clause-took
+returns-in-Err-write_all-clause-took g c disk sink =
+    let part = c.in-Err-write_all.ensures.part sink in
+    (
+      carried_in c.in-Frame.frame,
+      in_room g (goal.at.returns-in-Err-write_all-clause-took g c).In-Frame,
+      c.in-Ok.count,
+      record { left = c.in-Ok.ensures.taken disk; counted = c.in-Ok.ensures.count disk },
       (
         part.0,
         omega (arith, part.1.0, ap length c.to_be_bytes.ensures),
