@@ -13,6 +13,7 @@ use Rattle.user_desk.specs.declared.standing.DeskError.{DeskError}
 use Rattle.user_desk.specs.declared.standing.DeskError.TheVariants.{Journal}
 use Rattle.standby_core.specs.Books.{held_name}
 use Rattle.standby_core.specs.Lasting.{Lasts}
+use Rattle.standby_core.specs.declared.book.Held.{Held}
 use Rattle.standby_engine.specs.declared.opening.Given.{Given}
 use Rattle.standby_engine.specs.declared.opening.Place.{Place}
 use Rattle.standby_engine.specs.declared.opening.Place.TheVariants.{Opened, Refused}
@@ -36,6 +37,24 @@ place_refusal (Refused journal disk why) = Some (Journal why)
 abbrev pub given_journal : {D : Type 0} → Given D → List ℕ
 given_journal given = string_bytes given.journal
 
+-- the journals among places that were opened, in order, with the names of their disks
+abbrev pub journals_in : {D : Type 0} {g : _} → List (Place D g) → List (Held D g)
+journals_in [] = []
+journals_in (Opened journal held ∷ places) = held ∷ journals_in places
+journals_in (Refused journal disk why ∷ places) = journals_in places
+
+abbrev pub names_in : {D : Type 0} {g : _} → List (Place D g) → List (List ℕ)
+names_in [] = []
+names_in (Opened journal held ∷ places) = string_bytes journal ∷ names_in places
+names_in (Refused journal disk why ∷ places) = names_in places
+
+-- the disks of the others, with their names
+abbrev pub others_in : {D : Type 0} {g : _} → List (Place D g) → List (Given D)
+others_in [] = []
+others_in (Opened journal held ∷ places) = others_in places
+others_in (Refused journal disk why ∷ places) =
+    record { journal = journal; disk = disk } ∷ others_in places
+
 -- A disk was opened as a journal with these first records, or refused. What is said of bytes holds
 -- where clauses are told of them.
 abbrev pub IsOpenedAs : {D : Type 0} {g : _} → DiskGhosts D → List ℕ → D → Place D g
@@ -54,7 +73,8 @@ IsNamed (Refused journal disk why) name = Unit {0}
 
 module _ {D : Type 0} (told : Type 0) (Disk : DiskGhosts D) where
   -- a disk is back under its name
-  pub record IsGiven (disk : List ℕ → Option D) (count : List ℕ → ℕ) (given : Given D) : Type 0 where
+  pub record IsGiven (disk : List ℕ → Option D) (count : List ℕ → ℕ) (given : Given D) :
+      Type 0 where
     pub held : told → disk (given_journal given) ≡ Some given.disk
     pub counted : count (given_journal given) ≡ Disk.faults given.disk
 

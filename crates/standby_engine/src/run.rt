@@ -1,11 +1,18 @@
 //! A standby from the first listening to the last journal that is back.
-ghost use Rattle.std.specs.Prelude.{◌≡◌, ◌⊎◌, ◌≤◌, ◌<◌, ◌+◌, ◌++◌, ◌∷◌, ◌^◌, []};
+ghost use Rattle.std.specs.Prelude.{◌≡◌, ◌⊎◌, ◌≤◌, ◌+◌, ◌++◌, ◌∷◌, ◌^◌, [], List, map, length};
+ghost use Rattle.std.specs.Prelude.{IfOk, string_bytes, vec_capacity};
 ghost use Rattle.outside.specs.Faults.{Rose};
 ghost use Rattle.outside.specs.Shelf.{SameNames, SameBeside, NoneOut, NoneFell, SomeRose};
 ghost use Rattle.outside.specs.Visits.{place_of};
+ghost use Rattle.log_journal.specs.Journal.{disk_of};
 ghost use Rattle.log_journal.specs.Opening.{header_bytes};
 ghost use Rattle.desk_crew.specs.Registered.{registered_journals, HaveOwnNames};
 ghost use Rattle.desk_crew.specs.Shelved.{journals_on};
+ghost use Rattle.standby_core.specs.Books.{Copy};
+ghost use Rattle.standby_core.specs.Lasting.{has_broken};
+ghost use Rattle.standby_engine.specs.Opened.{given_journal, journals_in, names_in, others_in};
+ghost use Rattle.standby_engine.specs.Opened.{place_refusal};
+ghost use Rattle.standby_engine.specs.Served.{IsDoorServed};
 ghost use Rattle.standby_engine.specs.Standing.{LeavesCopies, ServesCopies, IsServed, IsBroken};
 ghost use Rattle.standby_engine.specs.Standing.{IsSilent};
 ghost use Rattle.standby_engine.specs.declared.run.CopyEnd.{CopyEnd};
@@ -132,7 +139,34 @@ fn serve_opened<R: Wait, F: Shelf, O: Door>(
     shelf: &mut F,
     door: &mut O,
     limit: u64,
-) -> CopyEnd {
+) -> CopyEnd
+    requires names { HaveOwnNames users.now }
+    requires inside { NoneOut (F.is_out shelf.old) }
+    ensures serves { F.tells → O.tells → ((first : List Copy) × (last : List Copy)
+        × IsDoorServed O.given O.back header.now first last door.old door.new) ⊎ IsSilent result }
+    ensures journals { F.tells → LeavesCopies (header_bytes header.now)
+        (journals_on F.Shelf F.D.Disk directory.now shelf.old shelf.new) users.now result }
+    ensures silent { IsSilent result → door.new ≡ door.old }
+    ensures limited { O.tells → O.given door.new ≤ O.given door.old + limit }
+    ensures left { O.tells → O.left door.old + O.given door.old
+        ≡ O.left door.new + O.given door.new }
+    ensures ended { O.tells → IsServed result
+        → (O.left door.new ≡ 0) ⊎ (O.given door.new ≡ O.given door.old + limit) }
+    ensures failed { result ≡ CopyEnd.LinksFault → Rose (O.faults door.old) (O.faults door.new) }
+    ensures disks { SameBeside (registered_journals directory.now users.now) (F.disk shelf.old)
+        (F.disk shelf.new) }
+    ensures inside { NoneOut (F.is_out shelf.new) }
+    ensures files { SameNames (F.file shelf.old) (F.file shelf.new) }
+    ensures looked { F.looked shelf.new ≡ F.looked shelf.old }
+    ensures counts { NoneFell (F.disk_faults shelf.old) (F.disk_faults shelf.new) }
+    ensures other_counts { SameBeside (registered_journals directory.now users.now)
+        (F.disk_faults shelf.old) (F.disk_faults shelf.new) }
+    ensures shelf_later { F.faults shelf.old ≤ F.faults shelf.new }
+    ensures shelf_cause { result ≡ CopyEnd.ShelfFault
+        → Rose (F.faults shelf.old) (F.faults shelf.new) }
+    ensures disk_cause { IsBroken result
+        → SomeRose (F.disk_faults shelf.old) (F.disk_faults shelf.new) }
+{
     let count = users.len();
     let Ok(rooms) = Rooms::new(alloc, count) else {
         return CopyEnd::Memory;
@@ -170,7 +204,13 @@ struct Rooms<D: Disk> {
 }
 
 impl<D: Disk + Drop> Rooms<D> {
-    fn new(alloc: Global, count: usize) -> Result<Rooms<D>, AllocError> {
+    fn new(alloc: Global, count: usize) -> Result<Rooms<D>, AllocError>
+        ensures empty { IfOk result (λ rooms. (rooms.journals.items ≡ [])
+            × (rooms.names.items ≡ []) × (rooms.given.items ≡ []) × (rooms.refusals.items ≡ [])) }
+        ensures room { IfOk result (λ rooms. (count ≤ vec_capacity rooms.journals)
+            × (count ≤ vec_capacity rooms.names) × (count ≤ vec_capacity rooms.given)
+            × (count ≤ vec_capacity rooms.refusals)) }
+    {
         let journals = room_for(alloc, count)?;
         let names = room_for(alloc, count)?;
         let given = room_for(alloc, count)?;
@@ -185,7 +225,13 @@ impl<D: Disk + Drop> Rooms<D> {
 }
 
 // The refusal of each place, in a list with the room for them.
-fn refusals_of<D: Disk>(room: Vec<Option<DeskError>>, places: &[Place<D>]) -> Vec<Option<DeskError>>
+fn refusals_of<D: Disk>(
+    room: Vec<Option<DeskError>>,
+    places: &[Place<D>],
+) -> Vec<Option<DeskError>>
+    requires empty { room.items ≡ [] }
+    requires room { length places.now ≤ vec_capacity room }
+    ensures { result.items ≡ map place_refusal places.now }
 {
     let mut refusals = room;
     for place in places {
@@ -201,7 +247,15 @@ fn take_apart<D: Disk + Drop>(
     journals: Vec<Held<D>>,
     names: Vec<String>,
     given: Vec<Given<D>>,
-) -> (Vec<Held<D>>, Vec<String>, Vec<Given<D>>) {
+) -> (Vec<Held<D>>, Vec<String>, Vec<Given<D>>)
+    requires empty { (journals.items ≡ []) × (names.items ≡ []) × (given.items ≡ []) }
+    requires room { (length places.items ≤ vec_capacity journals)
+        × (length places.items ≤ vec_capacity names) × (length places.items ≤ vec_capacity given) }
+    ensures journals { result.0.items ≡ journals_in places.items }
+    ensures names { map string_bytes result.1.items ≡ names_in places.items }
+    ensures others { result.2.items ≡ others_in places.items }
+    ensures room { vec_capacity result.2 ≡ vec_capacity given }
+{
     let (mut journals, mut names, mut given) = (journals, names, given);
     for place in places {
         match place {
@@ -221,7 +275,15 @@ fn put_together<D: Disk + Drop>(
     journals: Vec<Held<D>>,
     names: Vec<String>,
     given: Vec<Given<D>>,
-) -> (Vec<Given<D>>, bool) {
+) -> (Vec<Given<D>>, bool)
+    requires room { length given.items + length journals.items ≤ vec_capacity given }
+    requires count { length names.items ≡ length journals.items }
+    ensures names { map given_journal result.0.items
+        ≡ map given_journal given.items ++ map string_bytes names.items }
+    ensures disks { map (λ one. one.disk) result.0.items
+        ≡ map (λ one. one.disk) given.items ++ map (λ held. disk_of held.journal) journals.items }
+    ensures broken { result.1 ≡ has_broken journals.items }
+{
     let (mut names, mut given) = (names, given);
     let mut broken = false;
     for held in journals {
