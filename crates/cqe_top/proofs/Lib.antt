@@ -7,5 +7,6 @@ mod Over
 mod Failing
 mod Good
 mod Serving
+mod Standing
 mod Lives
 mod Calls

@@ -1,7 +1,7 @@
 -- The commands `batch` and `serve` with a standby, which copies their journals. What is promised of
 -- them is what is promised without one, where the faults of a user's disk are counted with the
 -- exchanges with the standby that failed for it.
-use Rattle.std.specs.Prelude.{◌≡◌, ℕ, ◌+◌, Option, Some, None}
+use Rattle.std.specs.Prelude.{◌≡◌, ◌⊎◌, ℕ, ◌+◌, Option, Some, None}
 use Rattle.cqe_base.specs.Schema.{Text}
 use Rattle.command_words.specs.Readings.{FileNames, Reading, runs_copied_batch, runs_copied_serve}
 use Rattle.standby_core.specs.Slots.{RisesAtLeast}
@@ -27,14 +27,17 @@ abbrev pub AreCounted : LinksScene → (Text → ℕ) → Type 0
 AreCounted links failed =
     (name : Text) → RisesAtLeast links.mirror.before (failed name) links.mirror.now
 
+-- a reading with a standby, whose exchanges are counted so
+abbrev pub Counts : LinksScene → (Text → ℕ) → Option Reading → Type 0
+Counts links failed (Some (runs_copied_batch files workers standby)) = AreCounted links failed
+Counts links failed (Some (runs_copied_serve files address workers limit standby)) =
+    AreCounted links failed
+Counts links failed reading = ⊥
+
 -- exchanges are counted where the words name a standby, and there alone
 abbrev pub IsCounted : Scene → Option Reading → Option (Text → ℕ) → Type 0
-IsCounted s (Some (runs_copied_batch files workers standby)) (Some failed) =
-    AreCounted s.links failed
-IsCounted s (Some (runs_copied_serve files address workers limit standby)) (Some failed) =
-    AreCounted s.links failed
-IsCounted s reading (Some failed) = ⊥
 IsCounted s reading None = Unit {0}
+IsCounted s reading (Some failed) = Counts s.links failed reading
 
 -- ---- the commands
 
@@ -49,10 +52,11 @@ pub record KeepsDoors (links : LinksScene) : Type 0 where
   pub back : links.tells → links.back' ≡ links.back
   pub listened : links.tells → links.listened' ≡ links.listened
 
--- `batch` with a standby, as `OfBatch`: it listens nowhere, and opens connections to the standby
+-- `batch` with a standby, as `OfBatch`: it listens nowhere, and opens connections to the standby,
+-- or leaves the links alone
 pub record OfCopiedBatch (s : Scene) (files : FileNames) (end : CommandEnd) : Type 0 where
   pub ends : BatchEnds s.shelf s.input s.output files end
-  pub listens_nowhere : KeepsDoors s.links
+  pub listens_nowhere : SameLinks s.links ⊎ KeepsDoors s.links
   pub succeeds : BatchSucceeds s.shelf s.input s.output files end
 
 -- the ends that `serve` with a standby may have

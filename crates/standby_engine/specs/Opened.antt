@@ -1,5 +1,5 @@
 -- The journals of a standby that were opened, and those that were refused.
-use Rattle.std.specs.Prelude.{◌≡◌, ℕ, false, List, [], ◌∷◌, Option, Some, None, string_bytes}
+use Rattle.std.specs.Prelude.{◌≡◌, ◌≢◌, ℕ, false, List, [], ◌∷◌, Option, Some, None, string_bytes}
 use Rattle.std.specs.List.{AllByRecursion}
 use Rattle.outside.specs.Shelf.{IsTaken}
 use Rattle.outside.specs.declared.disk.Disk.{Ghosts as DiskGhosts}
@@ -9,6 +9,7 @@ use Rattle.log_journal.specs.Names.{journal_name}
 use Rattle.log_journal.specs.Opening.{IsOnlyRead, IsRefused, recorded}
 use Rattle.log_journal.specs.Records.{Recorded, IsJournal}
 use Rattle.log_journal.specs.declared.header.OpenError.{OpenError}
+use Rattle.log_journal.specs.declared.header.OpenError.TheVariants.{Memory}
 use Rattle.user_desk.specs.declared.standing.DeskError.{DeskError}
 use Rattle.user_desk.specs.declared.standing.DeskError.TheVariants.{Journal}
 use Rattle.standby_core.specs.Books.{held_name}
@@ -66,6 +67,11 @@ IsOpenedAs Disk header taken (Opened journal held) first =
 IsOpenedAs Disk header taken (Refused journal disk why) first =
     IsRefused Disk.tells header (Disk.reads taken) (Disk.faults taken) (Disk.faults disk) why
 
+-- it wasn't refused since memory was wanting
+abbrev pub HasMemory : {D : Type 0} {g : _} → Place D g → Type 0
+HasMemory (Opened journal held) = Unit {0}
+HasMemory (Refused journal disk why) = why ≢ Memory
+
 -- an opened journal is that of the user of this name
 abbrev pub IsNamed : {D : Type 0} {g : _} → Place D g → List ℕ → Type 0
 IsNamed (Opened journal held) name = held_name held ≡ name
@@ -87,6 +93,7 @@ module _ {D : Type 0} (told : Type 0) (Disk : DiskGhosts D) where
         (place : Place D g) : Type 0 where
       pub journal_is : place_journal place ≡ journal_name directory (string_bytes user.name)
       pub named : IsNamed place (string_bytes user.name)
+      pub memory : HasMemory place
       pub taken : D
       pub first : List Recorded
       pub from : told → IsTaken Disk.reads Disk.image (disk (place_journal place)) taken

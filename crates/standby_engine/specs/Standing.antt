@@ -1,5 +1,5 @@
 -- What a standby leaves of its users' journals.
-use Rattle.std.specs.Prelude.{◌≡◌, ◌⊎◌, ℕ, ◌+◌, true, List, [], ◌∷◌, ◌++◌, length}
+use Rattle.std.specs.Prelude.{◌≡◌, ◌≢◌, ◌⊎◌, ℕ, ◌+◌, true, List, [], ◌∷◌, ◌++◌, length}
 use Rattle.std.specs.Prelude.{Option, Some, None, string_bytes}
 use Rattle.outside.specs.Faults.{Rose}
 use Rattle.outside.specs.Visits.{Visit}
@@ -8,6 +8,7 @@ use Rattle.desk_crew.specs.Shelved.{Journals, KeepsJournal, KeepsJournals}
 use Rattle.log_journal.specs.Opening.{IsRefused}
 use Rattle.log_journal.specs.Records.{Recorded, IsJournal}
 use Rattle.log_journal.specs.declared.header.Header.{Header}
+use Rattle.log_journal.specs.declared.header.OpenError.TheVariants.{Memory as Wanting}
 use Rattle.user_desk.specs.declared.standing.DeskError.{DeskError}
 use Rattle.user_desk.specs.declared.standing.DeskError.TheVariants.{Journal}
 use Rattle.standby_core.specs.Books.{Copy}
@@ -28,7 +29,9 @@ pub record GrowsJournal (header : List ℕ) (journals : Journals) (name : List �
 abbrev pub IsCopied : List ℕ → Journals → List ℕ → Option DeskError → Type 0
 IsCopied header journals name None = GrowsJournal header journals name
 IsCopied header journals name (Some (Journal why)) =
-    IsRefused (Unit {0}) header (journals.bytes name) (journals.before name) (journals.now name) why
+    (why ≢ Wanting)
+    × IsRefused (Unit {0}) header (journals.bytes name) (journals.before name)
+    (journals.now name) why
     × KeepsJournal journals name
 IsCopied header journals name (Some why) = ⊥
 
@@ -40,10 +43,12 @@ AreCopied header journals (user ∷ users) (refusal ∷ refusals) =
     × AreCopied header journals users refusals
 AreCopied header journals users refusals = ⊥
 
--- An append to the journal of one of these users failed, and the count of his disk rose.
-pub record SomeFailed (journals : Journals) (users : List User) : Type 0 where
-  pub name : List ℕ
-  pub rose : Rose (journals.before name) (journals.now name)
+-- an append to the journal of one of these users failed, and the count of his disk rose
+abbrev pub SomeFailed : Journals → List User → Type 0
+SomeFailed journals [] = ⊥
+SomeFailed journals (user ∷ users) =
+    Rose (journals.before (string_bytes user.name)) (journals.now (string_bytes user.name))
+    ⊎ SomeFailed journals users
 
 -- The connections that were given in a call were served one after the other, from these copies on.
 pub record ServesCopies (header : Header) (given given' : ℕ) (back back' : List Visit) :
