@@ -32,7 +32,7 @@ use Rattle.cqe_top.specs.declared.end.FilesEnd.{FilesEnd}
 use Rattle.cqe_top.specs.declared.end.FilesEnd.TheVariants as files_end
 use Rattle.cqe_top.specs.declared.report.Report.{Report}
 use Rattle.cqe_top.specs.declared.report.Report.TheVariants as report
-use Rattle.cqe_top.specs.Promise.{OfReading, Does}
+use Rattle.cqe_top.specs.Promise.{OfReading, Does, Always}
 use Rattle.cqe_top.specs.Reports.{report_of, answers_report, has_refusal, FaultsHaveCauses}
 use Rattle.cqe_top.specs.Scene.{Scene, HasRisen}
 use Rattle.cqe_top.specs.Steps.{IsShelfFault}
@@ -141,5 +141,5 @@ module _ (s : Scene) where
   standby_cause users copy_end.Memory links shelf disk = has_cause _ tt
 
   -- where no exchanges are counted, it was done so
-  pub plainly : (reading : Option Reading) (end : CommandEnd) → OfReading s reading end → FaultsHaveCauses s end → Does s reading end
-  plainly reading end of cause = record { exchanges = None; counted = tt; command = of; cause = cause }
+  pub plainly : (reading : Option Reading) (end : CommandEnd) → OfReading s reading end → FaultsHaveCauses s end → Always s → Does s reading end
+  plainly reading end of cause always = record { exchanges = None; counted = tt; command = of; cause = cause; always = always }

@@ -8,5 +8,6 @@ mod Failing
 mod Good
 mod Serving
 mod Standing
+mod Copying
 mod Lives
 mod Calls

@@ -44,14 +44,6 @@ OfReading s (Some (runs_copied_serve files address workers limit standby)) end =
     OfCopiedServe s files address workers limit end
 OfReading s (Some (runs_standby files address limit)) end = OfStandby s files address limit end
 
--- so it was done: with exchanges that failed counted as faults of the disks, all holds that the
--- reading says of this end, and a fault that is told has its cause
-pub record Does (s : Scene) (reading : Option Reading) (end : CommandEnd) : Type 0 where
-  pub exchanges : Option (Text → ℕ)
-  pub counted : IsCounted s reading exchanges
-  pub command : OfReading (counted_with s exchanges) reading end
-  pub cause : FaultsHaveCauses (counted_with s exchanges) end
-
 -- of a shelf, whatever comes: its files are what they were, no disk is out, and no count of faults
 -- fell, neither that of a disk nor its own
 pub record KeepsShelf (shelf : ShelfScene) : Type 0 where
@@ -73,6 +65,15 @@ pub record Always (s : Scene) : Type 0 where
   pub links_faults : HasNotFallen s.links.faults
   pub mirror_faults : HasNotFallen s.links.mirror
 
+-- So it was done: with exchanges that failed counted as faults of the disks, all holds that the
+-- reading says of this end; a fault that is told has its cause, and what holds whatever comes does.
+pub record Does (s : Scene) (reading : Option Reading) (end : CommandEnd) : Type 0 where
+  pub exchanges : Option (Text → ℕ)
+  pub counted : IsCounted s reading exchanges
+  pub command : OfReading (counted_with s exchanges) reading end
+  pub cause : FaultsHaveCauses (counted_with s exchanges) end
+  pub always : Always (counted_with s exchanges)
+
 -- There is an end, of which all holds that the reading of the words says; where they name a standby
 -- exchanges with it that failed are counted as faults of the disk for which they were made. The
 -- status is that of this end, and so is the complaint: it was written whole, or where the count of
@@ -85,5 +86,4 @@ pub record Promise (words : List Text) (s : Scene) (complaints : Output) (status
   pub complaint : complaints.tells → AppendsUnless (complaint_of (report_of end))
       complaints.written complaints.written' (HasRisen complaints.faults)
   pub does : Does s (reading_of words) end
-  pub always : Always s
   pub complaints_faults : HasNotFallen complaints.faults

@@ -3,7 +3,7 @@
 ghost use Rattle.std.specs.Prelude.{◌≡◌, Option, map, string_bytes};
 ghost use Rattle.command_words.specs.Readings.{Reading, reading_of};
 ghost use Rattle.outside.specs.Shelf.{NoneOut};
-ghost use Rattle.cqe_top.specs.Promise.{Promise, Does, Always};
+ghost use Rattle.cqe_top.specs.Promise.{Promise, Does};
 ghost use Rattle.cqe_top.specs.Scene.{scene_of, shelf_of, input_of, output_of, links_of};
 
 use crate::complaint::complain;
@@ -95,9 +95,6 @@ where
         × Does (scene_of (shelf_of F.Shelf F.D.Disk shelf.old shelf.new)
         (input_of S.Source source.old source.new) (output_of K.Sink sink.old sink.new)
         (links_of L.Links links.old links.new)) read result }
-    ensures always { Always (scene_of (shelf_of F.Shelf F.D.Disk shelf.old shelf.new)
-        (input_of S.Source source.old source.new) (output_of K.Sink sink.old sink.new)
-        (links_of L.Links links.old links.new)) }
 {
     let command = match read_words(alloc, words) {
         Ok(Some(command)) => command,

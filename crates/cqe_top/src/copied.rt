@@ -13,7 +13,7 @@ ghost use Rattle.log_journal.specs.Opening.{header_bytes};
 ghost use Rattle.serve_engine.specs.Serving as serving;
 ghost use Rattle.serve_engine.specs.Serving.{IsDone};
 ghost use Rattle.standby_core.specs.Slots.{dial_faults};
-ghost use Rattle.cqe_top.specs.Promise.{Does, Always};
+ghost use Rattle.cqe_top.specs.Promise.{Does};
 ghost use Rattle.cqe_top.specs.Scene.{scene_of, shelf_of, input_of, output_of, links_of};
 ghost use Rattle.cqe_top.specs.Steps.{reading_copied, KeepsCopiedBounds, copied_journals};
 ghost use Rattle.cqe_top.specs.Steps.{copied_counts};
@@ -72,9 +72,6 @@ where
         (input_of S.Source source.old source.new) (output_of K.Sink sink.old sink.new)
         (links_of L.Links links.old links.new))
         (Some (reading_copied (names_of_files files.entry) task.entry standby.now)) result }
-    ensures always { Always (scene_of (shelf_of F.Shelf F.D.Disk shelf.old shelf.new)
-        (input_of S.Source source.old source.new) (output_of K.Sink sink.old sink.new)
-        (links_of L.Links links.old links.new)) }
 {
     let inputs = match read_files(alloc, shelf, &files) {
         Ok(inputs) => inputs,
@@ -179,7 +176,8 @@ where
     ensures inside { NoneOut (F.is_out shelf.new) }
     ensures files { SameNames (F.file shelf.old) (F.file shelf.new) }
     ensures looked { F.looked shelf.new ≡ F.looked shelf.old }
-    ensures counts { NoneFell (F.disk_faults shelf.old) (F.disk_faults shelf.new) }
+    ensures counts { NoneFell (F.disk_faults shelf.old)
+        (copied_counts (F.disk_faults shelf.new) (dial_faults C.faults mirrors.new)) }
     ensures other_counts { SameBeside
         (registered_journals registry.now.directory.now registry.now.users.now)
         (F.disk_faults shelf.old)
@@ -283,7 +281,8 @@ where
     ensures inside { NoneOut (F.is_out shelf.new) }
     ensures files { SameNames (F.file shelf.old) (F.file shelf.new) }
     ensures looked { F.looked shelf.new ≡ F.looked shelf.old }
-    ensures counts { NoneFell (F.disk_faults shelf.old) (F.disk_faults shelf.new) }
+    ensures counts { NoneFell (F.disk_faults shelf.old)
+        (copied_counts (F.disk_faults shelf.new) (dial_faults C.faults mirrors.new)) }
     ensures other_counts { SameBeside
         (registered_journals registry.now.directory.now registry.now.users.now)
         (F.disk_faults shelf.old)

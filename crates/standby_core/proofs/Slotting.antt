@@ -1,5 +1,5 @@
 -- What stands under the names of mirrors, where one is taken or put back.
-use Rattle.std.proofs.Common.{◌≡◌, ℕ, ◌+◌, ◌≤◌, ◌^◌, ◌⊎◌, inl, inr, Bool, true, false, ◌&&◌, Option, Some, None, List, [], ◌∷◌, ◌++◌, length, get_or, refl, sym}
+use Rattle.std.proofs.Common.{◌≡◌, ℕ, ◌+◌, ◌≤◌, ◌^◌, ◌⊎◌, inl, inr, Bool, true, false, Option, Some, None, List, [], ◌∷◌, ◌++◌, length, get_or, refl, sym}
 use Rattle.std.proofs.Common.{ap, subst, ◌∙◌, arith, option_map}
 use Rattle.std.specs.Prelude.{bytes_eq, position, slice_set, is_some, IfNone, if◌then◌else◌}
 use Rattle.std.specs.List.{AllByRecursion}
@@ -15,7 +15,7 @@ use Rattle.standby_core.specs.declared.mirrors.Slot.{Slot}
 use Rattle.standby_core.specs.Mirrors.{dial_of}
 use Rattle.standby_core.specs.MirroredDisks.{inner_of, mirrored, faults_by}
 use Rattle.standby_core.specs.Named.{first_named}
-use Rattle.standby_core.specs.Slots.{slot_name, place_at, mirror_in, new_in, place_with, faults_in, mirrored_at, RisesAtLeast}
+use Rattle.standby_core.specs.Slots.{slot_name, place_at, mirror_in, new_in, place_with, faults_in, mirrored_at, RisesAtLeast, HavePlaces}
 use Rattle.standby_core.proofs.Naming.{IsAt, found, not_found, still_named}
 
 -- what holds of a name and of all others holds of all
@@ -31,19 +31,13 @@ pub if_none : {X P Q : Type 0} (o : Option X) → IfNone o P → (P → Q) → I
 if_none None p then = then p
 if_none (Some x) p then = tt
 
--- of two tests one holds
-pub out_first : (a b : Bool) → b ≡ true → (a && b) ≡ false → a ≡ false
-out_first true true is both = both
-out_first true false is both = refl
-out_first false b is both = refl
-
-pub both_hold : (a b : Bool) → (a && b) ≡ true → (a ≡ true) × (b ≡ true)
-both_hold true b is = (refl, is)
-both_hold false b is = absurd cc
-
-pub both_held : (a b : Bool) → a ≡ true → b ≡ true → (a && b) ≡ true
-both_held true b first second = second
-both_held false b first second = absurd cc
+-- where one name is changed, and has a place then, each disk that is out still has one
+pub kept_places : {C : Type 0} {g : _} (name : List ℕ) (is_out is_out' : List ℕ → Bool) (slots slots' : List (Slot C g)) → HavePlaces is_out slots
+    → SameOthers name is_out is_out' → SameOthers name (place_at slots) (place_at slots') → is_some (place_at slots' name) ≡ true
+    → HavePlaces is_out' slots'
+kept_places name is_out is_out' slots slots' there same_out same_places here =
+    for_all (λ one. is_out' one ≡ true → is_some (place_at slots' one) ≡ true) name (λ out. here)
+    (λ one differs out. ap is_some (same_places one differs) ∙ there one (sym (same_out one differs) ∙ out))
 
 module _ {C : Type 0} {g : _} where
   -- ---- one slot is changed

@@ -1,6 +1,6 @@
 -- The mirrors of journals by the names of their disks, and the disks of a shelf with them.
 use Rattle.std.specs.Prelude.{◌≡◌, ◌⊎◌, ℕ, ◌+◌, ◌^◌, ◌≤◌, List, Option, Some, None, option_map}
-use Rattle.std.specs.Prelude.{string_bytes}
+use Rattle.std.specs.Prelude.{string_bytes, Bool, true, is_some}
 use Rattle.standby_core.specs.declared.mirror.Mirror.{Mirror}
 use Rattle.standby_core.specs.declared.mirrored_disk.MirroredDisk.{MirroredDisk}
 use Rattle.standby_core.specs.declared.mirrors.Mirrors.{Mirrors}
@@ -55,3 +55,8 @@ mirrored_at disk place = option_map (λ d. mirrored d (mirror_in place)) disk
 -- so many faults, or more, were added to a count, or it stands at the greatest number that fits it
 abbrev pub RisesAtLeast : ℕ → ℕ → ℕ → Type 0
 RisesAtLeast before faults now = (before + faults ≤ now) ⊎ (2 ^ 64 ≤ now + 1)
+
+-- each disk that is out has a place among the mirrors
+abbrev pub HavePlaces : {C : Type 0} {g : _} → (List ℕ → Bool) → List (Slot C g) → Type 0
+HavePlaces is_out slots =
+    (name : List ℕ) → is_out name ≡ true → is_some (place_at slots name) ≡ true

@@ -1,6 +1,7 @@
 //! A shelf whose disks a standby copies.
-ghost use Rattle.std.specs.Prelude.{◌≡◌, ◌++◌, ◌∷◌, [], ◌+◌, ◌&&◌, is_some, List, ℕ};
-ghost use Rattle.standby_core.specs.Slots.{slots_of, place_at, mirrored_at, faults_in};
+ghost use Rattle.std.specs.Prelude.{◌≡◌, ◌++◌, ◌∷◌, [], ◌+◌, List, ℕ};
+ghost use Rattle.outside.specs.Shelf.{NoneOut};
+ghost use Rattle.standby_core.specs.Slots.{slots_of, place_at, mirrored_at, faults_in, HavePlaces};
 
 use crate::{MirroredDisk, Mirrors};
 use outside::{Dial, Shelf, ShelfError};
@@ -13,14 +14,16 @@ use std::alloc::Global;
 /// The count of faults of a name is there that of its disk and that of its dial together. What the
 /// shelf holds under a name is the disk that the lent shelf holds, with the mirror.
 #[derive(Drop)]
-pub struct MirroredShelf<'a, 'h, F, C: Dial> {
-    pub shelf: &'a mut F,
-    pub mirrors: &'a mut Mirrors<'h, C>,
+pub struct MirroredShelf<'a, 'h, F: Shelf, C: Dial> {
+    shelf: &'a mut F,
+    mirrors: &'a mut Mirrors<'h, C>,
+    ghost there: { HavePlaces (F.is_out shelf.now) (slots_of mirrors.now) },
 }
 
-impl<'a, 'h, F, C: Dial> MirroredShelf<'a, 'h, F, C> {
-    /// It takes no memory.
+impl<'a, 'h, F: Shelf, C: Dial> MirroredShelf<'a, 'h, F, C> {
+    /// No disk of the shelf is out yet. It takes no memory.
     pub fn new(shelf: &'a mut F, mirrors: &'a mut Mirrors<'h, C>) -> Self
+        requires { NoneOut (F.is_out shelf.old) }
         ensures same_shelf { result.shelf.ghost_name ≡ shelf.entry.ghost_name }
         ensures same_mirrors { result.mirrors.ghost_name ≡ mirrors.entry.ghost_name }
         ensures shelf { result.shelf.now ≡ shelf.old }
@@ -40,8 +43,7 @@ impl<'h, F: Shelf, C: Dial + Drop> Shelf for MirroredShelf<'_, 'h, F, C> {
     ghost disk = { λ s name. mirrored_at (F.disk s.shelf.now name)
         (place_at (slots_of s.mirrors.now) name) };
 
-    ghost is_out = { λ s name. F.is_out s.shelf.now name
-        && is_some (place_at (slots_of s.mirrors.now) name) };
+    ghost is_out = { λ s. F.is_out s.shelf.now };
 
     ghost disk_faults = { λ s name. F.disk_faults s.shelf.now name
         + faults_in C.faults (place_at (slots_of s.mirrors.now) name) };

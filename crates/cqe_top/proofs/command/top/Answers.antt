@@ -19,7 +19,6 @@ returns g c = record {
         Does (scene_of (shelf_of g.F.Shelf g.F.D.Disk c.args.shelf.now c.run-end.new.shelf) (input_of g.S.Source c.args.source.now c.run-end.new.source)
         (output_of g.K.Sink c.args.sink.now c.run-end.new.sink) (links_of g.L.Links c.args.links.now c.run-end.new.links)) read c.run-end.result)
         (sym c.run-end.ensures.command.1) c.run-end.ensures.command.2;
-    always = c.run-end.ensures.always;
     complaints_faults = c.complain.ensures.later;
   };
 }

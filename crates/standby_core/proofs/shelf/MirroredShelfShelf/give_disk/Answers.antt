@@ -1,19 +1,19 @@
-use Rattle.std.proofs.Common.{◌≡◌, ◌+◌, ◌&&◌, Some, sym, ap, ◌∙◌}
+use Rattle.std.proofs.Common.{◌≡◌, ◌+◌, Some, sym, ap, ◌∙◌}
 use Rattle.std.specs.Prelude.{is_some}
 use Rattle.standby_core.specs.MirroredDisks.{inner_of, mirror_of, faults_by}
 use Rattle.standby_core.specs.Slots.{place_at, mirrored_at, faults_in}
-use Rattle.standby_core.proofs.Slotting.{both_hold, mirror_with, back_mirrored}
+use Rattle.standby_core.proofs.Slotting.{kept_places, mirror_with, back_mirrored}
 use Rattle.standby_core.proofs.shelf.MirroredShelfShelf.give_disk.Goals as goal
 
 pub put_back-requires : goal.put_back-requires
-put_back-requires g c =
-    (both_hold (g.F.Shelf.is_out c.args.self.now.shelf.now c.args.name.now)
-    (is_some (place_at c.args.self.now.mirrors.now.slots.items c.args.name.now)) c.requires).1
+put_back-requires g c = c.args.self.now.there c.args.name.now c.requires
 
-pub give_disk-requires : goal.give_disk-requires
-give_disk-requires g c =
-    (both_hold (g.F.Shelf.is_out c.args.self.now.shelf.now c.args.name.now)
-    (is_some (place_at c.args.self.now.mirrors.now.slots.items c.args.name.now)) c.requires).0
+pub invariant_of-self : goal.invariant_of-self
+invariant_of-self g c = record {
+  there = kept_places c.args.name.now (g.F.Shelf.is_out c.args.self.now.shelf.now) (g.F.Shelf.is_out c.give_disk.new.shelf)
+      c.args.self.now.mirrors.now.slots.items c.put_back.new.self.slots.items c.args.self.now.there c.give_disk.ensures.others_out
+      c.put_back.ensures.others (ap is_some c.put_back.ensures.put);
+}
 
 pub returns-clause-held : goal.returns-clause-held
 returns-clause-held g c = λ told.
@@ -22,14 +22,6 @@ returns-clause-held g c = λ told.
 pub returns-clause-disks : goal.returns-clause-disks
 returns-clause-disks g c name differs =
     λ i. mirrored_at (c.give_disk.ensures.disks name differs i) (c.put_back.ensures.others name differs i)
-
-pub returns-clause-back : goal.returns-clause-back
-returns-clause-back g c =
-    ap (λ b. b && is_some (place_at c.put_back.new.self.slots.items c.args.name.now)) c.give_disk.ensures.back
-
-pub returns-clause-others_out : goal.returns-clause-others_out
-returns-clause-others_out g c name differs =
-    λ i. c.give_disk.ensures.others_out name differs i && is_some (c.put_back.ensures.others name differs i)
 
 pub returns-clause-count : goal.returns-clause-count
 returns-clause-count g c =

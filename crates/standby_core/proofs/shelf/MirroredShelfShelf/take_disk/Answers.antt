@@ -1,28 +1,38 @@
-use Rattle.std.proofs.Common.{◌≡◌, ◌+◌, ◌&&◌, Some, None, sym, ap, subst, ◌∙◌}
+use Rattle.std.proofs.Common.{◌≡◌, ◌+◌, Some, None, true, sym, ap, subst, ◌∙◌}
 use Rattle.std.specs.Prelude.{is_some}
 use Rattle.outside.specs.Shelf.{IsTaken}
 use Rattle.standby_core.specs.MirroredDisks.{inner_of, mirror_of, faults_by}
 use Rattle.standby_core.specs.Slots.{place_at, mirrored_at, faults_in, mirror_in}
-use Rattle.standby_core.proofs.Slotting.{out_first, both_held, new_is, restored, taken_count, taken_mirrored}
+use Rattle.standby_core.proofs.Slotting.{new_is, restored, taken_count, taken_mirrored, kept_places}
 use Rattle.standby_core.proofs.shelf.MirroredShelfShelf.take_disk.Goals as goal
 
--- a name with a mirror whose disk isn't out is on the lent shelf
-pub take_disk-requires : goal.take_disk-requires
-take_disk-requires g c =
-    let name = c.args.name.now in
-    let old = c.args.self.now.mirrors.now.slots.items in
-    out_first (g.F.Shelf.is_out c.args.self.now.shelf.now name) (is_some (place_at old name))
-    (ap is_some (new_is (place_at old name) c.in-Some.mirror c.in-Some.ensures.taken)) c.requires
+-- ---- each disk that is out has a place
+
+pub invariant_of-self-in_default-1 : goal.invariant_of-self-in_default-1
+invariant_of-self-in_default-1 g c = record {
+  there = λ name out. ap is_some (c.in_default.ensures.none name) ∙ c.args.self.now.there name out;
+}
+
+pub invariant_of-self-in-Ok-2 : goal.invariant_of-self-in-Ok-2
+invariant_of-self-in-Ok-2 g c = record {
+  there = kept_places c.args.name.now (g.F.Shelf.is_out c.args.self.now.shelf.now) (g.F.Shelf.is_out c.take_disk.new.shelf)
+      c.args.self.now.mirrors.now.slots.items c.take.new.self.slots.items c.args.self.now.there c.take_disk.ensures.others_out c.take.ensures.others
+      (ap is_some c.in-Some.ensures.out);
+}
+
+pub invariant_of-self-in-Err-3 : goal.invariant_of-self-in-Err-3
+invariant_of-self-in-Err-3 g c = record {
+  there = λ name out.
+      ap is_some (restored c.args.name.now c.args.self.now.mirrors.now.slots.items c.take.new.self.slots.items c.put_new.new.self.slots.items
+      c.in-Some.mirror c.in-Some.ensures.taken c.take.ensures.others c.put_new.ensures.put c.put_new.ensures.others name)
+      ∙ c.args.self.now.there name (sym (c.in-Err.ensures.refused_out name) ∙ out);
+}
 
 -- ---- a name without a mirror
 
 pub returns-in_default-clause-disks : goal.returns-in_default-clause-disks
 returns-in_default-clause-disks g c name differs =
     λ i. mirrored_at (g.F.Shelf.disk c.args.self.now.shelf.now name) (c.in_default.ensures.none name i)
-
-pub returns-in_default-clause-others_out : goal.returns-in_default-clause-others_out
-returns-in_default-clause-others_out g c name differs =
-    λ i. g.F.Shelf.is_out c.args.self.now.shelf.now name && is_some (c.in_default.ensures.none name i)
 
 pub returns-in_default-clause-disk_faults : goal.returns-in_default-clause-disk_faults
 returns-in_default-clause-disk_faults g c name =
@@ -31,10 +41,6 @@ returns-in_default-clause-disk_faults g c name =
 pub returns-in_default-clause-refused_disks : goal.returns-in_default-clause-refused_disks
 returns-in_default-clause-refused_disks g c name =
     λ i. mirrored_at (g.F.Shelf.disk c.args.self.now.shelf.now name) (c.in_default.ensures.none name i)
-
-pub returns-in_default-clause-refused_out : goal.returns-in_default-clause-refused_out
-returns-in_default-clause-refused_out g c name =
-    λ i. g.F.Shelf.is_out c.args.self.now.shelf.now name && is_some (c.in_default.ensures.none name i)
 
 -- ---- a disk that was taken
 
@@ -63,13 +69,6 @@ pub returns-in-Ok-clause-disks : goal.returns-in-Ok-clause-disks
 returns-in-Ok-clause-disks g c name differs =
     λ i. mirrored_at (c.take_disk.ensures.disks name differs i) (c.take.ensures.others name differs i)
 
-pub returns-in-Ok-clause-out : goal.returns-in-Ok-clause-out
-returns-in-Ok-clause-out g c = both_held _ _ c.in-Ok.ensures.out (ap is_some c.in-Some.ensures.out)
-
-pub returns-in-Ok-clause-others_out : goal.returns-in-Ok-clause-others_out
-returns-in-Ok-clause-others_out g c name differs =
-    λ i. c.take_disk.ensures.others_out name differs i && is_some (c.take.ensures.others name differs i)
-
 pub returns-in-Ok-clause-disk_faults : goal.returns-in-Ok-clause-disk_faults
 returns-in-Ok-clause-disk_faults g c name =
     let same = taken_count g.C.Dial.faults c.args.name.now c.args.self.now.mirrors.now.slots.items c.take.new.self.slots.items c.in-Some.mirror
@@ -87,12 +86,6 @@ returns-in-Err-clause-disks g c name differs =
     c.in-Some.ensures.taken c.take.ensures.others c.put_new.ensures.put c.put_new.ensures.others name in
     λ i. mirrored_at (c.take_disk.ensures.disks name differs i) (same i)
 
-pub returns-in-Err-clause-others_out : goal.returns-in-Err-clause-others_out
-returns-in-Err-clause-others_out g c name differs =
-    let same = restored c.args.name.now c.args.self.now.mirrors.now.slots.items c.take.new.self.slots.items c.put_new.new.self.slots.items c.in-Some.mirror
-    c.in-Some.ensures.taken c.take.ensures.others c.put_new.ensures.put c.put_new.ensures.others name in
-    λ i. c.take_disk.ensures.others_out name differs i && is_some (same i)
-
 pub returns-in-Err-clause-disk_faults : goal.returns-in-Err-clause-disk_faults
 returns-in-Err-clause-disk_faults g c name =
     let same = restored c.args.name.now c.args.self.now.mirrors.now.slots.items c.take.new.self.slots.items c.put_new.new.self.slots.items c.in-Some.mirror
@@ -104,9 +97,3 @@ returns-in-Err-clause-refused_disks g c name =
     let same = restored c.args.name.now c.args.self.now.mirrors.now.slots.items c.take.new.self.slots.items c.put_new.new.self.slots.items c.in-Some.mirror
     c.in-Some.ensures.taken c.take.ensures.others c.put_new.ensures.put c.put_new.ensures.others name in
     λ i. mirrored_at (c.in-Err.ensures.refused_disks name i) (same i)
-
-pub returns-in-Err-clause-refused_out : goal.returns-in-Err-clause-refused_out
-returns-in-Err-clause-refused_out g c name =
-    let same = restored c.args.name.now c.args.self.now.mirrors.now.slots.items c.take.new.self.slots.items c.put_new.new.self.slots.items c.in-Some.mirror
-    c.in-Some.ensures.taken c.take.ensures.others c.put_new.ensures.put c.put_new.ensures.others name in
-    λ i. c.in-Err.ensures.refused_out name i && is_some (same i)

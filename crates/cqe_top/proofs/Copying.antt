@@ -1,0 +1,118 @@
+-- A shelf whose disks a standby copies shows the journals of the shelf that it was lent, where the faults of each disk are counted with those of its dial.
+use Rattle.std.proofs.Common.{◌≡◌, ℕ, ◌+◌, ◌≤◌, List, Option, Some, None, refl, sym, subst, ap, ◌∙◌, arith}
+use Rattle.std.specs.Prelude.{option_map}
+use Rattle.outside.specs.Faults.{Rose}
+use Rattle.outside.specs.Shelf.{SameNames, SameBeside, NoneFell, SomeRose, bytes_on, image_on, since_on, is_among}
+use Rattle.outside.specs.declared.disk.Disk.{Ghosts as DiskGhosts}
+use Rattle.outside.specs.declared.shelf.Shelf.{Ghosts as ShelfGhosts}
+use Rattle.cqe_base.specs.Schema.{Text}
+use Rattle.desk_crew.specs.Shelved.{journals_by}
+use Rattle.log_journal.specs.Names.{journal_name}
+use Rattle.standby_core.specs.MirroredDisks.{inner_of}
+use Rattle.standby_core.specs.Slots.{place_at, mirrored_at, faults_in}
+use Rattle.standby_core.specs.declared.mirrors.Place.{Place}
+use Rattle.standby_core.specs.declared.mirrors.Slot.{Slot}
+use Rattle.cqe_top.specs.Steps.{copied_counts, copied_journals}
+
+-- ---- one disk with its mirror
+
+bytes_under : {D C : Type 0} {g : _} (reads : D → List ℕ) (o : Option D) (place : Option (Place C g))
+    → bytes_on (λ d. reads (inner_of d)) (mirrored_at o place) ≡ bytes_on reads o
+bytes_under reads None place = refl
+bytes_under reads (Some d) place = refl
+
+image_under : {D C : Type 0} {g : _} (image : D → List ℕ → Type 0) (o : Option D) (place : Option (Place C g))
+    → image_on (λ d. image (inner_of d)) (mirrored_at o place) ≡ image_on image o
+image_under image None place = refl
+image_under image (Some d) place = refl
+
+moment_under : {D C : Type 0} {g : _} (moment : D → ℕ) (o : Option D) (place : Option (Place C g))
+    → option_map (λ d. moment (inner_of d)) (mirrored_at o place) ≡ option_map moment o
+moment_under moment None place = refl
+moment_under moment (Some d) place = refl
+
+since_under : {D C : Type 0} {g : _} (since : D → ℕ → List ℕ → Type 0) (o : Option D) (place : Option (Place C g))
+    → since_on (λ d. since (inner_of d)) (mirrored_at o place) ≡ since_on since o
+since_under since None place = refl
+since_under since (Some d) place = refl
+
+-- what the shelf holds beneath its mirrors
+lent_disk : {D C : Type 0} {g : _} (o : Option D) (place : Option (Place C g)) → option_map inner_of (mirrored_at o place) ≡ o
+lent_disk None place = refl
+lent_disk (Some d) place = refl
+
+none_more : (n m : ℕ) → m ≡ 0 → n + m ≡ n
+none_more n m is = omega (arith, is)
+
+-- ---- all of them
+
+module _ {F D C : Type 0} {g : _} (Shelf : ShelfGhosts F D) (Disk : DiskGhosts D) (faults : C → ℕ) (old new : F) (slots slots' : List (Slot C g))
+    (fresh : (name : Text) → faults_in faults (place_at slots name) ≡ 0) where
+  -- the exchanges that failed for the disk of a name
+  abbrev failed : Text → ℕ
+  failed name = faults_in faults (place_at slots' name)
+
+  pub same_copied : (directory : Text)
+      → journals_by (λ d. Disk.reads (inner_of d)) (λ d. Disk.image (inner_of d)) (λ d. Disk.moment (inner_of d)) (λ d. Disk.image_since (inner_of d)) directory
+      (λ name. mirrored_at (Shelf.disk old name) (place_at slots name)) (λ name. mirrored_at (Shelf.disk new name) (place_at slots' name))
+      (λ name. Shelf.disk_faults old name + faults_in faults (place_at slots name))
+      (λ name. Shelf.disk_faults new name + faults_in faults (place_at slots' name))
+      ≡ copied_journals Shelf Disk directory old new failed
+  same_copied directory = λ i. record {
+    bytes = λ name. bytes_under Disk.reads (Shelf.disk old (journal_name directory name)) (place_at slots (journal_name directory name)) i;
+    image_before = λ name. image_under Disk.image (Shelf.disk old (journal_name directory name)) (place_at slots (journal_name directory name)) i;
+    before = λ name. none_more (Shelf.disk_faults old (journal_name directory name)) (faults_in faults (place_at slots (journal_name directory name)))
+        (fresh (journal_name directory name)) i;
+    now = λ name. copied_counts (Shelf.disk_faults new) failed (journal_name directory name);
+    reads = λ name. bytes_under Disk.reads (Shelf.disk new (journal_name directory name)) (place_at slots' (journal_name directory name)) i;
+    image = λ name. image_under Disk.image (Shelf.disk new (journal_name directory name)) (place_at slots' (journal_name directory name)) i;
+    began = λ name. moment_under Disk.moment (Shelf.disk old (journal_name directory name)) (place_at slots (journal_name directory name)) i;
+    ended = λ name. moment_under Disk.moment (Shelf.disk new (journal_name directory name)) (place_at slots' (journal_name directory name)) i;
+    since = λ name. since_under Disk.image_since (Shelf.disk new (journal_name directory name)) (place_at slots' (journal_name directory name)) i;
+  }
+
+  -- a disk that the shelf with mirrors has as before, the lent shelf has as before
+  same_disk : (name : Text) → mirrored_at (Shelf.disk new name) (place_at slots' name) ≡ mirrored_at (Shelf.disk old name) (place_at slots name)
+      → Shelf.disk new name ≡ Shelf.disk old name
+  same_disk name same =
+      sym (lent_disk (Shelf.disk new name) (place_at slots' name)) ∙ ap (option_map inner_of) same ∙ lent_disk (Shelf.disk old name) (place_at slots name)
+
+  pub disks_under : (names : List Text)
+      → SameBeside names (λ name. mirrored_at (Shelf.disk old name) (place_at slots name)) (λ name. mirrored_at (Shelf.disk new name) (place_at slots' name))
+      → SameBeside names (Shelf.disk old) (Shelf.disk new)
+  disks_under names same name other = same_disk name (same name other)
+
+  pub all_disks_under : SameNames (λ name. mirrored_at (Shelf.disk old name) (place_at slots name))
+      (λ name. mirrored_at (Shelf.disk new name) (place_at slots' name)) → SameNames (Shelf.disk old) (Shelf.disk new)
+  all_disks_under same name = same_disk name (same name)
+
+  -- the counts beside those of the dials
+  pub counts_under : (names : List Text)
+      → SameBeside names (λ name. Shelf.disk_faults old name + faults_in faults (place_at slots name))
+      (λ name. Shelf.disk_faults new name + faults_in faults (place_at slots' name))
+      → SameBeside names (Shelf.disk_faults old) (copied_counts (Shelf.disk_faults new) failed)
+  counts_under names same name other =
+      same name other ∙ none_more (Shelf.disk_faults old name) (faults_in faults (place_at slots name)) (fresh name)
+
+  pub all_counts_under : SameNames (λ name. Shelf.disk_faults old name + faults_in faults (place_at slots name))
+      (λ name. Shelf.disk_faults new name + faults_in faults (place_at slots' name))
+      → SameNames (Shelf.disk_faults old) (copied_counts (Shelf.disk_faults new) failed)
+  all_counts_under same name = same name ∙ none_more (Shelf.disk_faults old name) (faults_in faults (place_at slots name)) (fresh name)
+
+  -- a count that rose on the shelf with mirrors rose by the disk or by its dial
+  pub some_rose_under : SomeRose (λ name. Shelf.disk_faults old name + faults_in faults (place_at slots name))
+      (λ name. Shelf.disk_faults new name + faults_in faults (place_at slots' name))
+      → SomeRose (Shelf.disk_faults old) (copied_counts (Shelf.disk_faults new) failed)
+  some_rose_under (name, rose) = (
+    name,
+    subst (λ n. Rose n (Shelf.disk_faults new name + faults_in faults (place_at slots' name)))
+    (none_more (Shelf.disk_faults old name) (faults_in faults (place_at slots name)) (fresh name)) rose,
+  )
+
+  -- and none fell
+  pub none_fell_under : NoneFell (λ name. Shelf.disk_faults old name + faults_in faults (place_at slots name))
+      (λ name. Shelf.disk_faults new name + faults_in faults (place_at slots' name))
+      → NoneFell (Shelf.disk_faults old) (copied_counts (Shelf.disk_faults new) failed)
+  none_fell_under fell name =
+      subst (λ n. n ≤ Shelf.disk_faults new name + faults_in faults (place_at slots' name))
+      (none_more (Shelf.disk_faults old name) (faults_in faults (place_at slots name)) (fresh name)) (fell name)
