@@ -226,7 +226,8 @@ def disk_fault(said, context):
     standby = standby_of(context.words)
     if standby is not None:
         meaning += f" Or the standby at {standby} didn't answer for a record in time, which its user wasn't told."
-        advice = f"see whether the standby runs and is reached at {standby}, and then start this program again; " + advice
+        advice = (f"see whether the standby runs and is reached at {standby}, and then start this program again; "
+                  f"{advice}")
     return Finding(said, meaning, None, advice)
 
 
