@@ -57,8 +57,9 @@ fn batch_part<'w>(words: BatchWords<'w>) -> Part<'w>
 fn serve_part<'w>(words: ServeWords<'w>) -> Part<'w>
     ensures { reading_of_part result ≡ reading_in (Command.Serve words.entry) }
 {
+    let address = words.listen;
     let listening = Listening {
-        address: words.listen,
+        address,
         workers: words.workers,
         sessions: words.sessions,
     };
