@@ -191,8 +191,8 @@ fn open_held<D: Disk>(
         (D.faults (place_disk result)) }
 {
     match open(alloc, disk, header) {
-        Ok((opened, _records)) => {
-            let count = opened.count();
+        Ok((opened, records)) => {
+            let count = records.len() as u64;
             let held = Held {
                 name,
                 journal: opened,

@@ -17,7 +17,7 @@ pub push_reserved-requires : goal.push_reserved-requires
 push_reserved-requires g c =
     let so_far = c.loop-place.invariant in
     let more = read_more c.args.places.items c.loop-place.yielded _ _ c.in-Some.place so_far.rest c.in-Some.ensures.steps.0 in
-    let many = sym (length-map given_journal c.loop-place.all.items) ∙ ap length so_far.names ∙ length-map place_journal c.loop-place.yielded in
+    let many = sym (length-map c.loop-place.all.items given_journal) ∙ ap length so_far.names ∙ length-map c.loop-place.yielded place_journal in
     let room = so_far.room in
     let len = c.loop-place.all.ok.0 in
     omega (arith, more, many, room, len, c.requires.room)
