@@ -1,5 +1,5 @@
 -- A shelf whose disks a standby copies shows the journals of the shelf that it was lent, where the faults of each disk are counted with those of its dial.
-use Rattle.std.proofs.Common.{◌≡◌, ℕ, ◌+◌, ◌≤◌, List, Option, Some, None, refl, sym, subst, ap, ◌∙◌, arith}
+use Rattle.std.proofs.Common.{◌≡◌, ℕ, ◌+◌, ◌≤◌, List, Option, Some, None, map, refl, sym, subst, ap, ◌∙◌, arith}
 use Rattle.std.specs.Prelude.{option_map}
 use Rattle.outside.specs.Faults.{Rose}
 use Rattle.outside.specs.Shelf.{SameNames, SameBeside, NoneFell, SomeRose, bytes_on, image_on, since_on, is_among}
@@ -12,7 +12,19 @@ use Rattle.standby_core.specs.MirroredDisks.{inner_of}
 use Rattle.standby_core.specs.Slots.{place_at, mirrored_at, faults_in}
 use Rattle.standby_core.specs.declared.mirrors.Place.{Place}
 use Rattle.standby_core.specs.declared.mirrors.Slot.{Slot}
+use Rattle.standby_core.specs.Doors as doors
+use Rattle.command_words.specs.Readings.{FileNames}
+use Rattle.cqe_base.specs.declared.user.User.{User}
+use Rattle.desk_crew.specs.Crew.{named_user}
+use Rattle.outside.specs.declared.links.Links.{Ghosts as LinksGhosts}
+use Rattle.policy_files.specs.Memory.{policy_value_of}
+use Rattle.policy_files.specs.declared.policy.Policy.{Policy}
+use Rattle.cqe_top.specs.Copied.{KeepsDoors}
+use Rattle.cqe_top.specs.Files.{TouchesOnlyJournals, journals_of}
+use Rattle.cqe_top.specs.Scene.{ShelfScene, shelf_of, links_of}
 use Rattle.cqe_top.specs.Steps.{copied_counts, copied_journals}
+use Rattle.policy_files.specs.Users.{names_of}
+use Rattle.cqe_top.proofs.Users.{names_are, batch_names_are}
 
 -- ---- one disk with its mirror
 
@@ -116,3 +128,56 @@ module _ {F D C : Type 0} {g : _} (Shelf : ShelfGhosts F D) (Disk : DiskGhosts D
   none_fell_under fell name =
       subst (λ n. n ≤ Shelf.disk_faults new name + faults_in faults (place_at slots' name))
       (none_more (Shelf.disk_faults old name) (faults_in faults (place_at slots name)) (fresh name)) (fell name)
+
+-- ---- the scene of a call with a standby
+
+-- links that only dialled and hung up keep their doors
+pub doors_kept : {L Door Dial In Out : Type 0} (Links : LinksGhosts L Door Dial In Out) (old new : L) → doors.KeepsDoors Links old new
+    → KeepsDoors (links_of Links old new)
+doors_kept Links old new kept = record {
+  faults = kept.faults;
+  out = kept.out;
+  ended = kept.ended;
+  given = kept.given;
+  left = kept.left;
+  at_hand = kept.at_hand;
+  back = kept.back;
+  listened = kept.listened;
+}
+
+module _ {F D : Type 0} (Shelf : ShelfGhosts F D) (Disk : DiskGhosts D) (old mid new : F)
+    (disks : SameNames (Shelf.disk old) (Shelf.disk mid)) (counts : SameNames (Shelf.disk_faults old) (Shelf.disk_faults mid))
+    (failed : Text → ℕ) (files : FileNames) where
+  -- the shelf's scene, where exchanges that failed are counted with the faults of the disks
+  abbrev pub counted_shelf : ShelfScene
+  counted_shelf = record (shelf_of Shelf Disk old new) { disk_faults' = copied_counts (Shelf.disk_faults new) failed }
+
+  -- its journals are those behind the files
+  pub same_counted : copied_journals Shelf Disk files.directory mid new failed ≡ journals_of counted_shelf files
+  same_counted =
+      λ i. journals_by Disk.reads Disk.image Disk.moment Disk.image_since files.directory (λ name. disks name i) (Shelf.disk new) (λ name. counts name i)
+      (copied_counts (Shelf.disk_faults new) failed)
+
+  -- no disk but the journals of the policy's users was touched, and no other count changed
+  pub touches_counted : (policy : Policy) (users : List User) → users ≡ policy.users.items
+      → SameBeside (map (journal_name files.directory) (map (λ user. user.name) (map named_user users))) (Shelf.disk mid) (Shelf.disk new)
+      → SameBeside (map (journal_name files.directory) (map (λ user. user.name) (map named_user users))) (Shelf.disk_faults mid)
+      (copied_counts (Shelf.disk_faults new) failed)
+      → TouchesOnlyJournals counted_shelf files (policy_value_of policy)
+  touches_counted policy users are touched counted = (
+    λ name none. touched name (ap (λ ns. is_among (map (journal_name files.directory) ns) name) names ∙ none) ∙ disks name,
+    λ name none. counted name (ap (λ ns. is_among (map (journal_name files.directory) ns) name) names ∙ none) ∙ counts name,
+  )
+    where
+      names : map (λ user. user.name) (map named_user users) ≡ names_of (policy_value_of policy).users
+      names = ap (λ us. map (λ user. user.name) (map named_user us)) are ∙ batch_names_are policy.users.items ∙ names_are policy.users.items
+
+  -- a count that rose behind the files rose in the call
+  pub some_rose_counted : SomeRose (Shelf.disk_faults mid) (copied_counts (Shelf.disk_faults new) failed)
+      → SomeRose (Shelf.disk_faults old) (copied_counts (Shelf.disk_faults new) failed)
+  some_rose_counted (name, rose) = (name, subst (λ n. Rose n (copied_counts (Shelf.disk_faults new) failed name)) (counts name) rose)
+
+  -- and none fell
+  pub none_fell_counted : NoneFell (Shelf.disk_faults mid) (copied_counts (Shelf.disk_faults new) failed)
+      → NoneFell (Shelf.disk_faults old) (copied_counts (Shelf.disk_faults new) failed)
+  none_fell_counted fell name = subst (λ n. n ≤ copied_counts (Shelf.disk_faults new) failed name) (counts name) (fell name)
