@@ -1,7 +1,8 @@
 -- A shelf whose disks a standby copies shows the journals of the shelf that it was lent, where the faults of each disk are counted with those of its dial.
-use Rattle.std.proofs.Common.{◌≡◌, ℕ, ◌+◌, ◌≤◌, List, Option, Some, None, map, refl, sym, subst, ap, ◌∙◌, arith}
+use Rattle.std.proofs.Common.{◌≡◌, ◌⊎◌, ℕ, ◌+◌, ◌≤◌, ◌<◌, List, Option, Some, None, map, refl, sym, subst, ap, ◌∙◌, arith}
 use Rattle.std.specs.Prelude.{option_map}
 use Rattle.outside.specs.Faults.{Rose}
+use Rattle.outside.specs.Visits.{Visit, Place as Listened}
 use Rattle.outside.specs.Shelf.{SameNames, SameBeside, NoneFell, SomeRose, bytes_on, image_on, since_on, is_among}
 use Rattle.outside.specs.declared.disk.Disk.{Ghosts as DiskGhosts}
 use Rattle.outside.specs.declared.shelf.Shelf.{Ghosts as ShelfGhosts}
@@ -181,3 +182,56 @@ module _ {F D : Type 0} (Shelf : ShelfGhosts F D) (Disk : DiskGhosts D) (old mid
   pub none_fell_counted : NoneFell (Shelf.disk_faults mid) (copied_counts (Shelf.disk_faults new) failed)
       → NoneFell (Shelf.disk_faults old) (copied_counts (Shelf.disk_faults new) failed)
   none_fell_counted fell name = subst (λ n. n ≤ copied_counts (Shelf.disk_faults new) failed name) (counts name) (fell name)
+
+-- ---- links that dialled, served, and hung up
+
+-- so many connections were given, and so many doors ended, that the limit is reached
+abbrev Reaches : (given ended given' ended' workers sessions : ℕ) → Type 0
+Reaches given ended given' ended' workers sessions = (given + sessions + ended ≤ given' + ended') × (given + sessions < given' + workers)
+
+module _ {L Door Dial In Out : Type 0} (Links : LinksGhosts L Door Dial In Out) (old mid new last : L) (first : doors.KeepsDoors Links old mid)
+    (then : doors.KeepsDoors Links new last) where
+  -- What holds of the links as they served holds of the whole call.
+  pub record Between : Type 1 where
+    pub rose : Rose (Links.faults mid) (Links.faults new) → Rose (Links.faults old) (Links.faults last)
+    pub served : Links.tells → (P : ℕ → ℕ → List Visit → List Visit → Type 0) → P (Links.given mid) (Links.given new) (Links.back mid) (Links.back new)
+        → P (Links.given old) (Links.given last) (Links.back old) (Links.back last)
+    pub heard : Links.tells → (P : List Listened → List Listened → Type 0) → P (Links.listened mid) (Links.listened new)
+        → P (Links.listened old) (Links.listened last)
+    pub unheard : Links.tells → Links.listened last ≡ Links.listened old → Links.listened new ≡ Links.listened mid
+    pub ended : Links.tells → (workers sessions : ℕ) → (Links.at_hand new ≡ 0)
+        ⊎ Reaches (Links.given mid) (Links.ended mid) (Links.given new) (Links.ended new) workers sessions
+        → (Links.at_hand last ≡ 0)
+        ⊎ Reaches (Links.given old) (Links.ended old) (Links.given last) (Links.ended last) workers sessions
+    pub left : Links.tells → (Links.left mid ≡ Links.at_hand mid → Links.left new ≡ Links.at_hand new) → Links.left old ≡ Links.at_hand old
+        → Links.left last ≡ Links.at_hand last
+    pub left_all : Links.tells → (Links.left mid ≡ Links.at_hand mid → Links.given new + Links.left new ≡ Links.given mid + Links.left mid)
+        → Links.left old ≡ Links.at_hand old → Links.given last + Links.left last ≡ Links.given old + Links.left old
+
+  pub served_between : Between
+  served_between = record {
+    rose = λ rose. subst (λ n. Rose n (Links.faults last)) first.faults (subst (λ n. Rose (Links.faults mid) n) (sym then.faults) rose);
+    served = λ told P is.
+        subst (λ n. P n (Links.given last) (Links.back old) (Links.back last)) (first.given told)
+        (subst (λ n. P (Links.given mid) n (Links.back old) (Links.back last)) (sym (then.given told))
+        (subst (λ b. P (Links.given mid) (Links.given new) b (Links.back last)) (first.back told)
+        (subst (λ b. P (Links.given mid) (Links.given new) (Links.back mid) b) (sym (then.back told)) is)));
+    heard = λ told P is.
+        subst (λ l. P l (Links.listened last)) (first.listened told) (subst (λ l. P (Links.listened mid) l) (sym (then.listened told)) is);
+    unheard = λ told same. sym (then.listened told) ∙ same ∙ sym (first.listened told);
+    ended = λ told workers sessions is.
+        subst (λ n. (n ≡ 0) ⊎ Reaches (Links.given old) (Links.ended old) (Links.given last) (Links.ended last) workers sessions) (sym (then.at_hand told))
+        (subst (λ n. (Links.at_hand new ≡ 0) ⊎ Reaches n (Links.ended old) (Links.given last) (Links.ended last) workers sessions) (first.given told)
+        (subst (λ n. (Links.at_hand new ≡ 0) ⊎ Reaches (Links.given mid) n (Links.given last) (Links.ended last) workers sessions) first.ended
+        (subst (λ n. (Links.at_hand new ≡ 0) ⊎ Reaches (Links.given mid) (Links.ended mid) n (Links.ended last) workers sessions) (sym (then.given told))
+        (subst (λ n. (Links.at_hand new ≡ 0) ⊎ Reaches (Links.given mid) (Links.ended mid) (Links.given new) n workers sessions) (sym then.ended) is))));
+    left = λ told served all.
+        then.left told ∙ served (first.left told ∙ all ∙ sym (first.at_hand told)) ∙ sym (then.at_hand told);
+    left_all = λ told served all.
+        let is = served (first.left told ∙ all ∙ sym (first.at_hand told)) in
+        let a = then.given told in
+        let b = then.left told in
+        let d = first.given told in
+        let e = first.left told in
+        omega (arith, is, a, b, d, e);
+  }
