@@ -190,7 +190,7 @@ abbrev Reaches : (given ended given' ended' workers sessions : ℕ) → Type 0
 Reaches given ended given' ended' workers sessions = (given + sessions + ended ≤ given' + ended') × (given + sessions < given' + workers)
 
 module _ {L Door Dial In Out : Type 0} (Links : LinksGhosts L Door Dial In Out) (old mid new last : L) (first : doors.KeepsDoors Links old mid)
-    (then : doors.KeepsDoors Links new last) where
+    (behind : doors.KeepsDoors Links new last) where
   -- What holds of the links as they served holds of the whole call.
   pub record Between : Type 1 where
     pub rose : Rose (Links.faults mid) (Links.faults new) → Rose (Links.faults old) (Links.faults last)
@@ -210,27 +210,27 @@ module _ {L Door Dial In Out : Type 0} (Links : LinksGhosts L Door Dial In Out) 
 
   pub served_between : Between
   served_between = record {
-    rose = λ rose. subst (λ n. Rose n (Links.faults last)) first.faults (subst (λ n. Rose (Links.faults mid) n) (sym then.faults) rose);
+    rose = λ rose. subst (λ n. Rose n (Links.faults last)) first.faults (subst (λ n. Rose (Links.faults mid) n) (sym behind.faults) rose);
     served = λ told P is.
         subst (λ n. P n (Links.given last) (Links.back old) (Links.back last)) (first.given told)
-        (subst (λ n. P (Links.given mid) n (Links.back old) (Links.back last)) (sym (then.given told))
+        (subst (λ n. P (Links.given mid) n (Links.back old) (Links.back last)) (sym (behind.given told))
         (subst (λ b. P (Links.given mid) (Links.given new) b (Links.back last)) (first.back told)
-        (subst (λ b. P (Links.given mid) (Links.given new) (Links.back mid) b) (sym (then.back told)) is)));
+        (subst (λ b. P (Links.given mid) (Links.given new) (Links.back mid) b) (sym (behind.back told)) is)));
     heard = λ told P is.
-        subst (λ l. P l (Links.listened last)) (first.listened told) (subst (λ l. P (Links.listened mid) l) (sym (then.listened told)) is);
-    unheard = λ told same. sym (then.listened told) ∙ same ∙ sym (first.listened told);
+        subst (λ l. P l (Links.listened last)) (first.listened told) (subst (λ l. P (Links.listened mid) l) (sym (behind.listened told)) is);
+    unheard = λ told same. sym (behind.listened told) ∙ same ∙ sym (first.listened told);
     ended = λ told workers sessions is.
-        subst (λ n. (n ≡ 0) ⊎ Reaches (Links.given old) (Links.ended old) (Links.given last) (Links.ended last) workers sessions) (sym (then.at_hand told))
+        subst (λ n. (n ≡ 0) ⊎ Reaches (Links.given old) (Links.ended old) (Links.given last) (Links.ended last) workers sessions) (sym (behind.at_hand told))
         (subst (λ n. (Links.at_hand new ≡ 0) ⊎ Reaches n (Links.ended old) (Links.given last) (Links.ended last) workers sessions) (first.given told)
         (subst (λ n. (Links.at_hand new ≡ 0) ⊎ Reaches (Links.given mid) n (Links.given last) (Links.ended last) workers sessions) first.ended
-        (subst (λ n. (Links.at_hand new ≡ 0) ⊎ Reaches (Links.given mid) (Links.ended mid) n (Links.ended last) workers sessions) (sym (then.given told))
-        (subst (λ n. (Links.at_hand new ≡ 0) ⊎ Reaches (Links.given mid) (Links.ended mid) (Links.given new) n workers sessions) (sym then.ended) is))));
+        (subst (λ n. (Links.at_hand new ≡ 0) ⊎ Reaches (Links.given mid) (Links.ended mid) n (Links.ended last) workers sessions) (sym (behind.given told))
+        (subst (λ n. (Links.at_hand new ≡ 0) ⊎ Reaches (Links.given mid) (Links.ended mid) (Links.given new) n workers sessions) (sym behind.ended) is))));
     left = λ told served all.
-        then.left told ∙ served (first.left told ∙ all ∙ sym (first.at_hand told)) ∙ sym (then.at_hand told);
+        behind.left told ∙ served (first.left told ∙ all ∙ sym (first.at_hand told)) ∙ sym (behind.at_hand told);
     left_all = λ told served all.
         let is = served (first.left told ∙ all ∙ sym (first.at_hand told)) in
-        let a = then.given told in
-        let b = then.left told in
+        let a = behind.given told in
+        let b = behind.left told in
         let d = first.given told in
         let e = first.left told in
         omega (arith, is, a, b, d, e);

@@ -28,8 +28,8 @@ for_all P name here others one = by (bytes_eq one name) refl
 
 -- what follows where there is none
 pub if_none : {X P Q : Type 0} (o : Option X) → IfNone o P → (P → Q) → IfNone o Q
-if_none None p then = then p
-if_none (Some x) p then = tt
+if_none None p leads = leads p
+if_none (Some x) p leads = tt
 
 -- where one name is changed, and has a place then, each disk that is out still has one
 pub kept_places : {C : Type 0} {g : _} (name : List ℕ) (is_out is_out' : List ℕ → Bool) (slots slots' : List (Slot C g)) → HavePlaces is_out slots

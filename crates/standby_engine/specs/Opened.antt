@@ -56,15 +56,18 @@ others_in (Opened journal held ∷ places) = others_in places
 others_in (Refused journal disk why ∷ places) =
     record { journal = journal; disk = disk } ∷ others_in places
 
--- A disk was opened as a journal with these first records, or refused. What is said of bytes holds
--- where clauses are told of them.
+-- A disk that was opened is a journal with these first records, and lasts so.
 abbrev pub IsOpenedAs : {D : Type 0} {g : _} → DiskGhosts D → List ℕ → D → Place D g
     → List Recorded → Type 0
 IsOpenedAs Disk header taken (Opened journal held) first =
-    (Disk.tells → IsJournal header first (Disk.reads taken))
-    × Lasts Disk.reads Disk.image header first held
-    × (is_broken held.journal ≡ false) × (held.count ≡ count_of held.journal)
-IsOpenedAs Disk header taken (Refused journal disk why) first =
+    IsJournal header first (Disk.reads taken) × Lasts Disk.reads Disk.image header first held
+IsOpenedAs Disk header taken (Refused journal disk why) first = Unit {0}
+
+-- no append of it failed yet, and the count is that of its records; or the refusal has its cause
+abbrev pub IsSound : {D : Type 0} {g : _} → DiskGhosts D → List ℕ → D → Place D g → Type 0
+IsSound Disk header taken (Opened journal held) =
+    (is_broken held.journal ≡ false) × (held.count ≡ count_of held.journal)
+IsSound Disk header taken (Refused journal disk why) =
     IsRefused Disk.tells header (Disk.reads taken) (Disk.faults taken) (Disk.faults disk) why
 
 -- it wasn't refused since memory was wanting
@@ -95,10 +98,11 @@ module _ {D : Type 0} (told : Type 0) (Disk : DiskGhosts D) where
       pub named : IsNamed place (string_bytes user.name)
       pub memory : HasMemory place
       pub taken : D
-      pub first : List Recorded
       pub from : told → IsTaken Disk.reads Disk.image (disk (place_journal place)) taken
       pub counted : Disk.faults taken ≡ count (place_journal place)
-      pub opened : IsOpenedAs Disk header taken place first
+      pub opened : Disk.tells → (first : List Recorded)
+          × IsOpenedAs Disk header taken place first
+      pub sound : IsSound Disk header taken place
       pub only : IsOnlyRead (Disk.reads taken) (Disk.reads (place_disk place)) (Disk.image taken)
           (Disk.image (place_disk place)) (Disk.moment taken) (Disk.moment (place_disk place))
           (Disk.image_since taken) (Disk.image_since (place_disk place)) (Disk.faults taken)

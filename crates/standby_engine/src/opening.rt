@@ -10,7 +10,7 @@ ghost use Rattle.log_journal.specs.Opening.{header_bytes, IsOnlyRead};
 ghost use Rattle.log_journal.specs.Records.{Recorded};
 ghost use Rattle.desk_crew.specs.Registered.{registered_journals, HaveOwnNames};
 ghost use Rattle.standby_engine.specs.Opened.{place_journal, place_disk, place_refusal};
-ghost use Rattle.standby_engine.specs.Opened.{given_journal, IsOpenedAs, IsNamed, IsPlaceOf};
+ghost use Rattle.standby_engine.specs.Opened.{given_journal, IsOpenedAs, IsSound, IsNamed, IsPlaceOf};
 ghost use Rattle.standby_engine.specs.Opened.{ArePlacesOf, AreGiven};
 
 use cqe_base::user::User;
@@ -184,6 +184,7 @@ fn open_held<D: Disk>(
     ensures journal { place_journal result ≡ string_bytes journal }
     ensures opened { D.tells → (first : List Recorded)
         × IsOpenedAs D.Disk (header_bytes header.now) disk result first }
+    ensures sound { IsSound D.Disk (header_bytes header.now) disk result }
     ensures named { IsNamed result (string_bytes name) }
     ensures only { IsOnlyRead (D.reads disk) (D.reads (place_disk result)) (D.image disk)
         (D.image (place_disk result)) (D.moment disk) (D.moment (place_disk result))
