@@ -10,8 +10,8 @@ ghost use Rattle.log_journal.specs.Opening.{header_bytes, IsOnlyRead};
 ghost use Rattle.log_journal.specs.Records.{Recorded};
 ghost use Rattle.desk_crew.specs.Registered.{registered_journals, HaveOwnNames};
 ghost use Rattle.standby_engine.specs.Opened.{place_journal, place_disk, place_refusal};
-ghost use Rattle.standby_engine.specs.Opened.{given_journal, IsOpenedAs, IsSound, IsNamed, IsPlaceOf};
-ghost use Rattle.standby_engine.specs.Opened.{ArePlacesOf, AreGiven};
+ghost use Rattle.standby_engine.specs.Opened.{given_journal, IsOpenedAs, IsSound, IsNamed};
+ghost use Rattle.standby_engine.specs.Opened.{IsPlaceOf, ArePlacesOf, AreGiven};
 
 use cqe_base::user::User;
 use desk_crew::room_for;

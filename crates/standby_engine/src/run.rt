@@ -196,6 +196,7 @@ fn serve_opened<R: Wait, F: Shelf, O: Door>(
 }
 
 // Empty lists with the room for what journals are taken apart into.
+#[derive(Drop)]
 struct Rooms<D: Disk> {
     journals: Vec<Held<D>>,
     names: Vec<String>,
