@@ -26,6 +26,10 @@ copy_in reads held = record {
   failed = is_broken held.journal;
 }
 
+-- the journals of a book
+abbrev pub held_in : {D : Type 0} {g : _} → StandbyBook D g → List (Held D g)
+held_in book = book.journals.items
+
 -- the copies of a book
 abbrev pub copies_in : {D : Type 0} {g : _} → (D → List ℕ) → StandbyBook D g → List Copy
 copies_in reads book = map (copy_in reads) book.journals.items

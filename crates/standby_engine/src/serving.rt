@@ -3,7 +3,7 @@ ghost use Rattle.std.specs.Prelude.{◌≡◌, ◌≤◌, ◌<◌, ◌+◌, ◌+
 ghost use Rattle.outside.specs.Faults.{Rose};
 ghost use Rattle.outside.specs.Visits.{Visit};
 ghost use Rattle.log_journal.specs.Records.{Recorded};
-ghost use Rattle.standby_core.specs.Books.{copies_in, held_name};
+ghost use Rattle.standby_core.specs.Books.{copies_in, held_in, held_name};
 ghost use Rattle.standby_core.specs.Lasting.{AllLast, AllCounted};
 ghost use Rattle.standby_engine.specs.Served.{AreServed, IsDoorServed};
 ghost use Rattle.standby_engine.specs.declared.serving.DoorEnd.{DoorEnd};
@@ -44,12 +44,12 @@ pub(crate) fn serve_door<R: Wait, D: Disk, O: Door>(
         ≡ O.left door.new + O.given door.new }
     ensures failed { result ≡ DoorEnd.Failed → Rose (O.faults door.old) (O.faults door.new) }
     ensures lasts { D.tells → (own : List ℕ) (firsts : List (List Recorded))
-        → AllLast D.reads D.image own firsts book.old.journals.items
-        → AllLast D.reads D.image own firsts book.new.journals.items }
-    ensures names { map held_name book.new.journals.items
-        ≡ map held_name book.old.journals.items }
-    ensures counted { (counts : List ℕ) → AllCounted D.faults counts book.old.journals.items
-        → AllCounted D.faults counts book.new.journals.items }
+        → AllLast D.reads D.image own firsts (held_in book.old)
+        → AllLast D.reads D.image own firsts (held_in book.new) }
+    ensures names { map held_name (held_in book.new)
+        ≡ map held_name (held_in book.old) }
+    ensures counted { (counts : List ℕ) → AllCounted D.faults counts (held_in book.old)
+        → AllCounted D.faults counts (held_in book.new) }
 {
     for _ in 0..limit {
         match door.next() {
