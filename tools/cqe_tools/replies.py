@@ -36,6 +36,8 @@ class Asked:
         return Spot(self.source, self.start + begin, self.start + (len(whole) if end is None else end))
 
 
+ORDINALS = ("first", "second", "third", "fourth")
+
 # The words that begin a session's lines.
 WORDS = (b"ask", b"list", b"login", b"quit")
 
@@ -144,7 +146,8 @@ def login_fault(said, asked, context):
 
 def no_list(said, kind, place, asked, context):
     """A sentence that can't be listed so: `kind` is the number behind the code."""
-    meaning, advice = SHAPES.get(kind, ("for a reason that no format names", None))
+    meaning, advice = SHAPES.get(kind, ("for a reason that no format names",
+                                        "list a sentence that begins with exists, as list 1 exists x: person . hiv(x)"))
     count, text = scripts.list_of(asked.request or b"") or (0, None)
     begin, end = 0, None
     if text is not None and text == asked.text:
@@ -159,7 +162,7 @@ def too_few(count, text, found, schema):
     token = behind_parentheses(text, found[-1].end if found else 0)
     if len(found) >= count or token.sort in ("end", "bad"):
         return "", 0, None
-    wanted = "exists" if count == 1 else f"exists number {len(found) + 1} of {count}"
+    wanted = "exists" if count == 1 else f"the {ORDINALS[len(found)]} exists"
     return f": here stands {quoted(token.text)}, where {wanted} is wanted", token.start, token.end
 
 
