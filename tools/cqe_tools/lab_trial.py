@@ -25,6 +25,7 @@ OF_THE_MACHINE = ("error 40", "error 41", "error 50")  # faults, of which anothe
 MISTAKES = (20, 26, 28)  # of what was typed, so the same for each user
 ENDS_OF_BATCH = (0, 10, 11)  # with these statuses each ask has a reply
 ASK, LIST, PROTECT = "ask", "list", "protect"
+VARIABLES = ("x", "y", "z", "u", "v", "w")
 MOST_FACTS = 1000  # of a list of facts so many are shown at most
 MOST_ROWS = 200  # and so many replies beside each other
 
@@ -149,15 +150,13 @@ class Trial:
         } for standing, user, story in zip(standings, self.users.values(), stories)]
 
     def lists(self):
-        """Questions that can be listed, one of each relation."""
-        variables = ("x", "y", "z", "u", "v", "w")
-        return ["".join(f"exists {variable}: {domain} . " for variable, domain in zip(variables, columns))
-                + f"{name}({', '.join(variables[:len(columns)])})"
-                for name, columns in self.declarations[1] if columns and not set(variables) & self.names()]
-
-    def names(self):
-        """All names of the schema."""
-        return set(self.context.policy.schema().names())
+        """Questions that can be listed, one of each relation that has columns."""
+        schema = self.context.policy.schema()
+        if any(name in VARIABLES for name in schema.names()):
+            return []
+        return ["".join(f"exists {variable}: {domain} . " for variable, domain in zip(VARIABLES, columns))
+                + f"{name}({', '.join(VARIABLES[:len(columns)])})"
+                for name, columns in self.declarations[1] if columns and schema.size(columns[0]) <= schemas.INSTANCES]
 
     # What is said of users, and the replies.
 
@@ -372,7 +371,8 @@ def is_mistake(reply):
 
 def is_of_the_machine(told, line):
     """Whether a line of a reply tells of a fault of the machine."""
-    return (line.split(" ", told.said.count)[-1] if told.said.sort == LIST else line) in OF_THE_MACHINE
+    reply = line.split(" ", told.said.count)[-1] if told.said.sort == LIST else line
+    return line in OF_THE_MACHINE or reply in OF_THE_MACHINE
 
 
 def instances(said, lines):
