@@ -15,12 +15,12 @@ LAB = program.TOP / "tools/cqe-lab"
 ADDRESS = re.compile(r"http://127\.0\.0\.1:(\d+)/([\w-]+)/\n")
 SECONDS = 120
 
-# Stands in for the program where what it says is of no matter. It says no to each question, and adds each secret; but a
-# line with 'wait' is never answered, a secret with 'late' is unsafe, and a list with 'short' has too few quantifiers. Of
-# a list each constant is ann or bob. For a secret or a secrecy with 'spent' the search for another database is given up.
-# A secrecy is a fact, and the only one of the database in which it is true.
+# Stands in for the program where what it says is of no matter. It says no to each question, and adds each secret; but
+# a line with 'wait' is never answered, a secret with 'late' is unsafe, and a list with 'short' has too few quantifiers.
+# Of a list each constant is ann or bob. For a secret or a secrecy with 'spent' the search for another database is given
+# up. A secrecy is a fact, and the only one of the database in which it is true.
 STAND_IN = """#!{python} -IS
-import hashlib, itertools, json, os, re, socket, sys, time, tomllib
+import json, os, sys, time, tomllib
 command, words = sys.argv[1], dict(zip(sys.argv[2::2], sys.argv[3::2]))
 with open(words["--policy"], "rb") as file:
     users = {{user["name"]: user for user in tomllib.load(file)["users"]}}
@@ -45,12 +45,14 @@ def told(name, kind, text):
     return "protected" if kind == 5 else "no"
 
 def listed(name, count, text):
+    import itertools
     if "short" in text:
         return ["error 28 1"]
     rows = [" ".join(names) + " " + told(name, 2, text) for names in itertools.product(["ann", "bob"], repeat=count)]
     return rows + [f"done {{len(rows)}}"]
 
 def session(lines, name=None):
+    import hashlib
     for line in lines:
         word, _, rest = line.rstrip("\\n").partition(" ")
         if word == "login":
@@ -83,6 +85,7 @@ if command == "batch":
         reply = "unsafe" if caller == "op" and "late" in text else told(name, 5 if caller == "op" else 2, text)
         print(name, caller, reply)
 if command == "serve":
+    import socket
     host, port = words["--listen"].split(":")
     with socket.create_server((host, int(port))) as listener:
         while True:

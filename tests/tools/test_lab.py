@@ -33,6 +33,13 @@ GARBAGE = ["", " ", "\0", "\x1b[31m", "<img src=x onerror=alert(1)>", "</script>
 OTHER_KINDS = [None, True, 1.5, -1, 10 ** 40, [], {}, ["x"], "1"]
 
 
+def luminance(colour):
+    """The relative luminance of a colour of six hexadecimal digits."""
+    parts = [int(colour[at:at + 2], 16) / 255 for at in (0, 2, 4)]
+    red, green, blue = (part / 12.92 if part <= 0.04045 else ((part + 0.055) / 1.055) ** 2.4 for part in parts)
+    return 0.2126 * red + 0.7152 * green + 0.0722 * blue
+
+
 class OneLab(InDirectory):
     """Tests with a running lab over the stand-in."""
 
@@ -67,6 +74,20 @@ class WhoIsAnswered(OneLab):
         for word in ("innerHTML", "outerHTML", "insertAdjacentHTML", "document.write", "DOMParser", "eval(", "srcdoc",
                      " on[a-z]+=", "setTimeout(\"", "://", "src=", "@import", "url("):
             self.assertIsNone(re.search(word if "[" in word else re.escape(word), page), word)
+
+    def test_what_is_written_can_be_read(self):
+        """The contrast of each colour of a text with what stands behind it, light and dark, as the WCAG count it."""
+        style = PAGE.read_text(encoding="utf-8").partition("</style>")[0]
+        light, dark = ({name: luminance(colour) for name, colour in re.findall(r"--([\w-]+): #(\w{6})", block)}
+                       for block in re.findall(r":root \{(.*?)\}", style, re.S))
+        self.assertEqual(set(light), set(dark))
+        pairs = [(text, "ground") for text in ("ink", "soft", "true", "lie", "held", "bad")]
+        pairs += [(text, "paper") for text, _ in pairs] + [("ink", behind) for behind in ("here", "there", "field")]
+        for text, behind in [*pairs, ("on-button", "button")]:
+            for scheme in (light, dark):
+                with self.subTest(text=text, behind=behind, is_dark=scheme is dark):
+                    brighter, darker = sorted((scheme[text], scheme[behind]), reverse=True)
+                    self.assertGreaterEqual((brighter + 0.05) / (darker + 0.05), 4.5)
 
     def test_a_wrong_token(self):
         token = self.lab.token
@@ -160,7 +181,8 @@ class Garbage(OneLab):
             for text in ("true\nhead 1 ask true", "\n", "true\r", "\r\n* restart\r\n", "true\nquit"):
                 status, _ = self.lab.post(what, {"trial": trial, "users": ["nurse"], "text": text, "count": 1})
                 self.assertEqual(status, 400, text)
-            for names in ([], ["nurse", "nurse"], ["nurse", "nobody"], ["nurse", 1], ["nurse\nhead"], [["nurse"]], [{}]):
+            for names in ([], ["nurse", "nurse"], ["nurse", "nobody"], ["nurse", 1], ["nurse\nhead"], [["nurse"]],
+                          [{}]):
                 status, _ = self.lab.post(what, {"trial": trial, "users": names, "text": "true", "count": 1})
                 self.assertEqual(status, 400, names)
         for count in (0, 5, -1, 10 ** 40):
@@ -260,8 +282,9 @@ class AddedSecrets(OneLab):
         shown = self.protect("late and true")
         self.assertEqual(([reply["reply"] for reply in shown["replies"]], shown["added"]), (["unsafe"], {"eve": []}))
         why = self.why(1)
-        self.assertEqual((why["worlds"], why["late"]), ([], {"found": "yes", "is_fewest": True, "from": [], "beside": [],
-                                                            "secret": "late and true"}))
+        self.assertEqual(why["worlds"], [])
+        self.assertEqual(why["late"], {"found": "yes", "is_fewest": True, "from": [], "beside": [],
+                                       "secret": "late and true"})
 
 
 class Fewest(unittest.TestCase):
@@ -301,7 +324,8 @@ class Lists(OneLab):
         self.assertEqual((shown["sort"], shown["columns"], shown["truth"]), ("list", ["x: person", "y: person"], None))
         names = [["ann", "ann"], ["ann", "bob"], ["bob", "ann"], ["bob", "bob"]]
         for reply, user in zip(shown["replies"], ["nurse", "head"], strict=True):
-            self.assertEqual((reply["user"], reply["reply"], reply["number"], reply["has_why"]), (user, "done 4", 1, True))
+            self.assertEqual((reply["user"], reply["number"], reply["reply"]), (user, 1, "done 4"))
+            self.assertTrue(reply["has_why"])
             self.assertEqual(reply["rows"], [{"names": row, "reply": "no", "truth": "no"} for row in names])
         why = self.lab.shown("why", trial=opened["trial"], user="head", number=1)
         for world in why["worlds"]:
@@ -383,7 +407,8 @@ class Copies(InDirectory):
     def test_a_copy_differs_in_the_tokens_alone(self):
         lab = Lab(str(lab_run.stand_in(self.directory)))
         self.addCleanup(lab.end)
-        tokens = changed(("[[users]]", "# a comment\n[[users]]"), ('"lying"', f'"lying"\nbudget = 7\ntoken = "{"0" * 64}"'))
+        tokens = changed(("[[users]]", "# a comment\n[[users]]"),
+                         ('"lying"', f'"lying"\nbudget = 7\ntoken = "{"0" * 64}"'))
         for text in (POLICY, OF_2, tokens):
             _, trial = lab.open(Files("a policy", text.encode(), FACTS.encode()))
             given, copy = tomllib.loads(text), tomllib.loads(Path(trial.policy).read_text())

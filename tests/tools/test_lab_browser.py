@@ -174,8 +174,8 @@ class Lists(OnThePage):
         shown = self.ask("exists short: person . hiv(short)", "list", 2)
         self.assertEqual([(card["reply"], card["rows"], card["worlds"]) for card in shown["cards"]],
                          [("error 28 1", [], [])] * 3)
-        self.assertEqual(self.page.value("document.querySelector('.round pre').textContent").splitlines()[1].index("^"), 32)
-        self.assertEqual(len(self.page.value("[...document.querySelectorAll('.round pre')].map((one) => 1)")), 1)
+        (drawn,) = self.page.value("[...document.querySelectorAll('.round pre')].map((one) => one.textContent)")
+        self.assertEqual(drawn.splitlines()[1].index("^"), 32)
 
     def test_garbage_is_answered(self):
         for act in ("list", "protect"):
@@ -325,6 +325,17 @@ class WithProgram(OnThePage):
                 self.keep(example)
         self.assertEqual(self.page.errors, [])
 
+    def test_files_that_are_refused(self):
+        for policy, facts, said in (("", "", "cqe: policy 2 version"), ("\u202e<img src=x>", "", "cqe: policy 1"),
+                                    (POLICY, "<img src=x onerror=document.title='run'>", "cqe: facts 1 1")):
+            self.page.value(f"document.getElementById('policy-text').value = {json.dumps(policy)};"
+                            f"document.getElementById('facts-text').value = {json.dumps(facts)};"
+                            "document.querySelector('#own button').click()")
+            self.page.wait(f"document.getElementById('trouble').textContent.includes({json.dumps(said)})")
+            self.ready()
+        self.assertEqual(self.page.value("[document.images.length, document.title]"), [0, "cqe lab"])
+        self.assertEqual(self.page.errors, [])
+
     def show(self, example, names, acts):
         """What the page shows of the last of some acts as these users of an example."""
         self.load(example)
@@ -341,8 +352,9 @@ class WithProgram(OnThePage):
         tags = {"refused": ("withheld", "withheld"), "no": ("a lie", "the truth")}
         for card, its in zip(shown["cards"], replies, strict=True):
             self.assertEqual(card["reply"], "done 4")
-            self.assertEqual(card["rows"], [[firm, reply, f"{truth}: {tags[reply][truth == 'no']}"] for firm, reply, truth
-                                            in zip(["alder", "birch", "cedar", "dogwood"], its, truths)])
+            rows = zip(["alder", "birch", "cedar", "dogwood"], its, truths)
+            self.assertEqual(card["rows"], [[firm, reply, f"{truth}: {tags[reply][truth == 'no']}"]
+                                            for firm, reply, truth in rows])
             self.assertTrue(card["worlds"])
             for world in card["worlds"]:
                 self.assertTrue(all(line.startswith("Checked: ") for line in world["checks"]))

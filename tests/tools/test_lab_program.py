@@ -50,8 +50,8 @@ class WithProgram(InDirectory):
         return [self.lab.shown("ask", trial=trial, users=[name], text=text) for name, text in pairs]
 
     def by_the_program(self, opened, pairs, operator=()):
-        """The replies of a batch, and the audits behind it, over the lab's files in a directory of the test. An operator
-        adds the last secrets."""
+        """The replies of a batch, and the audits behind it, over the lab's files in a directory of the test. At its end an
+        operator adds secrets."""
         files = ["--policy", self.file("policy", opened["policy_text"]), "--facts",
                  self.file("facts", opened["facts_text"]), "--journals", self.directory / "journals"]
         (self.directory / "journals").mkdir()
@@ -152,8 +152,8 @@ class Examples(WithProgram):
 
 
 class AddedSecrets(WithProgram):
-    """Each was told that one of the two has hiv. That it is bob follows from it for none; but who is lied to must be able
-    to deny it along with his secret, that ann has it."""
+    """Each was told that one of the two has hiv. That it is bob follows from it for none; but who is lied to must be
+    able to deny it along with his secret, that ann has it."""
 
     OR = "hiv(ann) or hiv(bob)"
 
@@ -178,8 +178,8 @@ class AddedSecrets(WithProgram):
         self.assertEqual(self.protect("hiv(bob)"), (["unsafe", "protected", "protected"],
                                                     {"nurse": [], "clerk": ["hiv(bob)"], "head": ["hiv(bob)"]}))
         self.assertEqual(self.late("nurse", 2), {
-            "found": "yes", "is_fewest": True, "from": [{"text": f"({self.OR})", "mark": "yes"}], "beside": ["hiv(ann)"],
-            "secret": "hiv(bob)"})
+            "found": "yes", "is_fewest": True, "from": [{"text": f"({self.OR})", "mark": "yes"}],
+            "beside": ["hiv(ann)"], "secret": "hiv(bob)"})
         for name in ("clerk", "head"):
             why = self.lab.shown("why", trial=self.trial, user=name, number=2)
             self.assertIsNone(why["late"])
@@ -233,7 +233,8 @@ class Lists(WithProgram):
         """That a firm made a loss is a secret of each. The owner of cedar knows that it made none."""
         opened = self.lab.opened(example="statistics")
         names = ["bank", "owner", "newspaper", "pupils"]
-        shown = self.lab.shown("list", trial=opened["trial"], users=names, count=1, text="exists f: firm . made_loss(f)")
+        shown = self.lab.shown("list", trial=opened["trial"], users=names, count=1,
+                               text="exists f: firm . made_loss(f)")
         self.assertEqual(shown["columns"], ["f: firm"])
         firms = ["alder", "birch", "cedar", "dogwood"]
         replies = {"bank": ["refused"] * 4, "owner": ["refused", "refused", "no", "refused"], "newspaper": ["no"] * 4,
@@ -277,7 +278,8 @@ class Lists(WithProgram):
                 (1, "exists p: patent . has(p, hiv)", "error 20 3 10", "patent"), (1, "", "error 20 2 0", "")):
             shown = self.lab.shown("list", trial=trial, users=["press", "quality"], count=count, text=text)
             for one in shown["replies"]:
-                self.assertEqual((one["reply"], one["rows"], one["has_why"], one["is_mistake"]), (reply, [], False, True))
+                self.assertEqual((one["reply"], one["rows"]), (reply, []))
+                self.assertEqual((one["has_why"], one["is_mistake"]), (False, True))
                 line, carets = one["explained"][0]["drawn"]
                 begin = carets.index("^")
                 self.assertEqual(line[begin:begin + len(piece)], piece)

@@ -215,8 +215,11 @@ class Explainer:
     def of_instance(self, line, number, asked, requests):
         """The explanation of a line of a list, of whose question the names alone are known."""
         ask = self.of_request(requests[0]) if requests else self.of_item(asked[number], None) if asked else None
-        whole = ask and replies.Asked(None, None, ask.source, ask.start - (len(ask.request) - len(ask.text)), ask.request)
-        return self.of_answer(line, replies.INSTANCE.match(line)[2], whole or replies.Asked())
+        if ask is None:
+            whole = replies.Asked()
+        else:
+            whole = replies.Asked(None, None, ask.source, ask.start + len(ask.text) - len(ask.request), ask.request)
+        return self.of_answer(line, replies.INSTANCE.match(line)[2], whole)
 
     def of_answer(self, line, reply, ask):
         if reply == "unsafe":

@@ -1,7 +1,8 @@
 """The page of cqe-lab over HTTP: on the loopback alone, at an address with a random token.
 
 GET /TOKEN/ is the page. POST /TOKEN/WHAT, with an object of JSON, is what the page asks for: `start`, `open`, `ask`,
-`list`, `protect` or `why`. Every reply but the page is an object of JSON; where it has the key `fault`, that says what couldn't be done.
+`list`, `protect` or `why`. Every reply but the page is an object of JSON; where it has the key `fault`, that says what
+couldn't be done.
 """
 
 import base64

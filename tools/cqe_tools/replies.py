@@ -9,7 +9,8 @@ from .sentences import Refused, behind_parentheses, nodes_of, openings
 
 CODE = re.compile(r"error ([0-9]+)(?: ([0-9]+)(?: ([0-9]+))?)?\Z")
 # Of the lines of a list that was opened the last one stands for its reply.
-REPLY = re.compile(r"(?:yes|no|refused|undecided|protected|unsafe|welcome|bye|done [0-9]+|error [0-9]+(?: [0-9]+){0,2})\Z")
+REPLY = re.compile(r"(?:yes|no|refused|undecided|protected|unsafe|welcome|bye|done [0-9]+|"
+                   r"error [0-9]+(?: [0-9]+){0,2})\Z")
 # A line of a list: the constants of the instance, and the reply to it.
 INSTANCE = re.compile(r"((?:[A-Za-z][A-Za-z0-9_]* ){1,4})(yes|no|refused|undecided|error [0-9]+(?: [0-9]+){0,2})\Z")
 BATCH = re.compile(r"([A-Za-z][A-Za-z0-9_]*) ([0-9]+|op) (.*)\Z")
@@ -45,7 +46,8 @@ WORDS = (b"ask", b"list", b"login", b"quit")
 SHAPES = {
     1: ("it doesn't begin with as many exists as are to be listed", "write each exists at the front, or list fewer"),
     2: ("their domains give more than 256 instances", "list fewer quantifiers, or ask for each constant instead"),
-    3: ("some instance would be too long or too deep to be asked", "write a shorter sentence, or ask for each constant"),
+    3: ("some instance would be too long or too deep to be asked",
+        "write a shorter sentence, or ask for each constant"),
 }
 
 
