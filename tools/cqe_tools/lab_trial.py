@@ -315,7 +315,7 @@ class Trial:
 
     def late(self, check, name, audit, text):
         """From what a user can conclude a secret that wasn't safe: the program is asked of a made-up one, who knows the
-        same and what the replies said. Of a liar it is that one of all his secrets is true."""
+        same and what the replies said. Of a liar it may be that one of all his secrets is true."""
         user = self.users[name]
         sources = [{"text": known, "mark": None} for known in user.get("know", [])]
         sources += [{"text": entry["query"], "mark": entry["mark"]} for entry in audit["entries"]
@@ -323,14 +323,12 @@ class Trial:
         known = [f"not ({one['text']})" if one["mark"] == "no" else one["text"] for one in sources]
         hidden = [*(all_secrets(user) + added_in(audit) if user["method"] == "lying" else []), text]
         found = check.entailed([(known, hidden)])[0]
-        kept, beside = range(len(known)), hidden[:-1]
-        fewest = check.fewest_known(known, hidden) if found == "yes" else None
-        if fewest is not None:
-            kept = fewest
-            numbers = check.fewest_hidden([known[number] for number in kept], hidden, range(len(beside)))
-            beside = [hidden[number] for number in numbers if number < len(beside)]
+        fewest = None
+        if found == "yes":
+            hidden = [hidden[number] for number in check.fewest_hidden(known, hidden, range(len(hidden) - 1))]
+            fewest = check.fewest_known(known, hidden)
         return {"found": found, "is_fewest": fewest is not None, "secret": visible(bytes_of(text)),
-                "from": [sources[number] for number in kept], "beside": beside}
+                "from": sources if fewest is None else [sources[number] for number in fewest], "beside": hidden[:-1]}
 
     def other(self, place, which, name, told, world, sought):
         """One other database: in which facts it differs, and what the program says over it."""
