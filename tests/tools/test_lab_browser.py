@@ -212,7 +212,7 @@ class ByTheKeyboard(OnThePage):
             self.page.press("Tab")
             order.append(self.page.value(FOCUSED))
             self.assertTrue(self.page.value(SEEN), order)
-            if order[-1] == "Ask":
+            if order[-1] == "act":
                 break
         self.assertEqual([order[0], order[1], order[2], order[-2]], ["To the question", "example", "Load", "question"])
         self.assertLess(order.index("Users"), order.index("question"))

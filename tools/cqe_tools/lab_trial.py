@@ -40,7 +40,7 @@ class Explained(Exception):
 
 @dataclass(frozen=True)
 class Said:
-    """What is said of a user: a question, a list of the first so many quantifiers of one, or a secret to be added."""
+    """One line of a user: a question, a list of the first so many quantifiers of one, or a secret that is to be added."""
 
     sort: str
     text: str
@@ -175,6 +175,7 @@ class Trial:
             return {**shown, "added": {name: added_in(self.audit(self.asker, self.journals, name)) for name in names}}
 
     def take(self, names, said):
+        """What the same line of some users is answered, and what the truth is."""
         with self.lock:
             heard = self.hear(self.asker, self.policy, self.journals, [(name, said) for name in names])
             for name, reply in zip(names, heard):
