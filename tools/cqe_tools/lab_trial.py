@@ -40,7 +40,7 @@ class Explained(Exception):
 
 @dataclass(frozen=True)
 class Said:
-    """One line of a user: a question, a list of the first so many quantifiers of one, or a secret that is to be added."""
+    """One line of a user: a question, a list of the first so many quantifiers of one, or a secret to be added."""
 
     sort: str
     text: str
