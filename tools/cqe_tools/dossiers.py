@@ -15,13 +15,13 @@ from .sentences import Refused, joined, sentence_of
 
 BYTES = 67_108_864
 FORM, TEXT, VERDICT, MARK, LENGTH, ADMISSION, UNSAFE = range(1, 8)
-MARKS = ("yes", "no", "refused", "undecided")
 
-LITERAL = r"[+-](?:0|[1-9][0-9]{0,9})"
 NUMBER = r"(?:0|[1-9][0-9]{0,9})"
-LINE = re.compile(rf"line((?: {LITERAL})*) :((?: {NUMBER})+)")
+GREATEST = 2_147_483_646  # of the numbers in a line of a refutation
+LINE = re.compile(rf"line((?: [+-]{NUMBER})*) :((?: {NUMBER})+)")
 NAME = r"[A-Za-z][A-Za-z0-9_]*"
 FACT = re.compile(rf"({NAME})\(((?:{NAME}(?:, {NAME})*)?)\)")
+ITEM = re.compile(r"(?:ask (yes|no|refused|undecided)|protect) (.+)", re.DOTALL)
 DONE = re.compile(rf"done ({NUMBER})")
 
 
@@ -56,7 +56,7 @@ class Item(NamedTuple):
 
     number: int  # from 1
     line: int
-    mark: str  # or 'protected'
+    mark: str | None  # None for a secret that is added
     text: str
     sentence: tuple
 
@@ -159,12 +159,12 @@ class Dossier:
 
     def item(self, line):
         """The pairs of an item, of which this is the line."""
-        word, _, rest = line.partition(" ")
-        mark, blank, text = rest.partition(" ") if word == "ask" else ("protected", " ", rest)
-        if word not in ("ask", "protect") or not blank or mark not in (*MARKS, "protected"):
+        match = ITEM.fullmatch(line)
+        if not match:
             raise self.lines.form("'ask MARK TEXT', 'protect TEXT' or 'done N'")
-        item = Item(self.items + 1, self.lines.number, mark, text, self.sentence(text, mark == "protected"))
-        if word == "protect":
+        mark, text = match.groups()
+        item = Item(self.items + 1, self.lines.number, mark, text, self.sentence(text, mark is None))
+        if mark is None:
             self.protect(item)
         elif mark != "undecided":
             yield from self.ask(item)
@@ -279,7 +279,7 @@ class Dossier:
         lines = []
         while (line := self.lines.take("'line' or 'end'")) != "end":
             match = LINE.fullmatch(line)
-            if not match:
+            if not match or any(int(number) > GREATEST for number in re.findall(NUMBER, line)):
                 raise self.lines.form("'line LITERALS : CHAIN' or 'end'")
             lines.append(Line(tuple(map(literal_of, match[1].split())), tuple(map(int, match[2].split()))))
         if not refutations.is_right(self.former.clauses, lines):
