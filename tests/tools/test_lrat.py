@@ -1,8 +1,8 @@
 """cqe-lrat: dossiers of a writer that shares nothing with it are turned into pairs, which checkers confirm; what isn't a
 dossier of the user is refused.
 
-The checkers are that of lrat_checker.py and those of others that are found by PATH: lrat-check, which reads both files,
-and cadical, which answers the clauses alone.
+The checkers are that of lrat_checker.py and, outside of the gate, those of others that are found by PATH: lrat-check,
+which reads both files, and cadical, which answers the clauses alone.
 """
 
 import functools
@@ -42,6 +42,11 @@ end
 open -
 done 1
 """
+
+
+def foreign(name):
+    """A decorator of a test that needs a program of others."""
+    return unittest.skipUnless(program.wanted() and shutil.which(name), f"needs {name}, and isn't for the gate")
 
 
 @functools.cache
@@ -142,6 +147,14 @@ class Clauses(unittest.TestCase):
         former.add(sentence_of(former.schema, b"drug(ann) or hiv(bob)"))
         former.cut(mark)
         self.assertEqual(vars(former), vars(again))
+
+
+    def test_the_example_of_the_formats(self):
+        text = (program.TOP / "docs/FORMATS.md").read_text().partition("\n## Checking dossiers with other programs\n")[2]
+        self.assertIn("".join(f"    {line}\n" for line in FIRST.splitlines()), text)
+        cells = re.findall(r"(?<=\| )(\d+) \| `([^`]*)`", text.partition("| number |")[2])
+        clauses = self.clauses("forall x: person . drug(x) -> hiv(x)", "drug(ann)", "-hiv(ann)")
+        self.assertEqual(dict(cells), {str(number): clause for number, clause in enumerate(clauses)})
 
 
 class Refutations(unittest.TestCase):
@@ -448,7 +461,7 @@ class Checkers(unittest.TestCase):
                 with self.assertRaises(lrat_checker.NoProof):
                     lrat_checker.check(cnf, joined(lines[:-1]))
 
-    @unittest.skipUnless(shutil.which("lrat-check"), "needs lrat-check")
+    @foreign("lrat-check")
     def test_lrat_check_confirms_each_pair(self):
         def confirms(cnf, lrat):
             (place / "cnf").write_text(cnf)
@@ -463,7 +476,7 @@ class Checkers(unittest.TestCase):
                 self.assertTrue(confirms(cnf, lrat))
                 self.assertFalse(confirms(cnf, joined(lrat.splitlines()[:-1])))
 
-    @unittest.skipUnless(shutil.which("cadical"), "needs cadical")
+    @foreign("cadical")
     def test_cadical_finds_the_same_of_the_clauses(self):
         """It answers 20 where a block follows, and 10 where it is open."""
         def status(cnf):

@@ -106,7 +106,7 @@ def facts_of(schema, text):
 
 def make_directory(name):
     """A directory in which nothing stands, so that no pair is one of an earlier call."""
-    os.makedirs(name, exist_ok=True)
+    os.makedirs(name, 0o700, exist_ok=True)  # the pairs are as secret as the facts
     if os.listdir(name):
         raise Unusable(f"{name} isn't empty")
 
