@@ -538,14 +538,12 @@ class Command(InDirectory):
 
     def test_deep_sentences(self):
         """As deep as 4,096 bytes allow."""
-        self.addCleanup(sys.setrecursionlimit, sys.getrecursionlimit())
-        sys.setrecursionlimit(10_000)
-        text = "z() or " * 584 + "z()"
-        policy = (b'version = 1\ndomains = {}\nrelations = {z = []}\n[[users]]\nname = "u"\nmethod = "lying"\n'
-                  b'secrets = ["z()"]\n')
-        writer = Writer(policy, b"", "u")
-        self.assertEqual(writer.ask(text), "no")
-        self.assertEqual(self.run_tool(writer.text(), policy, "\n", "u")[0], "items 1, pairs 1\n")
+        policy = (b'version = 1\ndomains = {}\nrelations = {w = [], z = []}\n[[users]]\nname = "u"\nmethod = "lying"\n'
+                  b'secrets = ["w()"]\n')
+        chain = " ".join(map(str, range(1752, 0, -3)))  # each node's last clause
+        text = joined(["dossier 1 u lying open", "admission", "open -", "ask yes " + "z() or " * 584 + "z()", "open z()",
+                       "open -", "ask yes z()", "open z()", "follows", f"line : 1753 {chain} 1754", "end", "done 2"])
+        self.assertEqual(self.run_tool(text, policy, "z()\n", "u")[0], "items 2, pairs 1\n")
 
     def test_the_checker_of_the_tests_is_a_command(self):
         _, to = self.run_tool()
