@@ -1,7 +1,7 @@
 """A writer of dossiers for tests: a policy's user is asked, and his history is written with what shows each reply.
 
-It follows docs/DEFINITIONS.md word for word, as slowly as that is said, and shares nothing with the tools but the reader
-of sentences. So a dossier of it tells whether the tools take the definitions as they stand.
+It follows docs/DEFINITIONS.md word for word, as slowly as that is said, and shares nothing with the tools but the
+reader of sentences. So a dossier of it tells whether the tools take the definitions as they stand.
 
 A literal is a pair of a variable and its sign. A ground formula is a list that begins with its sort.
 """
@@ -9,7 +9,7 @@ A literal is a pair of a variable and its sign. A ground formula is a list that 
 import tomllib
 from typing import NamedTuple
 
-from told import POLICY  # noqa: F401 makes the tools' modules found
+import told  # noqa: F401 makes the tools' modules found
 
 from cqe_tools.schemas import Schema
 from cqe_tools.sentences import sentence_of

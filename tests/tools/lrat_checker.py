@@ -1,8 +1,8 @@
 """A checker of LRAT for tests, where no foreign one is there: lrat_checker.py CNF LRAT.
 
-It knows nothing of cqe: it reads a formula in DIMACS and a proof in LRAT without resolution on asymmetric literals. Each
-line of the proof has a greater number than the one before it. With all its literals false each hint in turn leaves one
-literal, which is made true, and the last hint leaves none. A proof is one where some line has no literal.
+It knows nothing of cqe: it reads a formula in DIMACS and a proof in LRAT, of which it takes the lines that follow by
+propagation alone. Each line has a greater number than the one before it. With all its literals false each hint in turn
+leaves one literal, which is made true, and the last hint leaves none. Some line has no literal.
 """
 
 import sys

@@ -1,12 +1,11 @@
-"""cqe-lrat: dossiers of a writer that shares nothing with it are turned into pairs, which checkers confirm; what isn't a
-dossier of the user is refused.
+"""cqe-lrat: dossiers of a writer that shares nothing with it are turned into pairs, which checkers confirm.
 
-The checkers are that of lrat_checker.py and, outside of the gate, those of others that are found by PATH: lrat-check,
-which reads both files, and cadical, which answers the clauses alone.
+The checkers are that of lrat_checker.py and, outside of the gate, those of others where they are there: lrat-check,
+which comes with drat-trim; that of ACL2; and cadical, which answers the clauses alone. What becomes of dossiers that
+were changed stands in test_lrat_changes.py.
 """
 
-import functools
-import itertools
+import dataclasses
 import random
 import re
 import shutil
@@ -16,99 +15,25 @@ import tempfile
 import unittest
 from pathlib import Path
 
+import acl2_lrat
 import lrat_checker
 import program
-from dossier_writer import Writer, holds, is_right
+from dossier_examples import (FIRST, all_files, all_written, base_and_user, drawn, example, files_of, joined, pairs_of,
+                              refusal, users, with_secrets)
+from dossier_writer import Writer
 from told import InDirectory, as_bytes
 
-from cqe_tools import dossiers, lab_examples, lrat_main, refutations
+from cqe_tools import dossiers, lab_examples, refutations
 from cqe_tools.clauses import Former
-from cqe_tools.dossiers import Dossier, Lines, NoDossier
-from cqe_tools.places import Text
-from cqe_tools.policies import PolicyFile
 from cqe_tools.sentences import sentence_of
 
 LRAT = program.TOP / "tools/cqe-lrat"
-NAMES = ("ward", "clinic", "registry", "statistics", "register")
-
-# The first mark of the nurse of the ward: a lie. Its clauses and this refutation were worked out by hand.
-FIRST = """dossier 1 nurse lying open
-admission
-open -
-ask no drug(ann)
-follows
-line : 12 3 11 7 10
-end
-open -
-done 1
-"""
 
 
-def foreign(name):
+def foreign(name, is_there=None):
     """A decorator of a test that needs a program of others."""
-    return unittest.skipUnless(program.wanted() and shutil.which(name), f"needs {name}, and isn't for the gate")
-
-
-@functools.cache
-def example(name):
-    return lab_examples.load(name)
-
-
-@functools.cache
-def base_and_user(files, name):
-    policy = PolicyFile(Text("policy", files.policy))
-    schema = policy.schema()
-    user = lrat_main.user_of(schema, policy.users()[policy.user_named(name)])
-    return dossiers.Base(schema, lrat_main.facts_of(schema, Text("facts", files.facts))), user
-
-
-def users(files):
-    return [user["name"] for user in PolicyFile(Text("policy", files.policy)).users()]
-
-
-@functools.cache
-def written(files, name):
-    """The dossier of a user to whom all questions of an example are put."""
-    writer = Writer(files.policy, files.facts, name)
-    for text in files.questions if writer.standing == "open" else ():
-        writer.ask(text)
-    return writer
-
-
-def with_secrets(name):
-    """The dossier of a user of the ward who is asked, and gets more secrets."""
-    ward = example("ward")
-    writer = Writer(ward.policy, ward.facts, name)
-    replies = [writer.ask("true"), writer.protect("drug(bob)"), writer.ask("drug(bob) or drug(ann)"),
-               writer.protect("not drug(bob)"), writer.protect("hiv(bob) and drug(bob)"), writer.ask("hiv(bob)"),
-               writer.protect("true")]
-    return writer, replies
-
-
-@functools.cache
-def all_written():
-    """Of each user of the examples who is open: the example, his name and his dossier."""
-    found = [(example(name), user, written(example(name), user)) for name in NAMES for user in users(example(name))]
-    found += [(example("ward"), user, with_secrets(user)[0]) for user in users(example("ward"))]
-    return [dossier for dossier in found if dossier[2].standing == "open"]
-
-
-def pairs_of(files, name, text):
-    """The pairs of a dossier; NoDossier where it is refused."""
-    return list(Dossier(*base_and_user(files, name), Lines(text.encode())).pairs())
-
-
-def refusal(files, name, text):
-    """The kind and the line with which a dossier is refused; None where it isn't."""
-    try:
-        pairs_of(files, name, text)
-    except NoDossier as refused:
-        return refused.kind, refused.line
-    return None
-
-
-def files_of(pair):
-    return (refutations.dimacs(pair.clauses, pair.variables, ["a comment"]), refutations.lrat(pair.clauses, pair.lines))
+    is_there = shutil.which(name) if is_there is None else is_there
+    return unittest.skipUnless(program.wanted() and is_there, f"needs {name}, and isn't for the gate")
 
 
 class Clauses(unittest.TestCase):
@@ -133,7 +58,8 @@ class Clauses(unittest.TestCase):
         self.assertEqual(self.clauses("hiv(ann) <-> not drug(ann)")[1:],
                          ["-3 -1 -2", "-3 +1 +2", "+3 +1 -2", "+3 -1 +2", "+3"])
         self.assertEqual(self.clauses("exists x: person . hiv(x) and x != bob")[1:],
-                         ["-2 +1", "-2 +0", "+2 -1 -0", "-4 +3", "-4 -0", "+4 -3 +0", "+5 -2", "+5 -4", "-5 +2 +4", "+5"])
+                         ["-2 +1", "-2 +0", "+2 -1 -0", "-4 +3", "-4 -0", "+4 -3 +0", "+5 -2", "+5 -4", "-5 +2 +4",
+                          "+5"])
         self.assertEqual(self.clauses("-true", "false or false", "ann = ann"),
                          ["+0", "-0", "+1 +0", "+1 +0", "-1 -0", "+1", "+0"])
 
@@ -150,7 +76,7 @@ class Clauses(unittest.TestCase):
 
 
     def test_the_example_of_the_formats(self):
-        text = (program.TOP / "docs/FORMATS.md").read_text().partition("\n## Checking dossiers with other programs\n")[2]
+        text = (program.TOP / "docs/FORMATS.md").read_text().partition("\n## Checking dossiers with other programs")[2]
         self.assertIn("".join(f"    {line}\n" for line in FIRST.splitlines()), text)
         cells = re.findall(r"(?<=\| )(\d+) \| `([^`]*)`", text.partition("| number |")[2])
         clauses = self.clauses("forall x: person . drug(x) -> hiv(x)", "drug(ann)", "-hiv(ann)")
@@ -196,7 +122,8 @@ class Refutations(unittest.TestCase):
         clauses = [(1,), (1, 2, -2), (2, -1), (-2, -1)]
         lines = [refutations.Line((2, -2, 1), (1,)), refutations.Line((-1,), (2, 3)), refutations.Line((), (0, 5))]
         self.assertTrue(refutations.is_right(clauses, lines))
-        self.assertEqual(refutations.lrat(clauses, lines), "6 -1 0 4 3 0\n7 0 6 1 0\n")
+        self.assertEqual(refutations.files(clauses, 2, lines),
+                         ("p cnf 2 3\n1 0\n2 -1 0\n-2 -1 0\n", "4 -1 0 3 2 0\n5 0 4 1 0\n"))
 
 
 class Writers(unittest.TestCase):
@@ -255,238 +182,123 @@ class Dossiers(unittest.TestCase):
         self.assertGreater(followed, 50)
 
 
-def drawn(draw):
-    """A policy with one user, facts and questions, by chance."""
-    atoms = [f"hiv({person})" for person in ("ann", "bob")] + ["lies(ann, w1)", "lies(bob, w2)", "z()"]
-
-    def sentence(depth):
-        if depth == 0 or draw.random() < 0.2:
-            return draw.choice(atoms + ["true", "ann = bob", "w1 != w2"])
-        if draw.random() < 0.3:
-            quantifier = draw.choice(["forall", "exists"])
-            return f"({quantifier} x: person . {sentence(depth - 1).replace('ann', 'x')})"
-        if draw.random() < 0.3:
-            return f"not {sentence(depth - 1)}"
-        return f"({sentence(depth - 1)} {draw.choice(['and', 'or', '->', '<->'])} {sentence(depth - 1)})"
-
-    secrecies = [sentence(1)] if draw.random() < 0.3 else []
-    user = {"method": draw.choice(["lying", "refusal", "combined"]), "know": [sentence(2)], "secrecies": secrecies,
-            "secrets": [sentence(1) for _ in range(draw.randint(1, 3))]}
-    policy = "\n".join([
-        "version = 2", "[domains]", 'person = ["ann", "bob"]', 'ward = ["w1", "w2"]', "[relations]",
-        'hiv = ["person"]', 'lies = ["person", "ward"]', "z = []", "[[users]]", 'name = "u"',
-        *(f"{key} = {value!r}" for key, value in user.items())]) + "\n"
-    facts = "".join(f"{atom}\n" for atom in atoms if draw.random() < 0.5)
-    return lab_examples.Files("drawn", policy.encode(), facts.encode(), tuple(sentence(3) for _ in range(6)))
-
-
-class Changes(unittest.TestCase):
-    """Dossiers of which something was changed."""
-
-    def test_forms(self):
-        """Each of these lines in the place of one of the dossier, and how it is refused."""
-        for number, line, kind in (
-                (1, "dossier 2 nurse lying open", 1), (1, "dossier 1 clerk lying open", 1), (1, "dossier 1 nurse open", 1),
-                (1, "dossier 1 nurse lying closed", 6), (1, "dossier 1 nurse lying sealed", 6), (2, "admission ", 1),
-                (2, "", 1), (2, "admission\r", 1), (3, "follows", 6), (3, "follows ", 1), (3, "open", 1), (3, "open ", 1),
-                (3, "open  -", 1), (3, "open - ", 1), (3, "open\t-", 1), (4, "ask no ", 1), (4, "ask no", 1),
-                (4, "ask", 1), (4, "ask  no drug(ann)", 1), (4, "ask protected drug(ann)", 1), (4, "protect ", 1),
-                (4, "protect", 1), (4, "protect  ", 2), (4, "protect hiv(ann)", 7), (4, "ask no drug(ann)\r", 2),
-                (4, "ask no true" + " " * 4093, 2), (4, "protect true", 7), (4, "protect hiv(eve)", 2), (5, "follows ", 1),
-                (6, "line : 12 3 11 7 10 ", 1), (6, "line: 12 3 11 7 10", 1), (6, "line :  12 3 11 7 10", 1),
-                (6, "line :", 1), (6, "line : ", 1), (6, "line : 12 03 11 7 10", 1), (6, "line : 12 3 11 7 2147483647", 1),
-                (6, "line 2 : 12 3 11 7", 1), (6, "line +02 : 12 3 11 7", 1), (6, "line +2147483647 : 12 3 11 7", 1),
-                (6, "end", 3), (7, "end ", 1), (7, "End", 1), (9, "done", 1), (9, "done 01", 1), (9, "done 2", 1),
-                (9, "done 1 ", 1), (9, "done 1\n", 1), (9, "done 1\n\n", 1)):
-            with self.subTest(line):
-                lines = FIRST.splitlines()
-                found = refusal(example("ward"), "nurse", joined(lines[:number - 1] + [line] + lines[number:]))
-                self.assertEqual(found, (kind, number + (kind == dossiers.UNSAFE or "\n" in line)))
-        for line in ("line : 12 3 11 7 2147483646", "line +2147483646 : 12 3 11 7 10", "line : 13"):
-            lines = FIRST.splitlines()
-            self.assertEqual(refusal(example("ward"), "nurse", joined(lines[:5] + [line] + lines[6:])), (3, 7))
-
-    def test_the_last_line_may_have_no_end(self):
-        self.assertIsNone(refusal(example("ward"), "nurse", FIRST.removesuffix("\n")))
-
-    def test_a_text_keeps_its_blanks(self):
-        writer = Writer(example("ward").policy, example("ward").facts, "nurse")
-        self.assertEqual(writer.ask("  drug( ann )\t "), "no")
-        self.assertIsNone(refusal(example("ward"), "nurse", writer.text()))
-
-    def test_what_the_formats_say(self):
-        ward, lines = example("ward"), FIRST.splitlines(keepends=True)
-        self.assertIsNone(refusal(ward, "nurse", FIRST))
-        for number, old, new, why in ((4, "no", "yes", (4, 4)), (3, "-", "hiv(ann)", (3, 3)),
-                                      (6, "12 3 11", "12 3", (3, 7)), (9, lines[8], "", (1, 9))):
-            changed = [line.replace(old, new) if at == number else line for at, line in enumerate(lines, 1)]
-            self.assertEqual(refusal(ward, "nurse", "".join(changed)), why)
-
-    def test_marks(self):
-        for files, name, writer in all_written():
-            for number, line in enumerate(writer.lines):
-                word, _, rest = line.partition(" ")
-                for mark in {"yes", "no", "refused", "undecided"} - {rest.split(" ")[0]} if word == "ask" else ():
-                    changed = replaced(writer, number, f"ask {mark} {rest.partition(' ')[2]}")
-                    wanted = (dossiers.FORM, number + 2) if mark == "undecided" else (dossiers.MARK, number + 1)
-                    self.assertEqual(refusal(files, name, changed), wanted)
-
-    def test_facts_of_worlds(self):
-        draw, right = random.Random(4), 0
-        for files, name, writer in all_written():
-            every = all_facts(writer.schema)
-            for number, block in writer.blocks.items():
-                for fact in draw.sample(every, min(len(every), 3)) if not block.follows else ():
-                    world = block.world ^ {fact}
-                    is_right = all(holds(world, formula) == stated for formula, stated in block.signed)
-                    changed = replaced(writer, number - 1, "open " + writer.printed(world))
-                    self.assertEqual(refusal(files, name, changed), None if is_right else (dossiers.VERDICT, number))
-                    right += is_right
-        self.assertGreater(right, 10)
-
-    def test_orders_of_worlds(self):
-        writer = written(example("statistics"), "bank")
-        facts = writer.lines[2].removeprefix("open ").replace(") ", ")\n").split("\n")
-        self.assertEqual(len(facts), len(writer.blocks[3].world))
-        for world in (facts[::-1], facts + facts[-1:], ["-", *facts], [*facts, ""], [""], [*facts, "made_loss(elm)"],
-                      ["made_loss(alder,birch)"], ["made_loss()"], ["x(alder)"], ["made_loss( alder)"], ["alder"],
-                      ["in_region(alder)"], ["in_region(alder, mill)"], [facts[0].replace(", ", ",")]):
-            with self.subTest(world):
-                changed = replaced(writer, 2, "open " + " ".join(world))
-                self.assertEqual(refusal(example("statistics"), "bank", changed), (dossiers.FORM, 3))
-
-    def test_numbers_of_chains_and_literals(self):
-        draw, right, wrong = random.Random(5), 0, 0
-        for files, name, writer in all_written():
-            for number, block in writer.blocks.items():
-                for place, (clause, chain) in enumerate(block.machine.lines if block.follows else ()):
-                    at = draw.randrange(len(chain))
-                    other = [*chain[:at], max(chain[at] + draw.choice((-3, -1, 1, 3)), 0), *chain[at + 1:]]
-                    for line in ((clause, other), (clause, chain[:at] + chain[at + 1:]), (clause[1:], chain),
-                                 (clause + [(0, False)], chain), (clause[::-1], chain)):
-                        lines = [*block.machine.lines[:place], line, *block.machine.lines[place + 1:]]
-                        found = refusal(files, name, replaced(writer, number + place, writer.refuted([line])[1]))
-                        end = (dossiers.VERDICT, number + len(lines) + 1)
-                        self.check_line(found, is_right(block.form.clauses, lines), line, end)
-                        right, wrong = right + (found is None), wrong + (found is not None)
-        self.assertGreater(min(right, wrong), 50)
-
-    def check_line(self, found, is_one, line, end):
-        """A line of a refutation that was changed is refused exactly where it isn't right; without a chain by its form."""
-        if line[1]:
-            self.assertEqual(found, None if is_one else end, line)
-        else:
-            self.assertEqual(found[0], dossiers.FORM, line)
-
-    def test_each_line_of_the_first_mark(self):
-        for at, line in enumerate(FIRST.splitlines()):
-            lines = FIRST.splitlines()
-            self.assertIsNotNone(refusal(example("ward"), "nurse", joined(lines[:at] + lines[at + 1:])), line)
-            twice = refusal(example("ward"), "nurse", joined(lines[:at] + [line] + lines[at:]))
-            self.assertEqual(twice is None, line.startswith("line"), line)
-            if at + 1 < len(lines):
-                swapped = lines[:at] + lines[at:at + 2][::-1] + lines[at + 2:]
-                self.assertIsNotNone(refusal(example("ward"), "nurse", joined(swapped)), line)
-
-    def test_lines_left_out_twice_and_swapped(self):
-        draw = random.Random(6)
-        for files, name, writer in all_written():
-            lines = writer.text().splitlines()
-            for at in sorted(draw.sample(range(len(lines)), min(len(lines), 25))):
-                self.assertIsNotNone(refusal(files, name, joined(lines[:at] + lines[at + 1:])), lines[at])
-                self.check_change(files, name, writer, lines[:at] + [lines[at]] + lines[at:], lines[at])
-                self.check_change(files, name, writer, lines[:at] + lines[at:at + 2][::-1] + lines[at + 2:], lines[at])
-
-    def check_change(self, files, name, writer, lines, line):
-        """A dossier in which a line stands twice, or changed places with the next one, is refused. But the last line of a
-        refutation may stand twice, and two worlds change places, where each is still right."""
-        text = joined(lines)
-        if text == writer.text() or refusal(files, name, text) is not None:
-            return
-        self.assertRegex(line, r"^(line :|open ) ")
-        for pair in pairs_of(files, name, text):
-            lrat_checker.check(*files_of(pair))
-
-    def test_an_item_left_out(self):
-        """Without it the marks behind it are those of another log: accepted is what the rule gives then."""
-        files, accepted, refused = example("ward"), 0, 0
-        for name in users(files):
-            writer = written(files, name)
-            heads = [number for number, line in enumerate(writer.lines) if line.startswith("ask ")]
-            ends = [*heads[1:], len(writer.lines)]
-            for begin, end in zip(heads, ends):
-                lines = writer.lines[1:begin] + writer.lines[end:]
-                text = joined([writer.text().splitlines()[0], *lines, f"done {writer.items - 1}"])
-                again = Writer(files.policy, files.facts, name)
-                asked = [line.split(" ", 2)[1:] for line in lines if line.startswith("ask ")]
-                if refusal(files, name, text) is None:
-                    self.assertEqual([again.ask(text) for _, text in asked], [mark for mark, _ in asked])
-                    accepted += 1
-                else:
-                    refused += 1
-        self.assertGreater(min(accepted, refused), 2)
-
-
-def replaced(writer, number, line):
-    """A dossier in which another line stands in the place of one, counted from 0."""
-    lines = writer.text().splitlines()
-    return joined(lines[:number] + [line] + lines[number + 1:])
-
-
-def joined(lines):
-    return "".join(line + "\n" for line in lines)
-
-
-def all_facts(schema):
-    """All facts of a schema."""
-    return [(relation, *constants) for relation, columns in schema.relations.items()
-            for constants in itertools.product(*(schema.domains[domain] for domain in columns))]
-
-
 class Checkers(unittest.TestCase):
     """That the checkers look at what they are given, and those of others at the same files."""
 
     def test_a_proof_with_less_in_it_is_none(self):
-        for files, name, writer in all_written():
-            for pair in pairs_of(files, name, writer.text()):
-                cnf, lrat = files_of(pair)
-                lines = lrat.splitlines()
-                for at, line in enumerate(lines):
-                    words = line.split()
-                    start = words.index("0") + 1
-                    for hint in range(start, len(words) - 1):
-                        less = " ".join(words[:hint] + words[hint + 1:])
-                        with self.assertRaises(lrat_checker.NoProof):
-                            lrat_checker.check(cnf, joined(lines[:at] + [less] + lines[at + 1:]))
+        for cnf, lrat in all_files():
+            lines = lrat.splitlines()
+            for at, line in enumerate(lines):
+                words = line.split()
+                for hint in range(words.index("0") + 1, len(words) - 1):
+                    left = " ".join(words[:hint] + words[hint + 1:])
+                    with self.assertRaises(lrat_checker.NoProof):
+                        lrat_checker.check(cnf, joined(lines[:at] + [left] + lines[at + 1:]))
+            for other in (less(lrat), joined(lines[:-1])):
                 with self.assertRaises(lrat_checker.NoProof):
-                    lrat_checker.check(cnf, joined(lines[:-1]))
+                    lrat_checker.check(cnf, other)
 
     @foreign("lrat-check")
     def test_lrat_check_confirms_each_pair(self):
         def confirms(cnf, lrat):
             (place / "cnf").write_text(cnf)
             (place / "lrat").write_text(lrat)
-            ran = subprocess.run(["lrat-check", place / "cnf", place / "lrat"], capture_output=True, text=True, timeout=60)
+            ran = subprocess.run(["lrat-check", place / "cnf", place / "lrat"], capture_output=True, text=True,
+                                 timeout=300)
             return re.search(r"^[cs] VERIFIED$", ran.stdout, re.MULTILINE) is not None
 
         place = Path(self.enterContext(tempfile.TemporaryDirectory()))
-        for files, name, writer in all_written():
-            for pair in pairs_of(files, name, writer.text()):
-                cnf, lrat = files_of(pair)
-                self.assertTrue(confirms(cnf, lrat))
-                self.assertFalse(confirms(cnf, joined(lrat.splitlines()[:-1])))
+        for cnf, lrat in all_files():
+            self.assertTrue(confirms(cnf, lrat))
+            self.assertFalse(confirms(cnf, less(lrat)))
+
+    @foreign("acl2 with acl2-books-source", acl2_lrat.is_there())
+    def test_acl2_confirms_each_pair(self):
+        pairs = all_files()
+        self.assertEqual(acl2_lrat.confirmed(pairs), [True] * len(pairs))
+        self.assertEqual(acl2_lrat.confirmed([(cnf, less(lrat)) for cnf, lrat in pairs]), [False] * len(pairs))
 
     @foreign("cadical")
     def test_cadical_finds_the_same_of_the_clauses(self):
         """It answers 20 where a block follows, and 10 where it is open."""
         def status(cnf):
-            return subprocess.run(["cadical", "-q", "-n"], input=cnf, capture_output=True, text=True, timeout=60).returncode
+            return subprocess.run(["cadical", "-q", "-n"], input=cnf.encode(), capture_output=True).returncode
+
+        def dimacs(form):
+            clauses = [[v + 1 if sign else -(v + 1) for v, sign in clause] for clause in form.clauses]
+            return refutations.files(clauses, form.free, []).dimacs
 
         for files, name, writer in all_written():
-            self.assertEqual({status(files_of(pair)[0]) for pair in pairs_of(files, name, writer.text())} - {20}, set())
-            forms = {refutations.dimacs([[v + 1 if sign else -(v + 1) for v, sign in clause] for clause in block.form.clauses],
-                                        block.form.free, []) for block in writer.blocks.values() if not block.follows}
-            self.assertEqual({status(cnf) for cnf in forms}, {10})
+            self.assertLessEqual({status(files_of(pair).dimacs) for pair in pairs_of(files, name, writer.text())}, {20})
+            opened = {dimacs(block.form) for block in writer.blocks.values() if not block.follows}
+            self.assertEqual({status(cnf) for cnf in opened}, {10})
+
+
+@program.with_dossiers
+class Program(InDirectory):
+    """The program's own dossiers, and what it says of others."""
+
+    def words(self, files, user=None):
+        named = ["--policy", self.file("policy", files.policy), "--facts", self.file("facts", files.facts)]
+        return named + (["--user", user] if user else [])
+
+    def dossier_of(self, files, user, items):
+        """What the program writes of a user, after these lines of a dossier's items."""
+        journals = ["--journals", tempfile.mkdtemp(dir=self.directory)]
+        script = joined(re.sub("^protect", f"{user} op protect", re.sub("^ask [a-z]+", f"{user} 1 ask", line))
+                        for line in items)
+        for ran in (program.run("init", *self.words(files), *journals),
+                    program.run("batch", *self.words(files), *journals, given=script.encode()),
+                    program.run("dossier", *self.words(files, user), *journals)):
+            self.assertEqual(ran.returncode, 0, ran.stderr)
+        return ran.stdout.decode()
+
+    def test_it_writes_what_the_writer_writes(self):
+        for files, name, writer in all_written():
+            with self.subTest(files.title, user=name):
+                items = [line for line in writer.lines if line.startswith(("ask ", "protect "))]
+                self.assertEqual(self.dossier_of(files, name, items), writer.text())
+
+    def test_of_a_closed_user_it_writes_a_line(self):
+        ward = example("ward")
+        knows = ward.policy.replace(b'["forall x: person . drug(x) -> hiv(x)"]', b'["hiv(ann)"]', 1)
+        files = dataclasses.replace(ward, policy=knows)
+        self.assertEqual(self.dossier_of(files, "nurse", []), "dossier 1 nurse lying closed\n")
+        ran = program.run("check", *self.words(files, "nurse"), given=b"dossier 1 nurse lying closed\n")
+        self.assertEqual((ran.returncode, ran.stderr), (14, b"cqe: dossier 6 1\n"))
+
+    def test_it_accepts_what_the_tool_accepts(self):
+        for files, name, writer in all_written():
+            ran = program.run("check", *self.words(files, name), given=writer.text().encode())
+            self.assertEqual((ran.returncode, ran.stdout), (0, f"sound {writer.items}\n".encode()))
+
+    def test_it_refuses_what_the_tool_refuses(self):
+        """Dossiers with a line that was left out, stands twice, changed places or lost a character."""
+        draw = random.Random(7)
+        for files, name, writer in all_written():
+            for _ in range(8):
+                text = joined(changed(draw, writer.text().splitlines()))
+                found = refusal(files, name, text)
+                ran = program.run("check", *self.words(files, name), given=text.encode())
+                said = "" if found is None else "cqe: dossier {} {}\n".format(*found)
+                self.assertEqual((ran.returncode, ran.stderr.decode()), (0 if found is None else 14, said), text)
+
+
+def changed(draw, lines):
+    """Lines of which one was left out, stands twice, changed places with the next one or lost a character."""
+    at = draw.randrange(len(lines) - 1)
+    line, following = lines[at:at + 2]
+    place = draw.randrange(len(line))
+    pieces = draw.choice(([following], [line, line, following], [following, line],
+                          [line[:place] + line[place + 1:], following]))
+    return lines[:at] + pieces + lines[at + 2:]
+
+
+def less(lrat):
+    """A proof without the last hint of its last line."""
+    *lines, last = lrat.splitlines()
+    *words, _, end = last.split()
+    return joined([*lines, " ".join([*words, end])])
 
 
 class Command(InDirectory):
@@ -495,7 +307,7 @@ class Command(InDirectory):
         ward, to = example("ward"), self.directory / to
         policy, facts = self.file("policy", policy or ward.policy), self.file("facts", facts or ward.facts)
         words = [LRAT, "--policy", policy, "--facts", facts, "--user", user, "--to", to]
-        ran = subprocess.run(words, input=as_bytes(dossier), capture_output=True, timeout=60)
+        ran = subprocess.run(words, input=as_bytes(dossier), capture_output=True, timeout=300)
         self.assertEqual(ran.returncode, status, ran.stderr)
         return (ran.stderr if status else ran.stdout).decode(), to
 
@@ -533,7 +345,7 @@ class Command(InDirectory):
 
     def test_words(self):
         for words in ([], ["--policy", "p"], ["x"], ["--pol", "p"]):
-            ran = subprocess.run([LRAT, *words], capture_output=True, timeout=60)
+            ran = subprocess.run([LRAT, *words], capture_output=True, timeout=300)
             self.assertEqual(ran.returncode, 2)
 
     def test_deep_sentences(self):
@@ -541,14 +353,15 @@ class Command(InDirectory):
         policy = (b'version = 1\ndomains = {}\nrelations = {w = [], z = []}\n[[users]]\nname = "u"\nmethod = "lying"\n'
                   b'secrets = ["w()"]\n')
         chain = " ".join(map(str, range(1752, 0, -3)))  # each node's last clause
-        text = joined(["dossier 1 u lying open", "admission", "open -", "ask yes " + "z() or " * 584 + "z()", "open z()",
-                       "open -", "ask yes z()", "open z()", "follows", f"line : 1753 {chain} 1754", "end", "done 2"])
+        text = joined(["dossier 1 u lying open", "admission", "open -", "ask yes " + "z() or " * 584 + "z()",
+                       "open z()", "open -", "ask yes z()", "open z()", "follows", f"line : 1753 {chain} 1754", "end",
+                       "done 2"])
         self.assertEqual(self.run_tool(text, policy, "z()\n", "u")[0], "items 2, pairs 1\n")
 
     def test_the_checker_of_the_tests_is_a_command(self):
         _, to = self.run_tool()
         words = [sys.executable, lrat_checker.__file__, to / "0001-01.cnf", to / "0001-01.lrat"]
-        ran = subprocess.run(words, capture_output=True, text=True, timeout=60)
+        ran = subprocess.run(words, capture_output=True, text=True, timeout=300)
         self.assertEqual((ran.returncode, ran.stdout), (0, "c VERIFIED\n"))
 
 

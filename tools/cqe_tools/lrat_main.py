@@ -116,8 +116,9 @@ def turned(base, user, data, directory):
     dossier, pairs = Dossier(base, user, Lines(data)), 0
     for pair in dossier.pairs():
         name = os.path.join(directory, f"{pair.item.number:04}-{pair.number:02}")
-        write(name + ".cnf", refutations.dimacs(pair.clauses, pair.variables, comments(user, pair)))
-        write(name + ".lrat", refutations.lrat(pair.clauses, pair.lines))
+        files = refutations.files(pair.clauses, pair.variables, pair.lines, comments(user, pair))
+        write(name + ".cnf", files.dimacs)
+        write(name + ".lrat", files.lrat)
         pairs += 1
     return dossier.items, pairs
 

@@ -47,27 +47,38 @@ def resolvent(one, other):
     return {left for left in (*one, *other) if abs(left) != abs(literal)}
 
 
-def dimacs(clauses, variables, comments):
-    """The clauses as a file, behind comments."""
-    lines = [f"c {comment}" for comment in comments]
-    lines.append(f"p cnf {variables} {len(clauses)}")
-    lines += [" ".join(map(str, (*clause, 0))) for clause in clauses]
-    return "\n".join(lines) + "\n"
+class Files(NamedTuple):
+    """What two files say: the clauses in DIMACS, and their refutation in LRAT."""
+
+    dimacs: str
+    lrat: str
 
 
-def lrat(clauses, lines):
-    """A right refutation as a file.
+def files(clauses, variables, lines, comments=()):
+    """A right refutation of clauses as a pair of files.
 
-    A clause with both literals of a variable is left out: no other line comes from it.
+    Clauses and lines with both literals of a variable are left out: no line without both of them comes from one, and
+    not every checker takes them. The others are numbered anew, from 1.
     """
-    known = list(clauses)
-    written = []
-    for line in lines:
-        if not any(-literal in line.clause for literal in line.clause):
-            hints = [number + 1 for number in hints_of(known, line)]
-            written.append(" ".join(map(str, (len(known) + 1, *line.clause, 0, *hints, 0))))
-        known.append(line.clause)
-    return "\n".join(written) + "\n"
+    known, numbers = [*clauses, *(line.clause for line in lines)], {}
+    for number, clause in enumerate(known):
+        if not is_tautology(clause):
+            numbers[number] = len(numbers) + 1
+    kept = [clause for number, clause in enumerate(clauses) if number in numbers]
+    head = [*(f"c {comment}" for comment in comments), f"p cnf {variables} {len(kept)}"]
+    proof = [(numbers[number], *line.clause, 0, *(numbers[hint] for hint in hints_of(known, line)))
+             for number, line in enumerate(lines, len(clauses)) if number in numbers]
+    return Files("".join(f"{line}\n" for line in head + [ended(clause) for clause in kept]),
+                 "".join(f"{ended(words)}\n" for words in proof))
+
+
+def is_tautology(clause):
+    return any(-literal in clause for literal in clause)
+
+
+def ended(numbers):
+    """Numbers in a line, with a 0 behind them."""
+    return " ".join(map(str, (*numbers, 0)))
 
 
 def hints_of(clauses, line):
