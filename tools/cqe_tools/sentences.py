@@ -268,14 +268,14 @@ class Reader:
         self.sign(")", "')' behind the last column")
 
 
-def sentence_of(schema, text):
-    """What a text says; Refused where it is no sentence."""
-    return Reader(schema, text).whole()
-
-
 def nodes_of(schema, text):
     """The nodes of a sentence; Refused where the text is none."""
     return sentence_of(schema, text).nodes
+
+
+def sentence_of(schema, text):
+    """What a text says; Refused where it is no sentence."""
+    return Reader(schema, text).whole()
 
 
 def refusal_of(schema, text):
