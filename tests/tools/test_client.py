@@ -32,6 +32,7 @@ class Lines(unittest.TestCase):
             ("error 24", cqe.NotAdmitted, cqe.Again.OPERATOR),
             ("error 25", cqe.NotLoggedIn, cqe.Again.LOGIN),
             ("error 26", cqe.UnknownLine, cqe.Again.NEVER),
+            ("error 27", cqe.SecretsFull, cqe.Again.NEVER),
             ("error 40", cqe.JournalFailed, cqe.Again.OPERATOR),
             ("error 41", cqe.JournalRefused, cqe.Again.OPERATOR),
             ("error 50", cqe.OutOfMemory, cqe.Again.LATER),

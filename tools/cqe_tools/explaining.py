@@ -130,11 +130,15 @@ class Explainer:
         self.complete = complete  # whether all replies are given, from the first on
         self.said = []  # of each line that may be explained: its sort and the line
         self.replies = 0
+        self.requests = []  # the lines of a session among them
 
     def take(self, line):
         """Takes a line without its end, and answers whether it is one of the program's or of a session."""
         if line.startswith(COMPLAINT):
             self.said.append(("complaint", line))
+            return True
+        if self.is_listing() and replies.INSTANCE.match(line):
+            self.said.append(("instance", line))
             return True
         batch = replies.BATCH.match(line)
         if line == "* restarted" or replies.REPLY.match(line) or (batch and replies.REPLY.match(batch[3])):
@@ -143,8 +147,21 @@ class Explainer:
             return True
         if re.match(r"(login|ask|list)( |\Z)|quit\Z", line):
             self.said.append(("request", line))
+            self.requests.append(line.encode("utf-8", "surrogateescape"))
             return True
         return False
+
+    @cached_property
+    def lines_of_session(self):
+        """The lines of the script, where it is one of a session."""
+        if self.context.script is None or self.context.sort != "session":
+            return []
+        return [self.context.script.line(number) for number, *_ in scripts.asks(self.context.script, "session")]
+
+    def is_listing(self):
+        """Whether the reply that comes next is one to a list, which has a line for each instance."""
+        lines = self.requests or self.lines_of_session
+        return self.replies < len(lines) and scripts.list_of(lines[self.replies]) is not None
 
     def findings(self):
         """Each explanation once, with the number of lines that it stands for."""
@@ -166,8 +183,10 @@ class Explainer:
     def finding(self, sort, line, number, asked, requests):
         """The explanation of a line, or None where it needs none."""
         try:
-            return of_complaint(line, self.context) if sort == "complaint" else self.of_reply(line, number, asked,
-                requests)
+            if sort == "complaint":
+                return of_complaint(line, self.context)
+            of_line = self.of_instance if sort == "instance" else self.of_reply
+            return of_line(line, number, asked, requests)
         except Exception as fault:  # a wrapper has to keep the status of the program whatever happens here
             return Finding(line, f"This can't be explained, by a fault of this tool ({type(fault).__name__}: {fault}).",
                            None,
@@ -191,7 +210,18 @@ class Explainer:
             ask = self.of_request(requests.pop(0))
         elif asked is not None:
             ask = self.of_item(asked[number], user)
-        ask = ask or replies.Asked(user)
+        return self.of_answer(line, reply, ask or replies.Asked(user))
+
+    def of_instance(self, line, number, asked, requests):
+        """The explanation of a line of a list, of whose question the names alone are known."""
+        ask = self.of_request(requests[0]) if requests else self.of_item(asked[number], None) if asked else None
+        if ask is None:
+            whole = replies.Asked()
+        else:
+            whole = replies.Asked(None, None, ask.source, ask.start + len(ask.text) - len(ask.request), ask.request)
+        return self.of_answer(line, replies.INSTANCE.match(line)[2], whole)
+
+    def of_answer(self, line, reply, ask):
         if reply == "unsafe":
             return replies.unsafe(line, ask)
         code = replies.CODE.match(reply)
@@ -210,9 +240,8 @@ class Explainer:
 
     def of_request(self, line):
         data = line.encode("utf-8", "surrogateescape")
-        source = Text("the session", data)
-        return replies.Asked(None, data[4:] if data.startswith(b"ask ") else b"" if data == b"ask" else None, source,
-                             min(4, len(data)) if data.startswith(b"ask") else 0, data)
+        start, text = scripts.asked_in(data)
+        return replies.Asked(None, text, Text("the session", data), start, data)
 
 
 def text_of(finding):

@@ -1,14 +1,18 @@
 """Replies with a number: what each means for the question that got it."""
 
+import math
 import re
 
-from . import schemas, texts
+from . import schemas, scripts, texts
 from .places import Finding, Spot, quoted
-from .sentences import Refused, nodes_of
+from .sentences import Refused, behind_parentheses, nodes_of, openings
 
 CODE = re.compile(r"error ([0-9]+)(?: ([0-9]+)(?: ([0-9]+))?)?\Z")
 # Of the lines of a list that was opened the last one stands for its reply.
-REPLY = re.compile(r"(?:yes|no|refused|undecided|protected|unsafe|welcome|bye|done [0-9]+|error [0-9]+(?: [0-9]+){0,2})\Z")
+REPLY = re.compile(r"(?:yes|no|refused|undecided|protected|unsafe|welcome|bye|done [0-9]+|"
+                   r"error [0-9]+(?: [0-9]+){0,2})\Z")
+# A line of a list: the constants of the instance, and the reply to it.
+INSTANCE = re.compile(r"((?:[A-Za-z][A-Za-z0-9_]* ){1,4})(yes|no|refused|undecided|error [0-9]+(?: [0-9]+){0,2})\Z")
 BATCH = re.compile(r"([A-Za-z][A-Za-z0-9_]*) ([0-9]+|op) (.*)\Z")
 
 CLOSED = ("Reasons: what he knows entails one of his secrets, or for lying that one of them is true; he is of method "
@@ -33,6 +37,8 @@ class Asked:
         return Spot(self.source, self.start + begin, self.start + (len(whole) if end is None else end))
 
 
+ORDINALS = ("first", "second", "third", "fourth")
+
 # The words that begin a session's lines.
 WORDS = (b"ask", b"list", b"login", b"quit")
 
@@ -40,7 +46,8 @@ WORDS = (b"ask", b"list", b"login", b"quit")
 SHAPES = {
     1: ("it doesn't begin with as many exists as are to be listed", "write each exists at the front, or list fewer"),
     2: ("their domains give more than 256 instances", "list fewer quantifiers, or ask for each constant instead"),
-    3: ("some instance would be too long or too deep to be asked", "write a shorter sentence, or ask for each constant"),
+    3: ("some instance would be too long or too deep to be asked",
+        "write a shorter sentence, or ask for each constant"),
 }
 
 
@@ -141,8 +148,40 @@ def login_fault(said, asked, context):
 
 def no_list(said, kind, place, asked, context):
     """A sentence that can't be listed so: `kind` is the number behind the code."""
-    meaning, advice = SHAPES.get(kind, ("for a reason that no format names", None))
-    return Finding(said, f"The sentence can't be listed so: {meaning}.", asked.spot(), advice)
+    meaning, advice = SHAPES.get(kind, ("for a reason that no format names",
+                                        "list a sentence that begins with exists, as list 1 exists x: person . hiv(x)"))
+    count, text = scripts.list_of(asked.request or b"") or (0, None)
+    begin, end = 0, None
+    if text is not None and text == asked.text:
+        maker = {1: too_few, 2: too_many_instances}.get(kind, too_long_instance)
+        more, begin, end = maker(count, text, openings(text), context.schema)
+        meaning += more
+    return Finding(said, f"The sentence can't be listed so: {meaning}.", asked.spot(begin, end), advice)
+
+
+def too_few(count, text, found, schema):
+    """What stands where one more `exists` is wanted, and where that is."""
+    token = behind_parentheses(text, found[-1].end if found else 0)
+    if len(found) >= count or token.sort in ("end", "bad"):
+        return "", 0, None
+    wanted = "exists" if count == 1 else f"the {ORDINALS[len(found)]} exists"
+    return f": here stands {quoted(token.text)}, where {wanted} is wanted", token.start, token.end
+
+
+def too_many_instances(count, text, found, schema):
+    """How many instances there are, and the quantifier with which they are too many."""
+    sizes = [len(schema.domains.get(one.domain, ())) for one in found[:count]] if schema is not None else []
+    product = 1
+    for one, size in zip(found, sizes):
+        product *= size
+        if product > schemas.INSTANCES:
+            return f": {' x '.join(f'{size:,}' for size in sizes)} = {math.prod(sizes):,}", one.start, one.end
+    return "", 0, None
+
+
+def too_long_instance(count, text, found, schema):
+    """Where the body begins, which is the instances' text."""
+    return "", found[count - 1].end if 0 < count <= len(found) else 0, None
 
 
 def no_line(said, kind, place, asked, context):

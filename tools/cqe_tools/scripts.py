@@ -15,6 +15,7 @@ BAD = re.compile(rb"[^\t\x20-\x7e]")
 BLANK = b" \t"
 ITEM = re.compile(rb"([A-Za-z][A-Za-z0-9_]*)[ \t]([0-9]+(?=[ \t]ask)|op(?=[ \t]protect[ \t]))[ \t](?:ask|protect)"
                   rb"(?:[ \t](.*))?\Z", re.S)
+LISTED = re.compile(rb"list[ \t]([1-4])[ \t](.*)\Z", re.S)
 DOMAIN = re.compile(rb"domain[ \t][ \t]*([A-Za-z]\w*)[ \t]*=(.*)\Z", re.S | re.A)
 RELATION = re.compile(rb"relation[ \t][ \t]*([A-Za-z]\w*)[ \t]*\((.*)\)[ \t]*\Z", re.S | re.A)
 OTHER_WORDS = {
@@ -46,7 +47,7 @@ def sort_of(text):
             return "batch"
         if word in DECLARATIONS:
             return "case"
-        talks = talks or word in (b"login", b"quit", b"ask")
+        talks = talks or word in (b"login", b"quit", b"ask", b"list")
     return "session" if talks else "case"
 
 
@@ -115,10 +116,26 @@ def asks(text, sort):
             else:
                 result.append((number, 0, "*", None))
         elif sort == "session" or word_and_rest(line)[0] == b"ask":
-            word, rest = word_and_rest(line)
-            result.append((number, 4 if rest is not None else len(line), None,
-                           (rest or b"") if word == b"ask" else None))
+            start, text = asked_in(line)
+            result.append((number, start, None, text))
     return result
+
+
+def asked_in(line):
+    """Where the text of a session's line begins, and the text; None where the line asks nothing."""
+    word, rest = word_and_rest(line)
+    listed = list_of(line)
+    if listed is not None:
+        return len(line) - len(listed[1]), listed[1]
+    if word == b"ask":
+        return (4, rest) if rest is not None else (len(line), b"")
+    return 0, None
+
+
+def list_of(line):
+    """How many quantifiers a line `list K SENTENCE` opens, and its sentence; None for any other line."""
+    match = LISTED.match(line)
+    return (int(match[1]), match[2]) if match else None
 
 
 def explain(said, kind, line, sort, text):
