@@ -198,6 +198,13 @@ class ListUnknown(UnknownLine):
     words = "this server can't list: ask for each constant instead"
 
 
+class SecretsFull(Refusal):
+    """Of an operator's line in a batch alone."""
+
+    code = 27
+    words = "the user has 16 secrets, and no more fit"
+
+
 class CannotList(Refusal):
     """The sentence can't be listed so; `shape` says why."""
 
@@ -241,8 +248,8 @@ class OtherRefusal(Refusal):
 
 _PLAIN = {
     refusal.code: refusal
-    for refusal in (TooLarge, HistoryFull, NoSuchUser, NotAdmitted, NotLoggedIn, UnknownLine, JournalFailed,
-                    JournalRefused, OutOfMemory)
+    for refusal in (TooLarge, HistoryFull, NoSuchUser, NotAdmitted, NotLoggedIn, UnknownLine, SecretsFull,
+                    JournalFailed, JournalRefused, OutOfMemory)
 }
 
 

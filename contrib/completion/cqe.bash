@@ -8,6 +8,7 @@ _cqe_options() {
         audit) echo --policy --facts --journals --user --json ;;
         selfrun) echo --seed --users --asks ;;
         serve) echo --policy --facts --journals --listen --workers --sessions ;;
+        migrate) echo --policy --facts --journals --to ;;
     esac
 }
 
@@ -41,7 +42,7 @@ _cqe_value() {
             compopt -o filenames 2> /dev/null
             mapfile -t COMPREPLY < <(compgen -f -- "$2")
             ;;
-        --journals)
+        --journals | --to)
             compopt -o filenames 2> /dev/null
             mapfile -t COMPREPLY < <(compgen -d -- "$2")
             ;;
@@ -104,7 +105,7 @@ _cqe() {
         choices="--phrase-file --history --connect-timeout --reply-timeout --tls --ca --cert --key --help"
         [[ $current == -* ]] || return
     elif ((COMP_CWORD == 1)); then
-        choices="case init batch audit selfrun serve"
+        choices="case init batch audit selfrun serve migrate"
     else
         choices=$(_cqe_options "${COMP_WORDS[1]}")
     fi

@@ -66,7 +66,7 @@ class Ward:
 
     def header(self):
         parts = [(self.root / name).read_bytes() for name in ("policy", "facts")]
-        return b"CQEJRNL1" + b"".join(hashlib.sha256(part).digest() for part in parts)
+        return b"CQEJRNL2" + b"".join(hashlib.sha256(part).digest() for part in parts)
 
     def words(self, command, *more):
         files = ["--policy", self.root / "policy", "--facts", self.root / "facts"]

@@ -41,9 +41,26 @@ class Browser:
         self.rest, self.number, self.session = b"", 0, None
         self.errors = []  # what pages complained of
         target = next(one for one in self.call("Target.getTargets")["targetInfos"] if one["type"] == "page")
-        self.session = self.call("Target.attachToTarget", targetId=target["targetId"], flatten=True)["sessionId"]
+        self.take(target["targetId"])
+
+    def take(self, target):
+        """Drives this page from now on."""
+        self.session = self.call("Target.attachToTarget", targetId=target, flatten=True)["sessionId"]
         for domain in ("Page", "Runtime", "Log"):
             self.call(f"{domain}.enable")
+
+    def further(self):
+        """Opens a further page and drives it; `turn_to` with what this answers drives the one before again."""
+        before = self.session
+        self.session = None
+        self.take(self.call("Target.createTarget", url="about:blank")["targetId"])
+        return before
+
+    def turn_to(self, session):
+        """Drives another page, and answers what tells the one before."""
+        before, self.session = self.session, session
+        self.call("Page.bringToFront")
+        return before
 
     def __enter__(self):
         return self

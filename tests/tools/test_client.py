@@ -32,6 +32,7 @@ class Lines(unittest.TestCase):
             ("error 24", cqe.NotAdmitted, cqe.Again.OPERATOR),
             ("error 25", cqe.NotLoggedIn, cqe.Again.LOGIN),
             ("error 26", cqe.UnknownLine, cqe.Again.NEVER),
+            ("error 27", cqe.SecretsFull, cqe.Again.NEVER),
             ("error 40", cqe.JournalFailed, cqe.Again.OPERATOR),
             ("error 41", cqe.JournalRefused, cqe.Again.OPERATOR),
             ("error 50", cqe.OutOfMemory, cqe.Again.LATER),
@@ -370,8 +371,9 @@ class Program(unittest.TestCase):
                 self.assertIs(nurse.ask("exists x: person . hiv(x)"), cqe.Reply.YES)
                 # A no would leave only Ann for that yes.
                 self.assertIs(nurse.ask("hiv(bob)".ljust(4092)), cqe.Reply.YES)
-                with self.assertRaises(cqe.ListUnknown):
-                    nurse.list(1, "exists x: person . hiv(x)")
+                # The same two replies again, each as a question of its own.
+                listed = [(one.names, one.reply) for one in nurse.list(1, "exists x: person . hiv(x)")]
+                self.assertEqual(listed, [(("ann",), cqe.Reply.NO), (("bob",), cqe.Reply.YES)])
             with self.session(address, "clerk") as clerk:
                 self.assertIs(clerk.ask("drug(ann)"), cqe.Reply.REFUSED)
             with self.session(address, "hasty") as hasty:
@@ -412,7 +414,7 @@ class Program(unittest.TestCase):
         text = "true".ljust(4092)
         digests = b"".join(hashlib.sha256(content.encode()).digest() for content in [POLICY, FACTS])
         record = b"\1\4" + len(text).to_bytes(2, "big") + text.encode()
-        (self.place / "journals" / "hasty.log").write_bytes(b"CQEJRNL1" + digests + record * 255 + b"\0")
+        (self.place / "journals" / "hasty.log").write_bytes(b"CQEJRNL2" + digests + record * 255 + b"\0")
         with self.server(sessions=1) as address, self.session(address, "hasty") as hasty:
             self.assertIs(hasty.ask(text), cqe.Reply.UNDECIDED)
             with self.assertRaises(cqe.HistoryFull):

@@ -89,6 +89,17 @@ class Statuses(Produced):
         ran = self.around("init", before=FILES_OF_NO_BYTES)
         self.assertExplains(ran, 11, [], "cqe: disk fault", "init", "remove")
 
+    def test_9_a_directory_to_move_to_that_is_not_there(self):
+        self.file("j/eve.log", journal(POLICY, FACTS, version=b"1"))
+        ran = self.around("migrate", "--to", self.directory / "new")
+        self.assertExplains(ran, 9, [], "cqe: shelf fault", "new", "mkdir")
+
+    def test_11_a_journal_that_cannot_be_moved(self):
+        self.file("j/eve.log", journal(POLICY, FACTS, (1, TRUE), version=b"1"))
+        (self.directory / "new").mkdir()
+        ran = self.around("migrate", "--to", self.directory / "new", before=FILES_OF_NO_BYTES)
+        self.assertExplains(ran, 11, [], "cqe: disk fault", "migrate", "another directory")
+
     def test_12_no_address(self):
         self.init()
         ran = self.around("serve", "--listen", "127.0.0.1")
@@ -121,6 +132,14 @@ class Causes(Produced):
         ran = self.around("batch", before=FILES_OF_512_BYTES, given=f"eve 1 ask {LONG}\n* restart\neve 1 ask true\n")
         self.assertExplains(ran, 10, ["eve 1 error 40", "* restarted", "eve 1 error 41"], "cqe: journal eve disk fault",
                             "failed earlier in this run")
+
+    def test_old_version_and_not_empty(self):
+        ran = self.refused(journal(POLICY, FACTS, (1, TRUE), version=b"1"))
+        self.assertExplains(ran, 10, ["eve 1 error 41"], "cqe: journal eve old version", "cqe migrate")
+        (self.directory / "new").mkdir()
+        taken = self.file("new/eve.log", "taken")
+        ran = self.around("migrate", "--to", self.directory / "new")
+        self.assertExplains(ran, 10, [], "cqe: journal eve not empty", str(taken))
 
     def test_not_admitted(self):
         policy = changed(("hiv(ann) -> hiv(bob)", "hiv(ann)"))

@@ -81,6 +81,18 @@ class Questions(InDirectory):
         finding = self.explained_once(*said, policy=POLICY, script=script, sort="batch")
         self.assertPoints(finding, 4, 16, "carl")
 
+    def test_an_operators_line(self):
+        script = "eve 1 ask true\neve op protect hiv(carl)\neve op protect hiv(ann)\neve op protect true\n"
+        said = ["eve 1 yes", "eve op error 20 3 4", "eve op protected", "eve op unsafe"]
+        sentence, unsafe = self.explained(*said, policy=POLICY, script=script, sort="batch")
+        self.assertPoints(sentence, 2, 20, "carl")
+        self.assertPoints(unsafe, 4, 16, "true")
+        self.assertSays(unsafe, "isn't added", "close him")
+
+    def test_a_user_with_sixteen_secrets(self):
+        finding = self.explained_once("eve op error 27", policy=POLICY, script="eve op protect true\n", sort="batch")
+        self.assertSays(finding, "16 secrets", "join")
+
     def test_replies_that_are_not_all_there_point_nowhere(self):
         script = HEAD + "ask true\nask hiv(carl)\n"
         finding = self.explained_once("error 20 3 4", script=script, complete=False)
@@ -93,8 +105,10 @@ class Questions(InDirectory):
 
     def test_what_sort_a_script_is_of(self):
         cases = {"domain d = a\nask true\n": "case", "# mine\n\neve 1 ask true\n": "batch",
+                 "eve op protect true\n": "batch",
                  "eve ask\n* restart\n": "batch",
-                 "login eve abc\nask true\n": "session", "ask true\n": "session", "": "case"}
+                 "login eve abc\nask true\n": "session", "ask true\n": "session", "": "case",
+                 "list 1 exists x: d . r(x)\n": "session"}
         for script, sort in cases.items():
             with self.subTest(script):
                 self.assertEqual(Context(script=str(self.file("script", script))).sort, sort)
@@ -130,8 +144,8 @@ class Questions(InDirectory):
 class Codes(InDirectory):
     CODES = {20: ["sentence"], 21: ["20,000", "60,000"], 22: ["4,096", "1,048,576"], 23: ["no such user"],
              24: ["isn't admitted", "cqe-check"],
-             25: ["logged in", "token"], 26: ["login NAME PHRASE"], 40: ["journal", "disk"], 41: ["journal", "refused"],
-             50: ["memory"]}
+             25: ["logged in", "token"], 26: ["login NAME PHRASE"], 27: ["16 secrets"], 28: ["can't be listed"],
+             40: ["journal", "disk"], 41: ["journal", "refused"], 50: ["memory"]}
 
     def test_each_code_has_a_sentence(self):
         for code, words in self.CODES.items():
@@ -175,6 +189,60 @@ class Codes(InDirectory):
         finding = self.explained_once("welcome", "error 26", script="login eve abc\nlogin eve abc\n", sort="session",
                                       policy=POLICY)
         self.assertSays(finding, "logged in already")
+
+    def test_sentences_that_cannot_be_listed(self):
+        table = [("error 28 1", "exists"), ("error 28 2", "256"), ("error 28 3", "too long")]
+        for reply, words in table:
+            with self.subTest(reply):
+                self.assertSays(self.explained_once("list 1 hiv(ann)", reply, policy=POLICY), "can't be listed", words)
+        self.assertSays(self.explained_once("list 5 hiv(ann)", "error 26", policy=POLICY), "list K SENTENCE")
+
+    def test_where_a_sentence_cannot_be_listed(self):
+        many = changed(('"ann", "bob"', '"ann", "bob", ' + ", ".join(f'"p{number}"' for number in range(20))))
+        table = [
+            ("list 1 hiv(ann)", 1, 8, "hiv", "where exists is wanted"),
+            ("list 2 exists x: person . forall y: ward . lies(x, y)", 1, 27, "forall", "the second exists"),
+            ("list 3 (exists x: person . (exists y: ward . lies(x, y)))", 1, 46, "lies", "the third exists"),
+            ("list 1 (exists x: person . hiv(x)) and hiv(ann)", 1, 8, None, "doesn't begin"),
+            ("list 2 exists x: person . exists y: person . hiv(x)", 2, 27, "exists y: person .", "22 x 22 = 484"),
+            ("list 3 exists x: ward . exists y: person . exists z: person . hiv(y)", 2, 44, "exists z: person .",
+             "1 x 22 x 22 = 484"),
+            ("list 1 exists x: person . hiv(x)", 3, 26, " hiv(x)", "too long or too deep"),
+        ]
+        for line, kind, column, piece, words in table:
+            for said in ([line, f"error 28 {kind}"], [f"error 28 {kind}"]):
+                with self.subTest(said):
+                    script = {} if len(said) == 2 else {"script": f"{line}\n", "sort": "session"}
+                    finding = self.explained_once(*said, policy=many, **script)
+                    self.assertSays(finding, "can't be listed", words)
+                    self.assertPoints(finding, 1, column, piece or line.removeprefix("list 1 "))
+
+    def test_a_list_that_is_no_sentence(self):
+        line = "list 1 exists x: persn . hiv(x)"
+        for said in ([line, "error 20 3 10"], ["error 20 3 10"]):
+            finding = self.explained_once(*said, policy=POLICY, script=f"{line}\n", sort="session")
+            self.assertPoints(finding, 1, 18, "persn")
+
+    def test_the_lines_of_a_list(self):
+        """Each line of a list is taken, and only the last one stands for its reply."""
+        script = "login eve abc\nlist 1 exists x: person . hiv(x)\nask hiv(carl)\nquit\n"
+        said = ["welcome", "ann no", "bob error 22", "done 2", "error 20 3 4", "bye"]
+        full, sentence = self.explained(*said, policy=POLICY, script=script, sort="session")
+        self.assertSays(full, "is full")
+        self.assertPoints(full, 2, 1, "list 1 exists x: person . hiv(x)")
+        self.assertPoints(sentence, 3, 9, "carl")
+        talk = ["login eve abc", "welcome", "list 1 exists x: person . hiv(x)", "ann no", "op error 24", "done 2",
+                "ask hiv(carl)", "error 20 3 4"]
+        closed, sentence = self.explained(*talk, policy=POLICY)
+        self.assertSays(closed, "isn't admitted")
+        self.assertPoints(sentence, 1, 9, "carl")
+
+    def test_what_is_like_a_line_of_a_list(self):
+        """Elsewhere it is another program's, and goes through."""
+        for context in (Context(), Context(script=str(self.file("script", "eve 1 ask true\n")))):
+            explainer = Explainer(context)
+            self.assertFalse(explainer.take("ann no"))
+            self.assertTrue(explainer.take("eve 1 no"))
 
     @program.needed
     def test_the_program_says_so(self):

@@ -31,6 +31,8 @@ WORDS = [
     (["audit", *FILES, "--user", "eve", "--json=yes"], "--json=yes", ["--json", "takes none"]),
     (["serve", *FILES, "--listen"], "--listen", ["--listen", "nothing behind it"]),
     (["serve", *FILES, "--listen", "127.0.0.1:7007", "--workers", "65"], "65", ["'65'", "--workers", "1 to 64"]),
+    (["migrate", *FILES], None, ["--to", "wanting"]),
+    (["migrate", *FILES, "--to=j"], "--to=j", ["both 'j'", "another directory"]),
     (["selfrun", "--seed", "-1", "--users", "1", "--asks", "1"], "--seed", ["--seed", "'-1'"]),
     (["selfrun", "--seed", "1", "--users", "0", "--asks", "1"], "0", ["'0'", "1 to 256"]),
     (["batch", *FILES, "--help"], "--help", ["no help"]),
@@ -38,9 +40,10 @@ WORDS = [
 ]
 
 
-def journal(policy, facts, *records):
+def journal(policy, facts, *records, version=b"2"):
     """The bytes of a journal: pairs of a kind and a text."""
-    data = b"CQEJRNL1" + hashlib.sha256(as_bytes(policy)).digest() + hashlib.sha256(as_bytes(facts)).digest()
+    digests = hashlib.sha256(as_bytes(policy)).digest() + hashlib.sha256(as_bytes(facts)).digest()
+    data = b"CQEJRNL" + version + digests
     for kind, text in records:
         data += b"\x01" + bytes([kind]) + len(text).to_bytes(2, "big") + text
     return data + b"\x00"
@@ -114,12 +117,17 @@ class Journals(InDirectory):
         # Record 0 is kind, length and text in bytes 73 to 79, behind the gate at 72; the gate of record 1 is at 80.
         cases = [
             ("not a journal", b"closed\n", ["7 bytes", "eve.log", "init"]),
+            ("not a journal", good, ["version 2", "migrate"]),
+            ("old version", journal(POLICY, FACTS, version=b"1"), ["version 1", "cqe migrate", "--to"]),
+            ("not empty", good, ["DIR2/eve.log", "--to"]),
             ("other policy", journal(POLICY, "other"), ["facts", "changed", "policy", "made for"]),
-            ("damaged 1", good[:81] + b"\x09" + good[82:], ["record 1", "byte 81", "kind 9"]),
+            ("damaged 1", good[:81] + b"\x09" + good[82:], ["record 1", "byte 81", "kind 9", "1 to 5"]),
+            ("damaged 0", journal(POLICY, FACTS, (5, b"true"), version=b"1"), ["record 0", "kind 5", "1 to 4"]),
             ("disk fault", good, ["disk", "eve.log"]),
             ("stale 1", good, ["record 1", "'carl'"]),
             ("size 0", good, ["record 0", "limit"]),
             ("unlawful 0 stored yes computed no", good, ["record 0", "'yes'", "'no'"]),
+            ("unsafe 0", good, ["record 0", "safe"]),
             ("not admitted", good, ["'eve'", "admitted"]),
         ]
         for cause, data, words in cases:
@@ -145,7 +153,8 @@ class Journals(InDirectory):
         directory.mkdir()
         good = journal(POLICY, FACTS, (1, b"true"), (2, b"hiv(carl)"))
         cases = [("not a journal", b"closed\n"), ("other policy", journal(POLICY, "other")), ("stale 1", good),
-                 ("damaged 1", good[:81] + b"\x09" + good[82:]),
+                 ("damaged 1", good[:81] + b"\x09" + good[82:]), ("unsafe 0", journal(POLICY, FACTS, (5, b"true"))),
+                 ("old version", journal(POLICY, "other", version=b"1")),
                  ("unlawful 0 stored no computed yes", journal(POLICY, FACTS, (2, b"true")))]
         for cause, data in cases:
             with self.subTest(cause):
@@ -176,6 +185,11 @@ class Surroundings(InDirectory):
     def test_a_directory_that_is_not_there(self):
         missing = str(self.directory / "journals")
         self.assertSays(self.explained_once("cqe: shelf fault", journals=missing), missing, "mkdir")
+
+    def test_a_directory_to_move_to_that_is_not_there(self):
+        missing = str(self.directory / "new")
+        finding = self.explained_once("cqe: shelf fault", journals=str(self.directory), to=missing)
+        self.assertSays(finding, missing, f"mkdir {missing}")
 
     def test_a_file_in_place_of_a_directory(self):
         self.assertSays(self.explained_once("cqe: shelf fault", journals=str(self.file("j", ""))), "no directory")

@@ -188,7 +188,7 @@ class Completion(Temporary):
         table = re.findall(r"^\| `(\w+)` \|(.*)\|$", (TOP / "docs/FORMATS.md").read_text().partition("## The words")[2]
                            .partition("## Replies")[0], re.MULTILINE)
         commands = {command: re.findall(r"--\w+", options) for command, options in table}
-        self.assertEqual(set(commands), {"case", "init", "batch", "audit", "selfrun", "serve"})
+        self.assertEqual(set(commands), {"case", "init", "batch", "audit", "selfrun", "serve", "migrate"})
         self.assertEqual(set(self.completed("cqe", "")), set(commands))
         for command, options in commands.items():
             self.assertEqual(set(self.completed("cqe", command, "")), set(options), command)
@@ -207,6 +207,7 @@ class Completion(Temporary):
         self.assertEqual(self.completed("cqe", "init", "--policy", "ward.p"), ["ward.policy"])
         self.assertEqual(self.completed("cqe", "init", "--policy", "=", "ward.p"), ["ward.policy"])
         self.assertEqual(self.completed("cqe", "init", "--journals", "ward"), ["ward journals"])
+        self.assertEqual(self.completed("cqe", "migrate", "--to", "ward"), ["ward journals"])
         self.assertEqual(self.completed("cqe", "audit", "--policy", "ward.policy", "--user", ""), ["nurse", "clerk"])
         self.assertEqual(self.completed("cqe", "audit", "--policy", "=", "ward.policy", "--user", "=", "n"), ["nurse"])
         self.assertEqual(self.completed("cqe", "serve", "--workers", ""), [])

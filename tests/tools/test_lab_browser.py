@@ -29,6 +29,10 @@ SHOWN = {
     "register": (["clerk", "hotline", "porter"], ["abroad(bob)"]),
 }
 WITH_SECRECIES = ("register",)
+# Of the pictures of a list and of an added secret: the example, the users, and what is done.
+LISTS = ("statistics", ["bank", "owner", "newspaper", "pupils"], [("list", "exists f: firm . made_loss(f)")])
+PROTECTS = ("ward", ["nurse", "clerk"], [("ask", "hiv(ann) or hiv(bob)"), ("protect", "hiv(bob)")])
+FURTHER = {"lists", "protect"}
 # The replies and the truth of the last of them, worked out by the rules of the methods.
 LAST = {
     # The head was told yes to the first: a no would tell of bob.
@@ -53,6 +57,8 @@ ROUND = """(() => {
     cards: [...round.querySelectorAll('.card')].map((card) => ({
       user: card.dataset.user, reply: card.querySelector('.word').textContent,
       tag: card.querySelector('.tag').textContent,
+      rows: [...card.querySelectorAll('.rows tbody tr')].map((row) => texts(row, 'td')),
+      late: texts(card, '.why li'),
       worlds: [...card.querySelectorAll('.world')].map((world) => ({
         secrets: texts(world, 'h4 code'), checks: texts(world, '.check'),
         facts: texts(world, '.facts td:nth-child(2) code'), there: texts(world, '.facts td.there code'),
@@ -97,9 +103,11 @@ class OnThePage(InDirectory):
         self.page.value("for (const box of document.querySelectorAll('#names input')) {"
                         f"box.checked = {json.dumps(names)}.includes(box.value); }}")
 
-    def ask(self, text):
-        """Types a question, presses Enter, and answers what the page shows of it."""
-        self.page.value("document.getElementById('question').focus(); document.getElementById('question').select()")
+    def ask(self, text, act="ask", count=1):
+        """Types a sentence, presses Enter, and answers what the page shows of it."""
+        self.page.value(f"document.querySelector('#acts input[value={act}]').click();"
+                        f"document.getElementById('count').value = {count};"
+                        "document.getElementById('question').focus(); document.getElementById('question').select()")
         self.page.type(text)
         self.page.press("Enter")
         self.ready()
@@ -126,6 +134,77 @@ class Secrecies(OnThePage):
         self.assertEqual(self.page.errors, [])
 
 
+class AddedSecrets(OnThePage):
+    def test_they_stand_beside_the_others(self):
+        self.choose(["nurse", "head"])
+        shown = self.ask("hiv(bob)", "protect")
+        self.assertEqual((shown["asked"], shown["truth"]), ("op protect hiv(bob)", "no"))
+        self.assertEqual([(card["user"], card["reply"], card["tag"]) for card in shown["cards"]],
+                         [(name, "protected", "it is a secret from now on") for name in ("nurse", "head")])
+        users = self.page.value("[...document.querySelectorAll('.user')].map((one) => one.textContent)")
+        self.assertEqual([("Nor, since the operator added ithiv(bob)" in user) for user in users], [True, False, True])
+        self.assertEqual(self.page.value("document.querySelector('.why').parentElement.innerText.split('\\n')[0]"),
+                         "Why it is safe")
+        self.assertEqual([world["secrets"] for world in shown["cards"][0]["worlds"]], [["hiv(ann)", "hiv(bob)"]])
+
+    def test_one_that_comes_too_late(self):
+        self.choose(["clerk"])
+        (card,) = self.ask("late", "protect")["cards"]
+        self.assertEqual((card["reply"], card["tag"], card["late"]),
+                         ("unsafe", "it comes too late, and isn't added", ["late"]))
+        self.assertIn("Why it comes too late", self.page.value("document.querySelector('.card').textContent"))
+        self.assertNotIn("operator added", self.page.value("document.getElementById('users').textContent"))
+        self.assertEqual(self.page.errors, [])
+
+
+class Lists(OnThePage):
+    def test_a_row_for_each_instance(self):
+        self.choose(["nurse", "clerk"])
+        shown = self.ask("exists x: person . exists y: person . drug(x) and hiv(y)", "list", 2)
+        names = [["ann", "ann"], ["ann", "bob"], ["bob", "ann"], ["bob", "bob"]]
+        for card in shown["cards"]:
+            self.assertEqual((card["reply"], card["tag"]), ("done 4", "4 instances"))
+            self.assertEqual(card["rows"], [[*row, "no", "no: the truth"] for row in names])
+        self.assertEqual(self.page.value("[...document.querySelectorAll('.rows th')].map((one) => one.textContent)"),
+                         ["x: person", "y: person", "Reply", "The truth"] * 2)
+        self.assertIn("nurse: ann ann no, ann bob no, bob ann no, bob bob no, done 4.",
+                      self.page.value("document.getElementById('heard').textContent"))
+
+    def test_where_it_is_not_opened(self):
+        shown = self.ask("exists short: person . hiv(short)", "list", 2)
+        self.assertEqual([(card["reply"], card["rows"], card["worlds"]) for card in shown["cards"]],
+                         [("error 28 1", [], [])] * 3)
+        (drawn,) = self.page.value("[...document.querySelectorAll('.round pre')].map((one) => one.textContent)")
+        self.assertEqual(drawn.splitlines()[1].index("^"), 32)
+
+    def test_garbage_is_answered(self):
+        for act in ("list", "protect"):
+            for text in (" ", "a" * 6000, "\u202e\u200b", "<img src=x onerror=document.title='run'>"):
+                self.ask(text, act)
+        self.assertEqual(self.page.value("[document.images.length, document.title]"), [0, "cqe lab"])
+        self.assertEqual(self.page.errors, [])
+
+
+class TwoPages(OnThePage):
+    def test_each_has_its_own_history(self):
+        rounds = "[...document.querySelectorAll('.asked .sentence')].map((one) => one.textContent)"
+        self.ask("true")
+        first = self.page.further()
+        self.page.look(*WIDE)
+        self.page.go(self.lab.address)
+        self.ready()
+        self.ask("hiv(ann)", "protect")
+        self.ask("hiv(bob)")
+        second = self.page.turn_to(first)
+        self.assertNotIn("operator added", self.page.value("document.getElementById('users').textContent"))
+        self.ask("false")
+        self.assertEqual(self.page.value(rounds), ["false", "true"])
+        self.page.turn_to(second)
+        self.assertEqual(self.page.value(rounds), ["hiv(bob)", "op protect hiv(ann)"])
+        self.assertIn("operator added", self.page.value("document.getElementById('users').textContent"))
+        self.assertEqual(self.page.errors, [])
+
+
 class ByTheKeyboard(OnThePage):
     def test_tab_reaches_everything_in_its_order(self):
         order = []
@@ -133,7 +212,7 @@ class ByTheKeyboard(OnThePage):
             self.page.press("Tab")
             order.append(self.page.value(FOCUSED))
             self.assertTrue(self.page.value(SEEN), order)
-            if order[-1] == "Ask":
+            if order[-1] == "act":
                 break
         self.assertEqual([order[0], order[1], order[2], order[-2]], ["To the question", "example", "Load", "question"])
         self.assertLess(order.index("Users"), order.index("question"))
@@ -153,6 +232,26 @@ class ByTheKeyboard(OnThePage):
         self.page.value("document.querySelector('#questions button').focus()")
         self.page.press("Enter")
         self.assertEqual(self.page.value("document.getElementById('question').value"), "drug(ann)")
+        self.assertEqual(self.page.value(FOCUSED), "question")
+
+    def test_what_to_do_is_chosen_by_arrows(self):
+        self.page.value("document.querySelector('#acts input:checked').focus()")
+        self.page.press("ArrowDown")
+        self.assertEqual(self.page.value("[document.getElementById('act').textContent, "
+                                         "document.getElementById('opening').hidden]"), ["List", False])
+        for wanted in ("count", "question"):
+            self.page.press("Tab")
+            self.assertEqual(self.page.value(FOCUSED), wanted)
+            self.assertTrue(self.page.value(SEEN))
+        self.page.type("exists x: person . hiv(x)")
+        self.page.press("Enter")
+        self.ready()
+        self.assertEqual([card["reply"] for card in self.page.value(ROUND)["cards"]], ["done 2"] * 3)
+        self.page.value("document.querySelector('#acts input:checked').focus()")
+        self.page.press("ArrowDown")
+        self.assertEqual(self.page.value("[document.getElementById('act').textContent, "
+                                         "document.getElementById('opening').hidden]"), ["Add", True])
+        self.page.press("Tab")
         self.assertEqual(self.page.value(FOCUSED), "question")
 
     def test_each_field_has_a_label(self):
@@ -226,6 +325,55 @@ class WithProgram(OnThePage):
                 self.keep(example)
         self.assertEqual(self.page.errors, [])
 
+    def test_files_that_are_refused(self):
+        for policy, facts, said in (("", "", "cqe: policy 2 version"), ("\u202e<img src=x>", "", "cqe: policy 1"),
+                                    (POLICY, "<img src=x onerror=document.title='run'>", "cqe: facts 1 1")):
+            self.page.value(f"document.getElementById('policy-text').value = {json.dumps(policy)};"
+                            f"document.getElementById('facts-text').value = {json.dumps(facts)};"
+                            "document.querySelector('#own button').click()")
+            self.page.wait(f"document.getElementById('trouble').textContent.includes({json.dumps(said)})")
+            self.ready()
+        self.assertEqual(self.page.value("[document.images.length, document.title]"), [0, "cqe lab"])
+        self.assertEqual(self.page.errors, [])
+
+    def show(self, example, names, acts):
+        """What the page shows of the last of some acts as these users of an example."""
+        self.load(example)
+        self.choose(names)
+        for act, text in acts:
+            shown = self.ask(text, act)
+        return shown
+
+    def test_lists(self):
+        """That a firm made a loss is a secret; the owner of cedar knows that his own made none."""
+        shown = self.show(*LISTS)
+        replies = [["refused"] * 4, ["refused", "refused", "no", "refused"], ["no"] * 4, ["no"] * 4]
+        truths = ["yes", "yes", "no", "no"]
+        tags = {"refused": ("withheld", "withheld"), "no": ("a lie", "the truth")}
+        for card, its in zip(shown["cards"], replies, strict=True):
+            self.assertEqual(card["reply"], "done 4")
+            rows = zip(["alder", "birch", "cedar", "dogwood"], its, truths)
+            self.assertEqual(card["rows"], [[firm, reply, f"{truth}: {tags[reply][truth == 'no']}"]
+                                            for firm, reply, truth in rows])
+            self.assertTrue(card["worlds"])
+            for world in card["worlds"]:
+                self.assertTrue(all(line.startswith("Checked: ") for line in world["checks"]))
+        self.fits()
+        self.keep("lists")
+        self.assertEqual(self.page.errors, [])
+
+    def test_added_secrets(self):
+        """Each was told that one of the two has hiv. Who is lied to has to be able to deny both."""
+        shown = self.show(*PROTECTS)
+        nurse, clerk = shown["cards"]
+        self.assertEqual((nurse["user"], nurse["reply"], nurse["worlds"]), ("nurse", "unsafe", []))
+        self.assertEqual(nurse["late"], ["hiv(ann)", "hiv(bob)", "he was told yes to (hiv(ann) or hiv(bob))"])
+        self.assertEqual((clerk["user"], clerk["reply"]), ("clerk", "protected"))
+        self.assertEqual([world["secrets"] for world in clerk["worlds"]], [["hiv(ann)"], ["hiv(bob)"]])
+        self.fits()
+        self.keep("protect")
+        self.assertEqual(self.page.errors, [])
+
     def assertWorlds(self, shown, example, names, questions):
         """That the page shows the other databases that the program names for the same questions."""
         trial = self.lab.opened(example=example)["trial"]
@@ -247,7 +395,7 @@ class WithProgram(OnThePage):
 
 class Pictures(InDirectory):
     def test_each_example_has_a_small_one(self):
-        self.assertEqual(sorted(path.name for path in PICTURES.iterdir()), sorted(f"{name}.png" for name in SHOWN))
+        self.assertEqual({path.stem for path in PICTURES.iterdir()} - FURTHER, set(SHOWN))
         for picture in PICTURES.iterdir():
             data = picture.read_bytes()
             self.assertEqual(data[:8], b"\x89PNG\r\n\x1a\n")

@@ -20,6 +20,7 @@ from .policies import all_secrets, secret_nodes, view_nodes
 from .sentences import nodes_of
 
 NOTHING = "false"  # the secret of a user from whom nothing is to be hidden
+MOST_TAKEN_OUT = 64  # of more sentences it isn't asked which of them could be left out
 
 
 class Unusable(Exception):
@@ -104,17 +105,19 @@ class Asker:
 
 
 class Made(NamedTuple):
-    """A made-up user."""
+    """A user as a policy that is written here has him; without a budget he has that of the policy."""
 
     name: str
     method: str
     know: list
     secrets: list
     secrecies: list = []
+    budget: int | None = None
+    token: str | None = None
 
 
 def written(declarations, users, budget=schemas.BUDGET):
-    """A policy as TOML: the same domains and relations, and these users, each with the same budget."""
+    """A policy as TOML: the same domains and relations, and these users, with this budget where they have none."""
     keeps_secrecies = any(made.secrecies for made in users)
     lines = [f"version = {2 if keeps_secrecies else 1}", "", "[domains]"]
     lines += [f"{name} = {json.dumps(constants)}" for name, constants in declarations[0]]
@@ -124,7 +127,8 @@ def written(declarations, users, budget=schemas.BUDGET):
         lines += ["", "[[users]]", f'name = "{made.name}"', f'method = "{made.method}"',
                   f"know = {json.dumps(made.know)}", f"secrets = {json.dumps(made.secrets)}"]
         lines += [f"secrecies = {json.dumps(made.secrecies)}"] if made.secrecies else []
-        lines += [f"budget = {budget}"]
+        lines += [f"budget = {budget if made.budget is None else made.budget}"]
+        lines += [f'token = "{made.token}"'] if made.token else []
     return "\n".join(lines) + "\n"
 
 
@@ -269,20 +273,43 @@ class Check:
 
     def of_several(self, know, secrets):
         """Of a liar none of whose secrets is entailed alone: the fewest that are together, by taking out one by one."""
-        kept = list(range(len(secrets)))
         found = self.entailed([(know, secrets)])[0]
         if found == "spent":
             return [f"whether what he knows entails that one of his secrets is true costs too much to test: the search "
                     f"needs more than {schemas.BUDGET:,}"]
         if found != "yes":
             return []
-        for index in range(len(secrets)):
-            fewer = [other for other in kept if other != index]
-            if fewer and self.entailed([(know, [secrets[other] for other in fewer])])[0] == "yes":
-                kept = fewer
+        kept = self.fewest_hidden(know, secrets, range(len(secrets)))
         names = ", ".join(f"secrets[{index}] {secrets[index]}" for index in kept)
         return [f"what he knows entails that one of these is true, though not which, and a liar has to be able to deny "
                 f"all of them: {names}"]
+
+
+    def fewest_hidden(self, know, hidden, numbers):
+        """The numbers of the fewest sentences one of which what is known entails to be true: those of these numbers are
+        taken out one by one, where without the one this is still so."""
+        kept = list(range(len(hidden)))
+        for number in numbers:
+            fewer = [other for other in kept if other != number]
+            if fewer and self.entailed([(know, [hidden[other] for other in fewer])])[0] == "yes":
+                kept = fewer
+        return kept
+
+    def fewest_known(self, know, hidden):
+        """The numbers of the fewest known sentences that still entail that one of the hidden is true; later ones are
+        left out first. None where there are too many to ask for each."""
+        if len(know) > MOST_TAKEN_OUT:
+            return None
+        kept = list(range(len(know)))
+        found = self.entailed([([know[other] for other in kept if other != number], hidden) for number in kept])
+        needed = [number for number in kept if found[number] != "yes"]
+        if self.entailed([([know[number] for number in needed], hidden)])[0] == "yes":
+            return needed
+        for number in reversed([number for number in kept if number not in needed]):
+            fewer = [other for other in kept if other != number]
+            if self.entailed([([know[other] for other in fewer], hidden)])[0] == "yes":
+                kept = fewer
+        return kept
 
 
 def names_of_secrets(user):

@@ -208,7 +208,7 @@ def wrap(given, command):
     values = read.values
     context = Context(given.policy or values.get("policy"), given.facts or values.get("facts"), script,
                       given.journals or values.get("journals"), given.listen or values.get("listen"), spoken,
-                      read.command if read.command in ("case", "batch") else None)
+                      read.command if read.command in ("case", "batch") else None, values.get("to"))
     explainer = Explainer(context, complete=True)
     for line in run.lines:
         explainer.take(line)

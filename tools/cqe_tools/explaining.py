@@ -23,7 +23,8 @@ STATUSES = {
     7: "Standard output couldn't be written (cqe: write fault); a beginning of the replies was.",
     8: "The policy file or the facts file isn't there (cqe: missing NAME).",
     9: "A file or the directory of the journals couldn't be opened (cqe: shelf fault).",
-    10: "A user's journal was refused (cqe: journal NAME CAUSE); batch and serve served the others.",
+    10: "A user's journal was refused (cqe: journal NAME CAUSE), or isn't empty where one would be moved to; batch and "
+    "serve served the others.",
     11: "A write or a sync of a journal failed (cqe: disk fault).",
     12: "The server couldn't listen at its address, or take in a client (cqe: links fault).",
     13: "Memory was wanting (cqe: out of memory).",
@@ -34,10 +35,12 @@ STATUS_ADVICE = "the line on standard error says more: give it to cqe-explain, w
 class Context:
     """The files and words of a run, as far as they are known."""
 
-    def __init__(self, policy=None, facts=None, script=None, journals=None, listen=None, words=None, sort=None):
+    def __init__(self, policy=None, facts=None, script=None, journals=None, listen=None, words=None, sort=None,
+                 to=None):
         self.policy_name = policy
         self.facts_name = facts
         self.journals = journals
+        self.to = to
         self.listen = listen
         self.words = words
         self.policy = PolicyFile.of_file(policy)
@@ -127,21 +130,38 @@ class Explainer:
         self.complete = complete  # whether all replies are given, from the first on
         self.said = []  # of each line that may be explained: its sort and the line
         self.replies = 0
+        self.requests = []  # the lines of a session among them
 
     def take(self, line):
         """Takes a line without its end, and answers whether it is one of the program's or of a session."""
         if line.startswith(COMPLAINT):
             self.said.append(("complaint", line))
             return True
+        if self.is_listing() and replies.INSTANCE.match(line):
+            self.said.append(("instance", line))
+            return True
         batch = replies.BATCH.match(line)
         if line == "* restarted" or replies.REPLY.match(line) or (batch and replies.REPLY.match(batch[3])):
             self.said.append(("reply", line))
             self.replies += 1
             return True
-        if re.match(r"(login|ask)( |\Z)|quit\Z", line):
+        if re.match(r"(login|ask|list)( |\Z)|quit\Z", line):
             self.said.append(("request", line))
+            self.requests.append(line.encode("utf-8", "surrogateescape"))
             return True
         return False
+
+    @cached_property
+    def lines_of_session(self):
+        """The lines of the script, where it is one of a session."""
+        if self.context.script is None or self.context.sort != "session":
+            return []
+        return [self.context.script.line(number) for number, *_ in scripts.asks(self.context.script, "session")]
+
+    def is_listing(self):
+        """Whether the reply that comes next is one to a list, which has a line for each instance."""
+        lines = self.requests or self.lines_of_session
+        return self.replies < len(lines) and scripts.list_of(lines[self.replies]) is not None
 
     def findings(self):
         """Each explanation once, with the number of lines that it stands for."""
@@ -163,8 +183,10 @@ class Explainer:
     def finding(self, sort, line, number, asked, requests):
         """The explanation of a line, or None where it needs none."""
         try:
-            return of_complaint(line, self.context) if sort == "complaint" else self.of_reply(line, number, asked,
-                requests)
+            if sort == "complaint":
+                return of_complaint(line, self.context)
+            of_line = self.of_instance if sort == "instance" else self.of_reply
+            return of_line(line, number, asked, requests)
         except Exception as fault:  # a wrapper has to keep the status of the program whatever happens here
             return Finding(line, f"This can't be explained, by a fault of this tool ({type(fault).__name__}: {fault}).",
                            None,
@@ -188,11 +210,24 @@ class Explainer:
             ask = self.of_request(requests.pop(0))
         elif asked is not None:
             ask = self.of_item(asked[number], user)
+        return self.of_answer(line, reply, ask or replies.Asked(user))
+
+    def of_instance(self, line, number, asked, requests):
+        """The explanation of a line of a list, of whose question the names alone are known."""
+        ask = self.of_request(requests[0]) if requests else self.of_item(asked[number], None) if asked else None
+        if ask is None:
+            whole = replies.Asked()
+        else:
+            whole = replies.Asked(None, None, ask.source, ask.start + len(ask.text) - len(ask.request), ask.request)
+        return self.of_answer(line, replies.INSTANCE.match(line)[2], whole)
+
+    def of_answer(self, line, reply, ask):
+        if reply == "unsafe":
+            return replies.unsafe(line, ask)
         code = replies.CODE.match(reply)
         if code is None:
             return None
-        ask = ask or replies.Asked(user)
-        kind, place = (int(code[2]), int(code[3])) if code[2] else (None, None)
+        kind, place = (int(number) if number else None for number in code.group(2, 3))
         return replies.explain(line, int(code[1]), kind, place, ask, self.context)
 
     def of_item(self, item, user):
@@ -205,9 +240,8 @@ class Explainer:
 
     def of_request(self, line):
         data = line.encode("utf-8", "surrogateescape")
-        source = Text("the session", data)
-        return replies.Asked(None, data[4:] if data.startswith(b"ask ") else b"" if data == b"ask" else None, source,
-                             min(4, len(data)) if data.startswith(b"ask") else 0, data)
+        start, text = scripts.asked_in(data)
+        return replies.Asked(None, text, Text("the session", data), start, data)
 
 
 def text_of(finding):

@@ -8,11 +8,13 @@ from . import texts
 from .places import Finding, Spot, Text, quoted
 from .sentences import refusal_of
 
-MAGIC = b"CQEJRNL1"
+MAGIC = b"CQEJRNL2"
+OLD_MAGIC = b"CQEJRNL1"
 HEADER = 73
-KINDS = {1: "yes", 2: "no", 3: "refused", 4: "undecided"}
+KINDS = {1: "yes", 2: "no", 3: "refused", 4: "undecided", 5: "protected"}
 READ = 8 * 1024 * 1024  # more than a full history takes
-CAUSE = re.compile(r"not a journal|other policy|disk fault|not admitted|(?:damaged|stale|size) (\d+)|"
+CAUSE = re.compile(r"not a journal|old version|other policy|disk fault|not admitted|not empty|"
+                   r"(?:damaged|stale|size|unsafe) (\d+)|"
                    r"unlawful (\d+) stored (\w+) computed (\w+)")
 KEEP = "Keep a copy of the journal before you change anything: what this user was told stands there alone."
 
@@ -56,12 +58,11 @@ def explain(said, name, cause, context):
     match = CAUSE.fullmatch(cause)
     if match is None:
         return Finding(said, f"The journal of user {quoted(name)} is refused for a cause that no format names.")
-    word = cause.split(" ")[0]
-    makers = {"not": not_a_journal if cause == "not a journal" else not_admitted, "other": other_policy,
-              "disk": disk_fault,
-              "damaged": damaged, "stale": stale, "size": size, "unlawful": unlawful}
+    makers = {"not a journal": not_a_journal, "not admitted": not_admitted, "not empty": not_empty,
+              "old version": old_version, "other policy": other_policy, "disk fault": disk_fault,
+              "damaged": damaged, "stale": stale, "size": size, "unlawful": unlawful, "unsafe": unsafe}
     number = int(match[1] or match[2] or 0)
-    return makers[word](said, name, journal, number, context, match)
+    return makers[cause if cause in makers else cause.split(" ")[0]](said, name, journal, number, context, match)
 
 
 def place(journal, name, context):
@@ -71,6 +72,9 @@ def place(journal, name, context):
 def not_a_journal(said, name, journal, number, context, match):
     file = place(journal, name, context)
     more = ""
+    if journal is not None and journal.data.startswith(MAGIC) and len(journal.data) >= HEADER:
+        return Finding(said, f"The journal of user {quoted(name)}, {file}, is of version 2, and migrate moves journals "
+                       "of version 1.", None, "go on with this directory: there is nothing to move")
     if journal is not None:
         more = f" It has {texts.counted(len(journal.data), 'byte')}" + (
             f" and begins with {quoted(journal.data[:8])}." if journal.data and not journal.data.startswith(MAGIC)
@@ -78,6 +82,20 @@ def not_a_journal(said, name, journal, number, context, match):
     return Finding(said, f"The journal of user {quoted(name)}, {file}, is no journal.{more}", None,
                    "if it was never made, call cqe init; if it was lost or closed on purpose, put it back from where "
                    "it was kept first: a new one forgets what the user was told")
+
+
+def old_version(said, name, journal, number, context, match):
+    return Finding(said, f"The journal of user {quoted(name)}, {place(journal, name, context)}, is of version 1, which "
+                   "an older program wrote.", None,
+                   "move all journals once to a new directory, by cqe migrate with the same files and --to, and give "
+                   "that directory from then on")
+
+
+def not_empty(said, name, journal, number, context, match):
+    file = os.path.join(context.to or "DIR2", name + ".log")
+    return Finding(said, f"The journal of user {quoted(name)} would be moved to {file}, where something stands.", None,
+                   "give --to a directory without journals: nothing is written over, and what a call that didn't end "
+                   "with 0 left in its directory isn't used")
 
 
 def other_policy(said, name, journal, number, context, match):
@@ -109,8 +127,9 @@ def damaged(said, name, journal, number, context, match):
     if found:
         start, kind, _ = found
         length = int.from_bytes(journal.data[start + 1:start + 3], "big")
-        more = (f" It begins at byte {start} and has the kind {kind} and the length {length:,}; a kind is 1 to 4, a "
-                f"length at most 4,096.")
+        most = 4 if journal.data.startswith(OLD_MAGIC) else 5
+        more = (f" It begins at byte {start} and has the kind {kind} and the length {length:,}; a kind is 1 to {most}, "
+                f"a length at most 4,096.")
     return Finding(said, f"Record {number} (from 0) in the journal of user {quoted(name)}, "
                    f"{place(journal, name, context)}, isn't whole: somebody or the disk changed the "
                    f"file.{more}", None, f"put a copy back that holds all that he was told, or keep him closed. {KEEP}")
@@ -141,7 +160,7 @@ def stale(said, name, journal, number, context, match):
 
 def size(said, name, journal, number, context, match):
     return Finding(said, f"Record {number} (from 0) in the journal of user {quoted(name)} passes a limit: the history "
-                   f"before it is full, or its question is too large.", record_spot(journal, number),
+                   f"before it is full, its sentence is too large, or it adds a 17th secret.", record_spot(journal, number),
                    f"the program never wrote it: the journal was changed, or comes from another version. {KEEP}")
 
 
@@ -152,6 +171,13 @@ def unlawful(said, name, journal, number, context, match):
                    record_spot(journal, number),
                    f"somebody changed the journal, or the user's method, knowledge or secrets are those of other "
                    f"files. {KEEP}")
+
+
+def unsafe(said, name, journal, number, context, match):
+    return Finding(said, f"Record {number} (from 0) in the journal of user {quoted(name)} adds a secret that isn't safe "
+                   f"behind the records before it.", record_spot(journal, number),
+                   f"the program never adds such a secret: the journal was changed, or the user's method, knowledge or "
+                   f"secrets are those of other files. {KEEP}")
 
 
 def not_admitted(said, name, journal, number, context, match):

@@ -10,6 +10,7 @@ from contextlib import contextmanager
 from pathlib import Path
 from tempfile import TemporaryDirectory
 
+from . import lab_sessions
 from .checking import Asker, Unusable
 from .lab_trial import Trial
 
@@ -30,14 +31,29 @@ class Programs:
 
     def run(self, words, given):
         """A run with these words, with this on standard input."""
+        with self.started(words) as child:
+            output, complaints = child.communicate(given)
+        return subprocess.CompletedProcess(words, child.returncode, output, complaints)
+
+    @contextmanager
+    def serving(self, words):
+        """A server that is stopped once it isn't used any more."""
+        with self.started(words) as child, child:
+            try:
+                yield child
+            finally:
+                child.terminate()
+
+    @contextmanager
+    def started(self, words):
+        """A process with these words; it counts as running as long as it is used."""
         with self.room:
             child = self.start(words)
             try:
-                output, complaints = child.communicate(given)
+                yield child
             finally:
                 with self.lock:
                     self.running.discard(child)
-        return subprocess.CompletedProcess(words, child.returncode, output, complaints)
 
     def start(self, words):
         with self.lock:
@@ -65,6 +81,14 @@ class LabAsker(Asker):
 
     def run(self, words, given):
         return self.programs.run(words, given)
+
+    def listed(self, policy, journals, phrase, lines):
+        """Of each pair of a user and a line what a server says to it, as lines; his phrase is this one."""
+        words = [self.path, "serve", "--policy", policy, "--facts", self.facts, "--journals", journals, "--listen",
+                 f"{lab_sessions.LOOPBACK}:0"]
+        with self.programs.serving(words) as server:
+            port = lab_sessions.port_of(server)
+            return [lab_sessions.said_to(port, name, phrase, line) for name, line in lines]
 
 
 class Lab:

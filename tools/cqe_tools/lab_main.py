@@ -14,10 +14,10 @@ from .lab_pages import Pages
 DONE, WRONG = 0, 2
 SIGNALS = (signal.SIGINT, signal.SIGTERM, signal.SIGHUP)
 
-ABOUT = """Opens a page at 127.0.0.1 on which you ask as each user of a policy, and see the reply, the truth, and why
-the reply gives no secret away. It works on copies in a temporary directory, which goes at its end, and is for trying,
-not for serving. Without files it offers the examples. Open the address that it prints in a browser; Control-C ends
-it."""
+ABOUT = """Opens a page at 127.0.0.1 on which you ask as each user of a policy, list for whom a question holds, and add
+secrets as the operator, and see the reply, the truth, and why the reply gives no secret away. It works on copies in a
+temporary directory, which goes at its end, and is for trying, not for serving. Without files it offers the examples.
+Open the address that it prints in a browser; Control-C ends it."""
 
 
 def main(arguments):

@@ -1,7 +1,8 @@
 """The page of cqe-lab over HTTP: on the loopback alone, at an address with a random token.
 
-GET /TOKEN/ is the page. POST /TOKEN/WHAT, with an object of JSON, is what the page asks for: `start`, `open`, `ask` or
-`why`. Every reply but the page is an object of JSON; where it has the key `fault`, that says what couldn't be done.
+GET /TOKEN/ is the page. POST /TOKEN/WHAT, with an object of JSON, is what the page asks for: `start`, `open`, `ask`,
+`list`, `protect` or `why`. Every reply but the page is an object of JSON; where it has the key `fault`, that says what
+couldn't be done.
 """
 
 import base64
@@ -24,6 +25,7 @@ LOOPBACK = "127.0.0.1"
 MOST_BYTES = 1 << 20  # of what the page sends
 DRAINED_BYTES = 1 << 24  # so much of what is too long is read, so that the sender hears the reply
 SECONDS = 60  # for which a client may say nothing
+MOST_OPENED = 4  # quantifiers of a list
 GIVEN = "given"  # the name of the files of the command line
 INLINE = re.compile(rb"<(script|style)>(.*?)</\1>", re.S)
 
@@ -94,7 +96,7 @@ class Handler(BaseHTTPRequestHandler):
     def do_POST(self):
         try:
             body = self.body()
-            what = {"start": start, "open": open_files, "ask": ask, "why": why}.get(self.wanted())
+            what = ANSWERS.get(self.wanted())
             if what is None:
                 raise Wrong(404, "there is nothing here")
             with self.server.lab.work():
@@ -204,16 +206,37 @@ def trial_of(server, sent):
     return trial
 
 
-def ask(server, sent):
-    """The replies to one question of some users."""
+def said_of_users(server, sent):
+    """What is sent of one line for some users: the copy, their names, and the text."""
     trial, names, text = trial_of(server, sent), member(sent, "users", list), member(sent, "text", str)
     if not names or any(name not in trial.users for name in names if isinstance(name, str)):
         raise Wrong(400, "a user of the policy is wanted")
     if not all(isinstance(name, str) for name in names) or len(set(names)) < len(names):
         raise Wrong(400, "each user is named once")
     if "\n" in text or "\r" in text:
-        raise Wrong(400, "a question stands in one line")
+        raise Wrong(400, "a sentence stands in one line")
+    return trial, names, text
+
+
+def ask(server, sent):
+    """The replies to one question of some users."""
+    trial, names, text = said_of_users(server, sent)
     return trial.ask(names, text)
+
+
+def list_instances(server, sent):
+    """The replies to each instance of one question of some users."""
+    trial, names, text = said_of_users(server, sent)
+    count = member(sent, "count", int)
+    if not 1 <= count <= MOST_OPENED:
+        raise Wrong(400, f"a list opens 1 to {MOST_OPENED} quantifiers")
+    return trial.list(names, count, text)
+
+
+def protect(server, sent):
+    """The replies to an operator who adds one secret to some users."""
+    trial, names, text = said_of_users(server, sent)
+    return trial.protect(names, text)
 
 
 def why(server, sent):
@@ -222,3 +245,6 @@ def why(server, sent):
     if name not in trial.users or not 1 <= number <= len(trial.told[name]):
         raise Wrong(400, "there is no such reply")
     return trial.why(name, number)
+
+
+ANSWERS = {"start": start, "open": open_files, "ask": ask, "list": list_instances, "protect": protect, "why": why}

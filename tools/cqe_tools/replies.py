@@ -1,14 +1,19 @@
 """Replies with a number: what each means for the question that got it."""
 
+import math
 import re
 
-from . import schemas, texts
+from . import schemas, scripts, texts
 from .places import Finding, Spot, quoted
-from .sentences import Refused, nodes_of
+from .sentences import Refused, behind_parentheses, nodes_of, openings
 
-CODE = re.compile(r"error ([0-9]+)(?: ([0-9]+) ([0-9]+))?\Z")
-REPLY = re.compile(r"(?:yes|no|refused|undecided|welcome|bye|error [0-9]+(?: [0-9]+ [0-9]+)?)\Z")
-BATCH = re.compile(r"([A-Za-z][A-Za-z0-9_]*) ([0-9]+) (.*)\Z")
+CODE = re.compile(r"error ([0-9]+)(?: ([0-9]+)(?: ([0-9]+))?)?\Z")
+# Of the lines of a list that was opened the last one stands for its reply.
+REPLY = re.compile(r"(?:yes|no|refused|undecided|protected|unsafe|welcome|bye|done [0-9]+|"
+                   r"error [0-9]+(?: [0-9]+){0,2})\Z")
+# A line of a list: the constants of the instance, and the reply to it.
+INSTANCE = re.compile(r"((?:[A-Za-z][A-Za-z0-9_]* ){1,4})(yes|no|refused|undecided|error [0-9]+(?: [0-9]+){0,2})\Z")
+BATCH = re.compile(r"([A-Za-z][A-Za-z0-9_]*) ([0-9]+|op) (.*)\Z")
 
 CLOSED = ("Reasons: what he knows entails one of his secrets, or for lying that one of them is true; he is of method "
           "lying and has a secrecy; for refusal, the facts contradict what he knows; or the test of it costs more than "
@@ -32,10 +37,24 @@ class Asked:
         return Spot(self.source, self.start + begin, self.start + (len(whole) if end is None else end))
 
 
+ORDINALS = ("first", "second", "third", "fourth")
+
+# The words that begin a session's lines.
+WORDS = (b"ask", b"list", b"login", b"quit")
+
+# Why a sentence can't be listed so, and what to do, by the number behind the code.
+SHAPES = {
+    1: ("it doesn't begin with as many exists as are to be listed", "write each exists at the front, or list fewer"),
+    2: ("their domains give more than 256 instances", "list fewer quantifiers, or ask for each constant instead"),
+    3: ("some instance would be too long or too deep to be asked",
+        "write a shorter sentence, or ask for each constant"),
+}
+
+
 def explain(said, code, kind, place, asked, context):
     """The meaning of a reply `error CODE ..`."""
     maker = {20: no_sentence, 21: too_large, 22: full, 23: no_user, 24: closed, 25: no_login, 26: no_line,
-             40: not_appended,
+             27: secrets_full, 28: no_list, 40: not_appended,
              41: sealed, 50: no_memory}.get(code)
     if maker is None:
         return Finding(said, f"The reply error {code} isn't one of the formats.")
@@ -47,7 +66,7 @@ def who(asked):
 
 
 def no_sentence(said, kind, place, asked, context):
-    if kind is None:
+    if place is None:
         return Finding(said, "The text of the question is no sentence.", asked.spot(), texts.ADVICE[2])
     if asked.text is None:
         return Finding(said, f"The text of the question is no sentence: "
@@ -127,22 +146,76 @@ def login_fault(said, asked, context):
                    advice)
 
 
+def no_list(said, kind, place, asked, context):
+    """A sentence that can't be listed so: `kind` is the number behind the code."""
+    meaning, advice = SHAPES.get(kind, ("for a reason that no format names",
+                                        "list a sentence that begins with exists, as list 1 exists x: person . hiv(x)"))
+    count, text = scripts.list_of(asked.request or b"") or (0, None)
+    begin, end = 0, None
+    if text is not None and text == asked.text:
+        maker = {1: too_few, 2: too_many_instances}.get(kind, too_long_instance)
+        more, begin, end = maker(count, text, openings(text), context.schema)
+        meaning += more
+    return Finding(said, f"The sentence can't be listed so: {meaning}.", asked.spot(begin, end), advice)
+
+
+def too_few(count, text, found, schema):
+    """What stands where one more `exists` is wanted, and where that is."""
+    token = behind_parentheses(text, found[-1].end if found else 0)
+    if len(found) >= count or token.sort in ("end", "bad"):
+        return "", 0, None
+    wanted = "exists" if count == 1 else f"the {ORDINALS[len(found)]} exists"
+    return f": here stands {quoted(token.text)}, where {wanted} is wanted", token.start, token.end
+
+
+def too_many_instances(count, text, found, schema):
+    """How many instances there are, and the quantifier with which they are too many."""
+    sizes = [len(schema.domains.get(one.domain, ())) for one in found[:count]] if schema is not None else []
+    product = 1
+    for one, size in zip(found, sizes):
+        product *= size
+        if product > schemas.INSTANCES:
+            return f": {' x '.join(f'{size:,}' for size in sizes)} = {math.prod(sizes):,}", one.start, one.end
+    return "", 0, None
+
+
+def too_long_instance(count, text, found, schema):
+    """Where the body begins, which is the instances' text."""
+    return "", found[count - 1].end if 0 < count <= len(found) else 0, None
+
+
 def no_line(said, kind, place, asked, context):
-    advice = ("a session has the lines login NAME PHRASE (once), ask SENTENCE and quit, in small letters, with one "
-              "blank, in ASCII, of at most 4,096 bytes")
+    advice = ("a session has the lines login NAME PHRASE (once), ask SENTENCE, list K SENTENCE and quit, in small "
+              "letters, with one blank, in ASCII, of at most 4,096 bytes")
     meaning = "The session doesn't know this line, or it is a second login."
     if asked.request is not None:
         word = asked.request.split(b" ")[0]
         if word == b"login":
             meaning = ("Somebody is logged in already, or the line isn't login NAME PHRASE with a phrase of 1 to 256 "
                        "bytes.")
-        elif word.lower() in (b"ask", b"login", b"quit") and word not in (b"ask", b"login", b"quit"):
+        elif word == b"list":
+            meaning = "The line isn't list K SENTENCE with one digit from 1 to 4."
+        elif word.lower() in WORDS and word not in WORDS:
             meaning = f"The session doesn't know {quoted(word)}: its words are in small letters."
         elif not asked.request.isascii():
             meaning = "The line has bytes that aren't ASCII, and a session knows ASCII alone."
         elif word:
             meaning = f"The session knows no line that begins with {quoted(word)} in this form."
     return Finding(said, meaning, asked.spot(), advice)
+
+
+def secrets_full(said, kind, place, asked, context):
+    return Finding(said, f"{who(asked)[0].upper()}{who(asked)[1:]} has 16 secrets, with those that were added, and no "
+                   f"more fit.", asked.spot(),
+                   "join sentences by or before they are added: who can't conclude the whole can't conclude a part")
+
+
+def unsafe(said, asked):
+    """The meaning of the reply `unsafe`."""
+    return Finding(said, f"The secret isn't added: what {who(asked)} knows and was told isn't safe with it, or the "
+                   f"search for that needs more than 4,000,000. Nothing changed.", asked.spot(),
+                   "take the sentence for known to him: close him, or look by an audit at what he was told; for the "
+                   "method lying all his secrets and this one together have to be safe")
 
 
 def not_appended(said, kind, place, asked, context):

@@ -13,7 +13,9 @@ DECLARATIONS = tuple(word.encode() for word in WORDS[:-1])
 SENTENCE_WORDS = (b"know", b"secret", b"secrecy")
 BAD = re.compile(rb"[^\t\x20-\x7e]")
 BLANK = b" \t"
-ITEM = re.compile(rb"([A-Za-z][A-Za-z0-9_]*)[ \t]([0-9]+)[ \t]ask(?:[ \t](.*))?\Z", re.S)
+ITEM = re.compile(rb"([A-Za-z][A-Za-z0-9_]*)[ \t]([0-9]+(?=[ \t]ask)|op(?=[ \t]protect[ \t]))[ \t](?:ask|protect)"
+                  rb"(?:[ \t](.*))?\Z", re.S)
+LISTED = re.compile(rb"list[ \t]([1-4])[ \t](.*)\Z", re.S)
 DOMAIN = re.compile(rb"domain[ \t][ \t]*([A-Za-z]\w*)[ \t]*=(.*)\Z", re.S | re.A)
 RELATION = re.compile(rb"relation[ \t][ \t]*([A-Za-z]\w*)[ \t]*\((.*)\)[ \t]*\Z", re.S | re.A)
 OTHER_WORDS = {
@@ -45,7 +47,7 @@ def sort_of(text):
             return "batch"
         if word in DECLARATIONS:
             return "case"
-        talks = talks or word in (b"login", b"quit", b"ask")
+        talks = talks or word in (b"login", b"quit", b"ask", b"list")
     return "session" if talks else "case"
 
 
@@ -114,10 +116,26 @@ def asks(text, sort):
             else:
                 result.append((number, 0, "*", None))
         elif sort == "session" or word_and_rest(line)[0] == b"ask":
-            word, rest = word_and_rest(line)
-            result.append((number, 4 if rest is not None else len(line), None,
-                           (rest or b"") if word == b"ask" else None))
+            start, text = asked_in(line)
+            result.append((number, start, None, text))
     return result
+
+
+def asked_in(line):
+    """Where the text of a session's line begins, and the text; None where the line asks nothing."""
+    word, rest = word_and_rest(line)
+    listed = list_of(line)
+    if listed is not None:
+        return len(line) - len(listed[1]), listed[1]
+    if word == b"ask":
+        return (4, rest) if rest is not None else (len(line), b"")
+    return 0, None
+
+
+def list_of(line):
+    """How many quantifiers a line `list K SENTENCE` opens, and its sentence; None for any other line."""
+    match = LISTED.match(line)
+    return (int(match[1]), match[2]) if match else None
 
 
 def explain(said, kind, line, sort, text):
@@ -231,7 +249,8 @@ def name_of(rest):
 
 def batch_shape(data):
     """Why a line has no shape of a script of a batch."""
-    form = "write NAME SESSION ask SENTENCE with one blank between, as nurse 1 ask hiv(ann), or * restart"
+    form = ("write NAME SESSION ask SENTENCE with one blank between, as nurse 1 ask hiv(ann), or NAME op protect "
+            "SENTENCE, or * restart")
     words = re.split(rb"[ \t]", data)
     if data.startswith(b"*") or data.lower().strip() == b"restart":
         return (f"is {quoted(data)}, and a restart is '* restart'", 0, len(data),
@@ -243,14 +262,20 @@ def batch_shape(data):
         why = f"begins with {quoted(words[0])}, which is no user's name" + (f": {fault}" if fault else "")
         return why, 0, max(len(words[0]), 1), form
     begin = len(words[0]) + 1
-    session = words[1] if len(words) > 1 else b""
-    if not re.match(rb"[1-9][0-9]?\Z", session) or int(session) > 64:
-        return (f"has {quoted(session)} where a session's number is wanted", min(begin, len(data)),
-                begin + len(session),
-                "write a number from 1 to 64 without leading zeros, with one blank before and behind it")
-    begin += len(session) + 1
+    caller = words[1] if len(words) > 1 else b""
+    adds = caller == b"op"
+    if not adds and (not re.match(rb"[1-9][0-9]?\Z", caller) or int(caller) > 64):
+        return (f"has {quoted(caller)} where a session's number is wanted", min(begin, len(data)),
+                begin + len(caller),
+                "write a number from 1 to 64 without leading zeros, with one blank before and behind it; or op where "
+                "a secret is to be added")
+    begin += len(caller) + 1
     found = words[2] if len(words) > 2 else b""
-    return f"has {quoted(found)} where 'ask' is wanted", min(begin, len(data)), begin + len(found), form
+    if adds and found == b"protect":
+        return ("has nothing behind 'protect'", begin, begin + len(found),
+                "write one blank and the sentence, as nurse op protect hiv(ann)")
+    return (f"has {quoted(found)} where '{'protect' if adds else 'ask'}' is wanted", min(begin, len(data)),
+            begin + len(found), form)
 
 
 def declaration(data):

@@ -248,6 +248,37 @@ class Reader:
         self.sign(")", "')' behind the last column")
 
 
+@dataclass(frozen=True)
+class Opening:
+    """One of the quantifiers `exists` at the beginning of a text."""
+
+    variable: str
+    domain: str
+    start: int
+    end: int  # behind its dot
+
+
+def behind_parentheses(text, start):
+    """The next token from here on that is no opening parenthesis."""
+    token = token_at(text, start)
+    while token.text == "(":
+        token = token_at(text, token.end)
+    return token
+
+
+def openings(text):
+    """The quantifiers `exists` at the beginning of a text, behind any parentheses, as far as they have their form."""
+    result, at = [], 0
+    while True:
+        parts = [behind_parentheses(text, at)]
+        while len(parts) < 5:
+            parts.append(token_at(text, parts[-1].end))
+        if [parts[0].text, parts[2].text, parts[4].text] != ["exists", ":", "."]:
+            return result
+        at = parts[4].end
+        result.append(Opening(parts[1].text, parts[3].text, parts[0].start, at))
+
+
 def nodes_of(schema, text):
     """The nodes of a sentence; Refused where the text is none."""
     return Reader(schema, text).whole()

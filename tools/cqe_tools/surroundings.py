@@ -47,7 +47,7 @@ def listed(directory):
 def shelf(said, context):
     """The meaning of `cqe: shelf fault`."""
     found = [fault for fault in (file_fault("policy", context.policy_name), file_fault("facts", context.facts_name),
-                                 directory_fault(context.journals)) if fault]
+                                 *directory_faults(context)) if fault]
     found += journal_faults(context) if not found else []
     meaning = "A file couldn't be opened: the policy, the facts, or a journal in the directory of the journals."
     if found:
@@ -69,13 +69,23 @@ def file_fault(what, name):
     return None
 
 
-def directory_fault(name):
+def directory_faults(context):
+    """What is wrong with each directory of journals, and what to do."""
+    if context.to is None:
+        return [directory_fault(context.journals, "journals", f"mkdir {context.journals}, then cqe init with the same "
+                                "files")]
+    return [directory_fault(context.journals, "journals", "name the directory of the old journals behind --journals"),
+            directory_fault(context.to, "to", f"mkdir {context.to}")]
+
+
+def directory_fault(name, option, missing):
+    """What is wrong with the directory behind an option, and what to do, also where it is missing."""
     if name is None:
         return None
     if not os.path.lexists(name):
-        return f"The directory {quoted(name)} isn't there.", f"mkdir {name}, then cqe init with the same files"
+        return f"The directory {quoted(name)} isn't there.", missing
     if not os.path.isdir(name):
-        return f"{quoted(name)} is no directory.", "name the directory of the journals behind --journals"
+        return f"{quoted(name)} is no directory.", f"name the directory of the journals behind --{option}"
     if not os.access(name, os.R_OK | os.W_OK | os.X_OK):
         return (f"In the directory {quoted(name)} this account may not read and write.",
                 f"chmod u+rwx {name}, or start as the account that owns it")
@@ -208,8 +218,10 @@ def disk_fault(said, context):
               "program, because after a failed sync it may show bytes that never reached the disk")
     if context.words and context.words[0] == "init":
         advice += "; remove the journal that init couldn't make, which has no record, and call init again"
+    if context.words and context.words[0] == "migrate":
+        advice += "; call migrate again with another directory behind --to, and leave that of this call alone"
     return Finding(said, "A write or a sync of a journal failed: in batch and serve its user got error 40 from then "
-                   "on, and init stopped there.", None, advice)
+                   "on, and init and migrate stopped there.", None, advice)
 
 
 def memory(said, context):

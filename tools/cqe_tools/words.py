@@ -18,6 +18,7 @@ COMMANDS = {
     "audit": ({**FILES, "user": None}, {"json": None}),
     "selfrun": ({"seed": (0, 4_294_967_295), "users": (1, 256), "asks": (1, 10_000)}, {}),
     "serve": ({**FILES, "listen": None}, {"workers": WORKERS, "sessions": (1, 1_000_000)}),
+    "migrate": ({**FILES, "to": None}, {}),
 }
 
 
@@ -96,6 +97,9 @@ class Words:
         elif bounds and not (re.fullmatch(r"[0-9]{1,10}", value) and bounds[0] <= int(value) <= bounds[1]):
             self.note(at, f"the value {quoted(value)} of --{name} isn't {NUMBER} from {bounds[0]:,} to {bounds[1]:,}",
                       "write such a number, without signs and separators")
+        elif name in ("journals", "to") and self.values.get("journals") == self.values.get("to"):
+            self.note(at, f"--journals and --to are both {quoted(value)}",
+                      "name another directory behind --to, one without journals")
 
     def unknown(self, word, name):
         if word in ("-h", "--help", "help"):

@@ -6,11 +6,11 @@ use Rattle.cqe_base.specs.Facts.{FactSet}
 use Rattle.cqe_base.specs.History.{UserProfile, History}
 use Rattle.log_journal.specs.Opening.{header_bytes}
 use Rattle.log_journal.specs.declared.header.Header.{Header}
-use Rattle.log_journal.specs.declared.header.OpenError.TheVariants.{NotAJournal, OtherPolicy, Damaged, DiskFault, Memory}
+use Rattle.log_journal.specs.declared.header.OpenError.TheVariants.{NotAJournal, OtherPolicy, Damaged, DiskFault, Memory, OldVersion}
 use Rattle.user_desk.specs.Causes.{Opens, OpensOrNot, OpensUnrefused, IsSealedBy, IsStanding}
 use Rattle.user_desk.specs.Standings.{is_sealed}
 use Rattle.user_desk.specs.declared.standing.DeskError.{DeskError}
-use Rattle.user_desk.specs.declared.standing.DeskError.TheVariants.{Journal, Stale, Unlawful, Size, NotAdmitted}
+use Rattle.user_desk.specs.declared.standing.DeskError.TheVariants.{Journal, Stale, Unlawful, Size, NotAdmitted, Unsafe}
 use Rattle.user_desk.specs.declared.standing.Standing.{Standing}
 use Rattle.user_desk.specs.declared.standing.Standing.TheVariants.{Open, Closed, Sealed}
 use Rattle.audit_text.specs.Said.{AuditSaid}
@@ -29,12 +29,14 @@ module _ (schema : DatabaseSchema) (world : FactSet) (header : Header) (name : T
   rose entries (Journal OtherPolicy) refused opens = absurd (unrefused schema world user header bytes entries (Journal OtherPolicy) opens (refused tt))
   rose entries (Journal (Damaged number)) refused opens =
       absurd (unrefused schema world user header bytes entries (Journal (Damaged number)) opens (refused tt))
+  rose entries (Journal OldVersion) refused opens = absurd (unrefused schema world user header bytes entries (Journal OldVersion) opens (refused tt))
   rose entries (Journal DiskFault) refused opens = refused
   rose entries (Journal Memory) refused opens = absurd refused
   rose entries (Stale number) refused opens = absurd (unrefused schema world user header bytes entries (Stale number) opens (refused tt))
   rose entries (Unlawful number stored computed) refused opens =
       absurd (unrefused schema world user header bytes entries (Unlawful number stored computed) opens (refused tt))
   rose entries (Size number) refused opens = absurd (unrefused schema world user header bytes entries (Size number) opens (refused tt))
+  rose entries (Unsafe number) refused opens = absurd (unrefused schema world user header bytes entries (Unsafe number) opens (refused tt))
   rose entries (NotAdmitted admission) refused opens = absurd (unrefused schema world user header bytes entries (NotAdmitted admission) opens (refused tt))
 
   -- where clauses are told of the bytes
@@ -43,11 +45,13 @@ module _ (schema : DatabaseSchema) (world : FactSet) (header : Header) (name : T
   sealed_by told is (Journal NotAJournal) refused = λ _. refused is
   sealed_by told is (Journal OtherPolicy) refused = λ _. refused is
   sealed_by told is (Journal (Damaged number)) refused = λ _. refused is
+  sealed_by told is (Journal OldVersion) refused = λ _. refused is
   sealed_by told is (Journal DiskFault) refused = refused
   sealed_by told is (Journal Memory) refused = absurd refused
   sealed_by told is (Stale number) refused = λ _. refused is
   sealed_by told is (Unlawful number stored computed) refused = λ _. refused is
   sealed_by told is (Size number) refused = λ _. refused is
+  sealed_by told is (Unsafe number) refused = λ _. refused is
   sealed_by told is (NotAdmitted admission) refused = λ _. refused is
 
   -- the audit of a journal that is refused doesn't tell its entries

@@ -6,7 +6,7 @@ use Rattle.cqe_base.specs.declared.user.Method.{Method}
 use Rattle.cqe_base.specs.declared.user.Method.TheVariants.{Lying, Refusal, Combined}
 use Rattle.cqe_base.specs.Schema.{DatabaseSchema, Text}
 use Rattle.cqe_base.specs.Facts.{FactSet, IsWorldOf}
-use Rattle.cqe_base.specs.History.{UserProfile, History}
+use Rattle.cqe_base.specs.History.{UserProfile, History, user_at}
 use Rattle.cqe_base.specs.Censor.{IsLegal, admitted}
 use Rattle.cqe_base.specs.OtherWorlds.{IsLegalSomewhere}
 use Rattle.censors.specs.declared.Admission.{Admission}
@@ -49,17 +49,17 @@ of_served schema name user standing entries said is serves =
     subst (λ s. Audits schema name user s entries said) (sym is)
     (record { worlds = serves.worlds; listings = serves.listings; listed = λ _. serves.listed; others = λ _. serves.others; whole = serves.whole })
 
--- a user who is served
-pub serves : (schema : DatabaseSchema) (name : Text) (user : UserProfile) (entries entries' : History) (worlds : ℕ → Option FactSet) (n : ℕ) (said : AuditSaid)
-    (secrets : List (Text × Option (List Text))) → entries' ≡ entries → n ≡ length user.secrets
-    → AreOthers schema user entries' worlds → ListsAll schema user worlds n secrets → said.secrecies ≡ if_any user (secrecies_in user.pairs secrets)
+-- a user who is served, with the secrets that he has now
+pub serves : (schema : DatabaseSchema) (name : Text) (user current : UserProfile) (entries entries' : History) (worlds : ℕ → Option FactSet) (n : ℕ)
+    (said : AuditSaid) (secrets : List (Text × Option (List Text))) → entries' ≡ entries → current ≡ user_at user entries' → n ≡ length current.secrets
+    → AreOthers schema user entries' worlds → ListsAll schema current worlds n secrets → said.secrecies ≡ if_any user (secrecies_in user.pairs secrets)
     → said.secrets ≡ drop (2 * user.pairs) secrets
     → said.name ≡ name → said.method ≡ method_word user.method → said.standing ≡ codes "open" → said.entries ≡ map (entry_said schema) entries'
     → AuditsServed schema name user entries said
-serves schema name user entries entries' worlds n said secrets same size others all pairs rest named by stands told = record {
+serves schema name user current entries entries' worlds n said secrets same is size others all pairs rest named by stands told = record {
   worlds = worlds;
   listings = all.listings;
-  listed = λ k low. all.listed k (subst (λ m. k < m) (sym size) low);
+  listed = λ k low. all.listed k (subst (λ m. k < m) (sym (size ∙ ap (λ (u : UserProfile). length u.secrets) now)) low);
   others = subst (λ e. AreOthers schema user e worlds) same others;
   whole = λ i. record {
     name = named i;
@@ -71,8 +71,12 @@ serves schema name user entries entries' worlds n said secrets same size others 
   };
 }
   where
-    whole : secrets ≡ secrets_said schema user all.listings
-    whole = all.whole ∙ ap (λ m. map (secret_said schema user all.listings) (range_with_len 0 m)) size
+    now : current ≡ user_at user entries
+    now = is ∙ ap (user_at user) same
+
+    whole : secrets ≡ secrets_said schema (user_at user entries) all.listings
+    whole =
+        all.whole ∙ ap (λ m. map (secret_said schema current all.listings) (range_with_len 0 m)) size ∙ ap (λ u. secrets_said schema u all.listings) now
 
 pub enough : (method : Method) (n k : ℕ) → k < n → place_at method k < worlds_for method n
 enough Lying n k low = omega (arith, low)

@@ -3,7 +3,7 @@ use Rattle.std.specs.Prelude.{◌≡◌, ◌<◌, ℕ, true, List, length, Optio
 use Rattle.cqe_base.specs.declared.world.Fact.{Fact}
 use Rattle.cqe_base.specs.Schema.{DatabaseSchema, Text}
 use Rattle.cqe_base.specs.Facts.{FactSet}
-use Rattle.cqe_base.specs.History.{UserProfile, History}
+use Rattle.cqe_base.specs.History.{UserProfile, History, user_at}
 use Rattle.user_desk.specs.Standings.{is_open}
 use Rattle.user_desk.specs.declared.standing.Standing.{Standing}
 use Rattle.audit_print.specs.Others.{AreOthers}
@@ -16,7 +16,8 @@ pub record AuditsServed (schema : DatabaseSchema) (name : Text) (user : UserProf
     (entries : History) (said : AuditSaid) : Type 0 where
   pub worlds : ℕ → Option FactSet
   pub listings : ℕ → Option (List Fact)
-  pub listed : (k : ℕ) → k < length user.secrets → IsListing (listings k) (worlds k)
+  pub listed : (k : ℕ) → k < length (user_at user entries).secrets
+      → IsListing (listings k) (worlds k)
   pub others : AreOthers schema user entries worlds
   pub whole : said ≡ served_said schema name user entries listings
 
@@ -26,7 +27,7 @@ pub record Audits (schema : DatabaseSchema) (name : Text) (user : UserProfile) (
     (entries : History) (said : AuditSaid) : Type 0 where
   pub worlds : ℕ → Option FactSet
   pub listings : ℕ → Option (List Fact)
-  pub listed : is_open standing ≡ true → (k : ℕ) → k < length user.secrets
-      → IsListing (listings k) (worlds k)
+  pub listed : is_open standing ≡ true → (k : ℕ)
+      → k < length (user_at user entries).secrets → IsListing (listings k) (worlds k)
   pub others : is_open standing ≡ true → AreOthers schema user entries worlds
   pub whole : said ≡ audit_said schema name user standing entries listings

@@ -5,7 +5,7 @@ use Rattle.cqe_base.specs.Schema.{DatabaseSchema}
 use Rattle.cqe_base.specs.Facts.{FactSet}
 use Rattle.cqe_base.specs.Truth.{true_in}
 use Rattle.cqe_base.specs.Outcome.{Spent, outcome}
-use Rattle.cqe_base.specs.History.{UserProfile, History, log}
+use Rattle.cqe_base.specs.History.{UserProfile, History, log, user_at}
 use Rattle.cqe_base.specs.Censor.{admission_budget}
 use Rattle.cqe_base.specs.OtherWorlds.{guard_at}
 use Rattle.cqe_base.specs.Secrecies.{secrecy_at}
@@ -17,14 +17,16 @@ pub record IsOther (schema : DatabaseSchema) (user : UserProfile) (entries : His
     (other : Option FactSet) : Type 0 where
   pub hides : IfSome other (HidesSecret schema user entries secret)
   pub spent : IsNone other
-      ↔ (outcome schema (log user entries) (guard_at user secret, true) admission_budget ≡ Spent)
+      ↔ (outcome schema (log user entries) (guard_at (user_at user entries) secret, true)
+      admission_budget ≡ Spent)
 
--- each secret has its other world; a liar has one world for all secrets; and each secrecy is true
--- in the other world of its negation
+-- each secret of the user at the end of his history has its other world; a liar has one world for
+-- all secrets; and each secrecy is true in the other world of its negation
 pub record AreOthers (schema : DatabaseSchema) (user : UserProfile) (entries : History)
     (worlds : ℕ → Option FactSet) : Type 0 where
-  pub each : (secret : ℕ) → secret < length user.secrets
+  pub each : (secret : ℕ) → secret < length (user_at user entries).secrets
       → IsOther schema user entries secret (worlds secret)
   pub one : user.method ≡ Lying → (j k : ℕ) → worlds j ≡ worlds k
   pub secrecy_true : (k : ℕ) → k < user.pairs
-      → IfSome (worlds (2 * k + 1)) (λ other. true_in schema other (secrecy_at user k) ≡ true)
+      → IfSome (worlds (2 * k + 1))
+      (λ other. true_in schema other (secrecy_at (user_at user entries) k) ≡ true)

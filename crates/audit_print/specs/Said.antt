@@ -15,6 +15,7 @@ use Rattle.cqe_base.specs.Facts.{FactSet, fact_cmp}
 use Rattle.cqe_base.specs.Formula.{Formula, atom}
 use Rattle.cqe_base.specs.Canonical.{canonical}
 use Rattle.cqe_base.specs.History.{UserProfile, AnsweredQuery, History, secret_at}
+use Rattle.cqe_base.specs.History.{user_at}
 use Rattle.audit_text.specs.Said.{SecrecySaid, AuditSaid}
 use Rattle.user_desk.specs.declared.standing.Standing.{Standing}
 use Rattle.user_desk.specs.declared.standing.Standing.TheVariants.{Open, Closed, Sealed}
@@ -52,7 +53,7 @@ IsListing _ _ = ⊥
 abbrev pub world_said : DatabaseSchema → List Fact → List Text
 world_said schema facts = map (fact_text schema) facts
 
--- an entry: its mark, and the text of its query
+-- an item: its mark, and the text of its sentence
 abbrev pub entry_said : DatabaseSchema → AnsweredQuery → Mark × Text
 entry_said schema entry = (entry.mark, canonical schema entry.query)
 
@@ -86,7 +87,7 @@ secrecies_in (suc pairs) _ = []
 abbrev pub if_any : UserProfile → List SecrecySaid → Option (List SecrecySaid)
 if_any user said = if user.pairs == 0 then None else Some said
 
--- what is said of a user who is served
+-- what is said of a user who is served: his secrets are those at the end of his history
 abbrev pub served_said : DatabaseSchema → Text → UserProfile → History → (ℕ → Option (List Fact))
     → AuditSaid
 served_said schema name user entries listings = record {
@@ -94,8 +95,9 @@ served_said schema name user entries listings = record {
   method = method_word user.method;
   standing = codes "open";
   entries = map (entry_said schema) entries;
-  secrecies = if_any user (secrecies_in user.pairs (secrets_said schema user listings));
-  secrets = drop (2 * user.pairs) (secrets_said schema user listings);
+  secrecies = if_any user
+      (secrecies_in user.pairs (secrets_said schema (user_at user entries) listings));
+  secrets = drop (2 * user.pairs) (secrets_said schema (user_at user entries) listings);
 }
 
 -- of one who isn't, with the word of his standing

@@ -10,7 +10,6 @@ ghost use Rattle.cqe_base.specs.Schema.{columns_of};
 ghost use Rattle.cqe_base.specs.Facts.{is_fact_of, IsWorldOf};
 ghost use Rattle.cqe_base.specs.Formula.{formula_of, is_sentence_of};
 ghost use Rattle.cqe_base.specs.History.{profile_of, answered_query_of, secret_at};
-ghost use Rattle.cqe_base.specs.Limits.{KeepsLimits, KeepsSizes};
 ghost use Rattle.user_desk.specs.Desks.{desk_schema, desk_user, desk_standing, desk_history};
 ghost use Rattle.user_desk.specs.Standings.{is_open};
 ghost use Rattle.audit_print.specs.Said.{method_word, atom_of, constants_in, fact_text, world_said};
@@ -21,6 +20,7 @@ ghost use Rattle.audit_text.specs.Rows.{entry_in, secrecy_in, secret_in, said_in
 
 use crate::others::{other_worlds, place_of};
 use audit_text::{EntryRow, Report, SecrecyRow, SecretRow};
+use cqe_base::laws::{law_amended_limits, law_pairs};
 use cqe_base::schema::Schema;
 use cqe_base::sentence::{Constant, Sentence, Term, Terms};
 use cqe_base::user::{Entry, Method, User};
@@ -63,10 +63,14 @@ fn served<'u, D: Disk>(
         AuditsServed schema.now (string_bytes user.now.name) (profile_of user.now)
         (desk_history desk.now) (said_in report)) }
 {
+    law_amended_limits();
+    law_pairs();
     desk.known();
-    let worlds = other_worlds(alloc, schema, user, desk.entries())?;
-    let entries = entry_rows(alloc, schema, desk.entries())?;
-    let mut secrets = secret_rows(alloc, schema, user, &worlds)?;
+    let items = desk.entries();
+    let current = user.after(alloc, items)?;
+    let worlds = other_worlds(alloc, schema, user, &current, items)?;
+    let entries = entry_rows(alloc, schema, items)?;
+    let mut secrets = secret_rows(alloc, schema, &current, &worlds)?;
     let secrecies = secrecy_rows(alloc, &mut secrets, user.pairs)?;
     Ok(Report {
         name: user.name.as_str(),
@@ -129,7 +133,7 @@ fn secret_rows(
     user: &User,
     worlds: &[Option<World>],
 ) -> Result<Vec<SecretRow>, AllocError>
-    requires limits { KeepsLimits schema.now (profile_of user.now) }
+    requires sentences { list_all (is_sentence_of schema.now) (profile_of user.now).secrets ≡ true }
     requires enough { (k : ℕ) → k < vec_len user.now.secrets
         → place_at user.now.method k < length worlds.now }
     requires of_schema { (k : ℕ) → k < vec_len user.now.secrets
@@ -185,7 +189,7 @@ fn secret_row(
     worlds: &[Option<World>],
     number: usize,
 ) -> Result<SecretRow, AllocError>
-    requires limits { KeepsLimits schema.now (profile_of user.now) }
+    requires sentences { list_all (is_sentence_of schema.now) (profile_of user.now).secrets ≡ true }
     requires number { number < vec_len user.now.secrets }
     requires enough { place_at user.now.method number < length worlds.now }
     requires of_schema { IfSome (found_at user.now.method worlds.now number)

@@ -6,20 +6,32 @@ use Rattle.serde_json.specs.Data.{Data, Members, null, string, array, object, me
 use Rattle.serde_json.specs.View.{items_of}
 use Rattle.serde_json.specs.Written.{compact_text}
 use Rattle.cqe_base.specs.declared.user.Mark.{Mark}
+use Rattle.cqe_base.specs.declared.user.Mark.TheVariants.{Yes, No, Refused, Undecided, Protected}
 use Rattle.cqe_base.specs.Schema.{Text}
-use Rattle.cqe_base.specs.Transcript.{mark_text}
 use Rattle.audit_text.specs.Said.{SecrecySaid, AuditSaid}
-use Rattle.audit_text.specs.Text.{text_lines}
+use Rattle.audit_text.specs.Text.{item_word, text_lines}
 
 -- an array of these values
 abbrev pub list_of : List Data → Data
 list_of values = array (items_of values)
 
--- an entry: its mark and its query
+-- an item that was asked: its mark and its query
+abbrev pub asked_data : Mark → Text → Data
+asked_data mark query =
+    object (member (codes "mark") (string (item_word mark))
+    (member (codes "query") (string query) no_members))
+
+-- an item with this mark and this sentence; of one that was added the sentence alone
+abbrev pub item_data : Mark → Text → Data
+item_data Yes query = asked_data Yes query
+item_data No query = asked_data No query
+item_data Refused query = asked_data Refused query
+item_data Undecided query = asked_data Undecided query
+item_data Protected sentence = object (member (codes "protect") (string sentence) no_members)
+
+-- an item
 abbrev pub entry_data : Mark × Text → Data
-entry_data entry =
-    object (member (codes "mark") (string (mark_text entry.0))
-    (member (codes "query") (string entry.1) no_members))
+entry_data entry = item_data entry.0 entry.1
 
 -- the facts of a world, and null where there is no world
 abbrev pub world_data : Option (List Text) → Data

@@ -10,7 +10,7 @@ pub record SecrecySaid : Type 0 where
   pub where_true : Option (List Text)
   pub where_false : Option (List Text)
 
--- his name, the words of his method and standing, his entries by mark and query, his secrecies, if
+-- his name, the words of his method and standing, his items by mark and sentence, his secrecies, if
 -- he has any, and each other secret with the facts of its other world, if there is one; of a user
 -- who isn't served there is nothing in any of the lists
 pub record AuditSaid : Type 0 where

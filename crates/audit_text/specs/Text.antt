@@ -3,6 +3,7 @@ use Rattle.std.specs.Prelude.{ℕ, ◌+◌, List, [], ◌∷◌, ◌++◌, map, 
 use Rattle.std.specs.Prelude.{unwrap_or}
 use Rattle.std.specs.List.{flat_map}
 use Rattle.cqe_base.specs.declared.user.Mark.{Mark}
+use Rattle.cqe_base.specs.declared.user.Mark.TheVariants.{Yes, No, Refused, Undecided, Protected}
 use Rattle.cqe_base.specs.Schema.{Text}
 use Rattle.cqe_base.specs.Transcript.{mark_text}
 use Rattle.audit_text.specs.Said.{SecrecySaid, AuditSaid}
@@ -13,10 +14,18 @@ user_line said =
     codes "user " ++ said.name ++ codes " " ++ said.method ++ codes " " ++ said.standing
     ++ codes "\n"
 
--- the line of an entry with its number
+-- the word of an item: its mark, or that its sentence was added to the secrets
+abbrev pub item_word : Mark → Text
+item_word Yes = mark_text Yes
+item_word No = mark_text No
+item_word Refused = mark_text Refused
+item_word Undecided = mark_text Undecided
+item_word Protected = codes "protect"
+
+-- the line of an item with its number
 abbrev pub entry_line : ℕ → Mark × Text → Text
 entry_line n entry =
-    decimal n ++ codes " " ++ mark_text entry.0 ++ codes " " ++ entry.1 ++ codes "\n"
+    decimal n ++ codes " " ++ item_word entry.0 ++ codes " " ++ entry.1 ++ codes "\n"
 
 -- the lines of entries, numbered on from this number
 abbrev pub entry_lines : ℕ → List (Mark × Text) → List Text

@@ -5,11 +5,12 @@ ghost use Rattle.serde_json.specs.Data.{string};
 ghost use Rattle.serde_json.specs.View.{view};
 ghost use Rattle.serde_json.specs.Written.{compact_text, has_float};
 ghost use Rattle.audit_text.specs.Json.{list_of, entry_data, secrecy_data, secret_data, world_data};
-ghost use Rattle.audit_text.specs.Json.{audit_data};
+ghost use Rattle.audit_text.specs.Json.{audit_data, asked_data};
 ghost use Rattle.audit_text.specs.Rows.{entry_in, secrecy_in, secret_in, world_in, said_in};
 
-use crate::lines::mark_word;
+use crate::lines::item_word;
 use crate::report::{EntryRow, Report, SecrecyRow, SecretRow};
+use cqe_base::user::Mark;
 use serde_json::{Value, json};
 use std::alloc::{AllocError, Global};
 
@@ -83,7 +84,17 @@ fn entries_value(alloc: Global, rows: &[EntryRow]) -> Result<Value, AllocError>
 fn entry_value(alloc: Global, row: &EntryRow) -> Result<Value, AllocError>
     ensures { IfOk result (λ value. view value ≡ entry_data (entry_in row.now)) }
 {
-    json!(in alloc; {"mark": mark_word(row.mark), "query": row.query.as_str()})
+    match row.mark {
+        Mark::Yes | Mark::No | Mark::Refused | Mark::Undecided => asked_value(alloc, row),
+        Mark::Protected => json!(in alloc; {"protect": row.query.as_str()}),
+    }
+}
+
+fn asked_value(alloc: Global, row: &EntryRow) -> Result<Value, AllocError>
+    ensures { IfOk result (λ value. view value
+        ≡ asked_data row.now.mark (string_bytes row.now.query)) }
+{
+    json!(in alloc; {"mark": item_word(row.mark), "query": row.query.as_str()})
 }
 
 fn secrecies_value(alloc: Global, rows: &[SecrecyRow]) -> Result<Value, AllocError>

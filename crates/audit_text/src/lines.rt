@@ -2,10 +2,9 @@
 ghost use Rattle.std.specs.Prelude.{◌≡◌, ◌++◌, [], map, string_bytes, Some, IfOk, OnOk};
 ghost use Rattle.std.specs.Prelude.{option_map, unwrap_or};
 ghost use Rattle.std.specs.List.{flat_map};
-ghost use Rattle.cqe_base.specs.Transcript.{mark_text};
 ghost use Rattle.audit_text.specs.Text.{user_line, entry_line, entry_lines, secret_line};
 ghost use Rattle.audit_text.specs.Text.{secrecy_line, secrecy_lines, world_text, more_facts};
-ghost use Rattle.audit_text.specs.Text.{text_lines};
+ghost use Rattle.audit_text.specs.Text.{text_lines, item_word};
 ghost use Rattle.audit_text.specs.Rows.{entry_in, secrecy_in, secret_in, world_in, said_in};
 
 use crate::report::{EntryRow, Report, SecrecyRow, SecretRow};
@@ -101,7 +100,7 @@ fn entry_line(alloc: Global, number: u64, entry: &EntryRow) -> Result<String, Al
 {
     let mut line = format!(in alloc; "{number}")?;
     line.push_str(" ")?;
-    line.push_str(mark_word(entry.mark))?;
+    line.push_str(item_word(entry.mark))?;
     line.push_str(" ")?;
     line.push_str(&entry.query)?;
     line.push_str("\n")?;
@@ -176,14 +175,15 @@ fn push_more(text: &mut String, facts: &[String]) -> Result<(), AllocError>
     Ok(())
 }
 
-/// The word of a mark.
-pub(crate) fn mark_word(mark: Mark) -> &'static str
-    ensures { result.now ≡ mark_text mark }
+/// The word of an item with this mark.
+pub(crate) fn item_word(mark: Mark) -> &'static str
+    ensures { result.now ≡ item_word mark }
 {
     match mark {
         Mark::Yes => "yes",
         Mark::No => "no",
         Mark::Refused => "refused",
         Mark::Undecided => "undecided",
+        Mark::Protected => "protect",
     }
 }

@@ -11,14 +11,14 @@ use Rattle.cqe_base.specs.Schema.{Text, DatabaseSchema}
 use Rattle.cqe_base.specs.Facts.{FactSet}
 use Rattle.cqe_base.specs.History.{UserProfile, AnsweredQuery, History}
 use Rattle.cqe_base.specs.Run
-use Rattle.cqe_base.specs.Run.{want, kept, failed, Event, ask, stop, restart, UserState, opening, entry_at, after_event, after_events}
+use Rattle.cqe_base.specs.Run.{want, kept, failed, Event, call, stop, restart, UserState, opening, entry_at, after_event, after_events}
 use Rattle.user_desk.specs.Causes.{Opens, OpensWithin}
 use Rattle.user_desk.specs.Lives.{Holds, HoldsFrom, HoldsAmid, IsState}
 use Rattle.user_desk.specs.Standings.{is_sealed}
 use Rattle.user_desk.specs.declared.standing.Standing.{Standing}
 use Rattle.user_desk.specs.declared.standing.Standing.TheVariants.{Open, Closed, Sealed}
 use Rattle.std.proofs.lemmas.List.Folds.{list_any-append}
-use Rattle.batch_engine.specs.Lives.{is_ask, is_opened, is_opening, IsStretchEnd}
+use Rattle.batch_engine.specs.Lives.{is_call, is_opened, is_opening, IsStretchEnd}
 use Rattle.batch_engine.proofs.Courses.{any-push}
 
 -- The clock of the disks: since its own moment a disk has no image but those it has now; and the moment at which the call began, of the journal of each name.
@@ -97,10 +97,10 @@ module _ (schema : DatabaseSchema) (world : FactSet) (user : UserProfile) where
   nothing_flown state (Some entry) = sym (append-nil state.entries)
 
   adds_one : (state : UserState) (event : Event) → AddsOne state event
-  adds_one state (ask text want) = record { added = None; are = sym (append-nil state.entries) }
-  adds_one state (ask text kept) = record { added = entry_at schema world user state text; are = refl }
-  adds_one state (ask text failed) = record { added = None; are = nothing_flown state (entry_at schema world user state text) }
-  adds_one state (stop text) = record { added = None; are = nothing_flown state (entry_at schema world user state text) }
+  adds_one state (call purpose text want) = record { added = None; are = sym (append-nil state.entries) }
+  adds_one state (call purpose text kept) = record { added = entry_at schema world user state purpose text; are = refl }
+  adds_one state (call purpose text failed) = record { added = None; are = nothing_flown state (entry_at schema world user state purpose text) }
+  adds_one state (stop purpose text) = record { added = None; are = nothing_flown state (entry_at schema world user state purpose text) }
   adds_one state (restart true true) = record { added = state.pending; are = refl }
   adds_one state (restart false true) = record { added = None; are = sym (append-nil state.entries) }
   adds_one state (restart found false) = record { added = None; are = sym (append-nil state.entries) }
@@ -374,7 +374,7 @@ module _ (schema : DatabaseSchema) (world : FactSet) (user : UserProfile) where
         pub passed : opens_at ≤ now
         pub before : (c : List ℕ) → since first c → first_image c ⊎ since opens_at c
         pub behind : list_any is_opened events ≡ true → (c : List ℕ) → since opens_at c → Amid events c
-        pub kept : (list_any is_opened events && list_any is_ask events) ≡ false → (c : List ℕ) → since opens_at c → first_image c
+        pub kept : (list_any is_opened events && list_any is_call events) ≡ false → (c : List ℕ) → since opens_at c → first_image c
         pub closed : AreClosed opens_at events now since
 
       -- the same where a stretch ends now
@@ -384,10 +384,10 @@ module _ (schema : DatabaseSchema) (world : FactSet) (user : UserProfile) where
 
       -- where no opening held or he didn't ask behind an event, it was so before it
       idle_before : (events : List Event) (event : Event)
-          → (list_any is_opened (events ++ event ∷ []) && list_any is_ask (events ++ event ∷ [])) ≡ false
-          → (list_any is_opened events && list_any is_ask events) ≡ false
-      idle_before events event idle = by (list_any is_opened events) (is_opened event) (list_any is_ask events) (is_ask event)
-          ((λ i. sym (any-push is_opened events event) i && sym (any-push is_ask events event) i) ∙ idle)
+          → (list_any is_opened (events ++ event ∷ []) && list_any is_call (events ++ event ∷ [])) ≡ false
+          → (list_any is_opened events && list_any is_call events) ≡ false
+      idle_before events event idle = by (list_any is_opened events) (is_opened event) (list_any is_call events) (is_call event)
+          ((λ i. sym (any-push is_opened events event) i && sym (any-push is_call events event) i) ∙ idle)
         where
           by : (o p a x : Bool) → ((o || p) && (a || x)) ≡ false → (o && a) ≡ false
           by false p a x is = refl
@@ -449,7 +449,7 @@ module _ (schema : DatabaseSchema) (world : FactSet) (user : UserProfile) where
           → (list_any is_opened events ≡ true → (c : List ℕ) → since' now c → Amid events c)
           → ((front rest : List Event) → events ≡ front ++ rest → BeginsLife rest → list_any is_opened front ≡ true → (c : List ℕ) → since' now c
           → Behind front rest c)
-          → ((list_any is_opened events && list_any is_ask events) ≡ false → (c : List ℕ) → since' now c → first_image c)
+          → ((list_any is_opened events && list_any is_call events) ≡ false → (c : List ℕ) → since' now c → first_image c)
           → IsAlong opens_at events now since → IsAlong opens_at events later since'
       along_on opens_at events now later since since' time amid behind new along =
           let passed = along.passed in
@@ -482,7 +482,7 @@ module _ (schema : DatabaseSchema) (world : FactSet) (user : UserProfile) where
       -- time goes on behind a stretch that ended, and at its moments a crash leaves all events; unless an opening held and he asked, nothing new
       pub along_still : (opens_at : ℕ) (events : List Event) (now later : ℕ) (since since' : ℕ → List ℕ → Type 0) → Elapses now later since since'
           → (list_any is_opened events ≡ true → (c : List ℕ) → since' now c → AllHeld events c)
-          → ((list_any is_opened events && list_any is_ask events) ≡ false → (c : List ℕ) → since' now c → first_image c)
+          → ((list_any is_opened events && list_any is_call events) ≡ false → (c : List ℕ) → since' now c → first_image c)
           → IsAlongClosed opens_at events now since → IsAlongClosed opens_at events later since'
       along_still opens_at events now later since since' time held new at = record {
         along = along_on opens_at events now later since since' time
@@ -498,9 +498,9 @@ module _ (schema : DatabaseSchema) (world : FactSet) (user : UserProfile) where
           (image : List ℕ → Type 0)
           → Elapses now later since since' → ((c : List ℕ) → since' now c → image c)
           → (list_any is_opened events ≡ true → (c : List ℕ) → image c → AllHeld events c)
-          → ((list_any is_opened events && list_any is_ask events) ≡ false → (c : List ℕ) → image c → first_image c)
+          → ((list_any is_opened events && list_any is_call events) ≡ false → (c : List ℕ) → image c → first_image c)
           → (opens ≡ true → (c : List ℕ) → since' later c → Amid (events ++ restart found opens ∷ []) c)
-          → ((list_any is_opened (events ++ restart found opens ∷ []) && list_any is_ask (events ++ restart found opens ∷ [])) ≡ false → (c : List ℕ)
+          → ((list_any is_opened (events ++ restart found opens ∷ []) && list_any is_call (events ++ restart found opens ∷ [])) ≡ false → (c : List ℕ)
           → since' later c → first_image c)
           → IsAlongClosed opens_at events now since
           → (opens_at' : ℕ) × IsAlong opens_at' (events ++ restart found opens ∷ []) later since'
@@ -535,7 +535,7 @@ module _ (schema : DatabaseSchema) (world : FactSet) (user : UserProfile) where
                 record {
                   begun = omega (arith, begun, passed);
                   passed = omega arith;
-                  before = λ c there. ⊎_elim (λ early. inl early) (λ late. inl (on.along.kept (ap (λ b. b && list_any is_ask events) none_yet) c late))
+                  before = λ c there. ⊎_elim (λ early. inl early) (λ late. inl (on.along.kept (ap (λ b. b && list_any is_call events) none_yet) c late))
                       (on.along.before c there);
                   behind = λ is. here held;
                   kept = still;

@@ -8,12 +8,13 @@ use Rattle.outside.specs.Shelf.{bytes_on, image_on, since_on}
 use Rattle.outside.specs.declared.disk.Disk.{Ghosts as DiskGhosts}
 use Rattle.cqe_base.specs.Schema.{Text, DatabaseSchema, is_valid_schema, has_duplicate}
 use Rattle.cqe_base.specs.Facts.{FactSet}
-use Rattle.cqe_base.specs.History.{profile_of}
+use Rattle.cqe_base.specs.History.{profile_of, is_history_of}
 use Rattle.cqe_base.specs.Limits.{KeepsLimits}
 use Rattle.cqe_base.specs.Censor.{EmptyHistoryIsLegal, IsLegal}
 use Rattle.cqe_base.specs.Headline.{RunsStayLegal, ScriptsHide}
 use Rattle.cqe_base.specs.Transcript.{NamedUser, ScriptEvent, own_events, state_after, transcript, TranscriptIsPrivate}
 use Rattle.cqe_base.specs.declared.user.User.{User}
+use Rattle.cqe_base.proofs.Limits.{sizes_are_of_schema}
 use Rattle.cqe_base.proofs.Lists.{text_is}
 use Rattle.cqe_base.proofs.Truths.{or_first, or_second}
 use Rattle.user_desk.specs.Causes.{Opens}
@@ -21,7 +22,7 @@ use Rattle.user_desk.specs.Entries.{IsNoLonger}
 use Rattle.log_journal.specs.Names.{journal_name}
 use Rattle.batch_engine.specs.BatchLines.{BatchItem}
 use Rattle.desk_crew.specs.Openings.{OpensNone, OpensWith}
-use Rattle.batch_engine.specs.Lives.{RoseBy, is_opened, is_ask, failures, IsStretchEnd}
+use Rattle.batch_engine.specs.Lives.{RoseBy, is_opened, is_call, failures, IsStretchEnd}
 use Rattle.batch_engine.specs.Batch.{StandsAmid, StandsBehind, ServesUser, AnswersBatch, AreRefusals, AppendsAll, AppendsSome, IsStretch}
 use Rattle.batch_engine.specs.Batch.{line_bytes, unopened, with_opening}
 use Rattle.desk_crew.specs.Crew.{named_user, seat_standing, seat_state, IsLeft}
@@ -95,6 +96,13 @@ legal_opening : (schema : DatabaseSchema) (world : FactSet) (header c : List ℕ
     → OpensWith schema world user.profile header c user.opened → IsLegal schema world user.profile user.opened
 legal_opening schema world header c user empty (inl opens) = opens.legal
 legal_opening schema world header c user empty (inr (none, is)) = subst (IsLegal schema world user.profile) (sym is) (empty schema world user.profile)
+
+-- the opening history is of the schema
+sentences_opening : (schema : DatabaseSchema) (world : FactSet) (header c : List ℕ) (user : NamedUser)
+    → OpensWith schema world user.profile header c user.opened
+    → is_history_of schema user.opened ≡ true
+sentences_opening schema world header c user (inl opens) = sizes_are_of_schema schema user.profile user.opened opens.sizes
+sentences_opening schema world header c user (inr (none, is)) = ap (is_history_of schema) is
 
 -- what each crash could leave of a user's journal at each moment, and since the end of each stretch
 record Moments (schema : DatabaseSchema) (world : FactSet) (header : List ℕ) (journals : Journals) (user : NamedUser) (events : List Event) : Type 0 where
@@ -230,7 +238,7 @@ module _ (schema : DatabaseSchema) (world : FactSet) (users : List NamedUser) (h
                     ⊎ since_on Disk.image_since o at.opens_at c) (sym at.held) along.before,
               )) at.began_is;
           behind = λ some c here. along.behind some c (subst (λ o. since_on Disk.image_since o at.opens_at c) at.held here);
-          never = λ none c here. along.kept (ap (λ b. b && list_any is_ask (own_events user.name script)) none) c
+          never = λ none c here. along.kept (ap (λ b. b && list_any is_call (own_events user.name script)) none) c
               (subst (λ o. since_on Disk.image_since o at.opens_at c) at.held here);
         };
         closings = λ front rest split ends some. closed_at user script seat at front rest (closed_by user script seat at front rest split ends some);
@@ -238,7 +246,7 @@ module _ (schema : DatabaseSchema) (world : FactSet) (users : List NamedUser) (h
 
   -- unless an opening held and he asked, no moment of the call left anything new
   kept_along : (user : NamedUser) (script : List ScriptEvent) (seat : DeskSeat D g h) (at : Back user script seat)
-      → (list_any is_opened (own_events user.name script) && list_any is_ask (own_events user.name script)) ≡ false
+      → (list_any is_opened (own_events user.name script) && list_any is_call (own_events user.name script)) ≡ false
       → IfSome (option_map Disk.moment (disk (journal_name directory user.name))) (λ begun. (c : List ℕ)
       → since_on Disk.image_since (disk' (journal_name directory user.name)) begun c → image_on Disk.image (disk (journal_name directory user.name)) c)
   kept_along user script seat at idle =
@@ -264,7 +272,8 @@ module _ (schema : DatabaseSchema) (world : FactSet) (users : List NamedUser) (h
           opening_is = opening_is;
           private = alone schema world users user script found;
           legal = runs schema world user.profile user.opened (own_events user.name script) legal;
-          hides = λ admits. hide schema world users user script found valid limits.sentences admits legal;
+          hides = λ admits. hide schema world users user script found valid limits.sentences
+              (sentences_opening schema world header (bytes_of Disk.reads directory disk user.name) user opening_is) admits legal;
           caused = at.course.caused;
           refused = λ none. refused_at at none at.course.fits;
           counted = λ opens. counted_at at opens at.course.fits;

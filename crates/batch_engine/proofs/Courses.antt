@@ -7,6 +7,7 @@ use Rattle.std.proofs.lemmas.Bool.{and_left, or_left, or_right}
 use Rattle.std.proofs.lemmas.List.Sums.{sum_by-append}
 use Rattle.outside.specs.Faults.{Rose}
 use Rattle.outside.proofs.Rises.{rose_wide}
+use Rattle.cqe_base.specs.declared.user.Purpose.{Purpose}
 use Rattle.cqe_base.specs.Schema.{DatabaseSchema, Text}
 use Rattle.cqe_base.specs.Facts.{FactSet}
 use Rattle.cqe_base.specs.Formula.{Formula}
@@ -14,7 +15,7 @@ use Rattle.cqe_base.specs.Reading.{Refusal, reading}
 use Rattle.cqe_base.specs.History.{UserProfile, AnsweredQuery, History}
 use Rattle.cqe_base.specs.Censor.{admitted}
 use Rattle.cqe_base.specs.Run
-use Rattle.cqe_base.specs.Run.{Reply, Ending, want, kept, failed, Event, ask, stop, restart, UserState, opening, after_event, after_events, reply_to_ask}
+use Rattle.cqe_base.specs.Run.{Reply, Ending, want, kept, failed, Event, call, stop, restart, UserState, opening, after_event, after_events, reply_to_call}
 use Rattle.cqe_base.specs.Run.{entry_at}
 use Rattle.cqe_base.specs.Run.{standing_sealed}
 use Rattle.cqe_base.proofs.Runs.{after_events-push}
@@ -24,15 +25,15 @@ use Rattle.log_journal.specs.declared.header.OpenError.TheVariants as journal_er
 use Rattle.user_desk.specs.Causes.{Opens, IsSealedBy, IsStanding, Refuses}
 use Rattle.user_desk.specs.Entries.{bytes_needed, IsNoLonger}
 use Rattle.user_desk.specs.Lives.{Holds, Restarts, IsState, shown}
-use Rattle.desk_counter.specs.Lives.{IsAskOf}
+use Rattle.desk_counter.specs.Lives.{IsCallOf}
 use Rattle.user_desk.specs.Standings.{is_sealed, standing_of}
 use Rattle.user_desk.specs.declared.standing.DeskError.{DeskError}
-use Rattle.user_desk.specs.declared.standing.DeskError.TheVariants.{Journal, Stale, Unlawful, Size, NotAdmitted}
+use Rattle.user_desk.specs.declared.standing.DeskError.TheVariants.{Journal, Stale, Unlawful, Size, NotAdmitted, Unsafe}
 use Rattle.user_desk.specs.declared.standing.Standing.{Standing}
 use Rattle.user_desk.specs.declared.standing.Standing.TheVariants.{Open, Closed, Sealed}
 use Rattle.desk_crew.specs.Crew.{first_refusal}
 use Rattle.desk_crew.specs.Openings.{OpensNone}
-use Rattle.batch_engine.specs.Lives.{RoseBy, is_ask, is_opened, is_failed_append, is_refused, failures_in, failures, IsCaused, AreCaused, IsFirstRefusal}
+use Rattle.batch_engine.specs.Lives.{RoseBy, is_call, is_opened, is_failed_append, is_refused, failures_in, failures, IsCaused, AreCaused, IsFirstRefusal}
 
 -- ---- counts and lists
 
@@ -73,10 +74,10 @@ module _ (schema : DatabaseSchema) (world : FactSet) (user : UserProfile) where
       (or_second (is_failed_append event) (list_any is_failed_append events) none)
     where
       one : (e : Event) → is_failed_append e ≡ false → (after_event schema world user state e).broken ≡ false
-      one (ask text want) unfailed = whole
-      one (ask text kept) unfailed = whole
-      one (ask text failed) unfailed = absurd cc
-      one (stop text) unfailed = absurd cc
+      one (call purpose text want) unfailed = whole
+      one (call purpose text kept) unfailed = whole
+      one (call purpose text failed) unfailed = absurd cc
+      one (stop purpose text) unfailed = absurd cc
       one (restart found true) unfailed = refl
       one (restart found false) unfailed = whole
 
@@ -90,10 +91,10 @@ module _ (schema : DatabaseSchema) (world : FactSet) (user : UserProfile) where
       flown (Some entry) = is
 
       by : (e : Event) → IsNoLonger before (after_event schema world user state e).entries reads
-      by (ask text want) = is
-      by (ask text kept) = no_longer_more before state.entries (option_to_list (entry_at schema world user state text)) reads is
-      by (ask text failed) = flown (entry_at schema world user state text)
-      by (stop text) = flown (entry_at schema world user state text)
+      by (call purpose text want) = is
+      by (call purpose text kept) = no_longer_more before state.entries (option_to_list (entry_at schema world user state purpose text)) reads is
+      by (call purpose text failed) = flown (entry_at schema world user state purpose text)
+      by (stop purpose text) = flown (entry_at schema world user state purpose text)
       by (restart true true) = no_longer_more before state.entries (option_to_list state.pending) reads is
       by (restart false true) = is
       by (restart found false) = is
@@ -104,47 +105,51 @@ module _ (schema : DatabaseSchema) (world : FactSet) (user : UserProfile) where
   caused-push state [] event all last = (last, tt)
   caused-push state (e ∷ events) event all last = (all.0, caused-push (after_event schema world user state e) events event all.1 last)
 
-  -- ---- one ask
+  -- ---- one call
 
-  -- an ask with an ending that has its cause
-  record Once (is_now : UserState → Type 0) (state : UserState) (text : Text) (told : Reply) : Type 0 where
+  -- a call with an ending that has its cause
+  record Once (is_now : UserState → Type 0) (state : UserState) (purpose : Purpose) (text : Text) (told : Reply) : Type 0 where
     ending : Ending
-    caused : IsCaused schema world user state (ask text ending)
-    after : is_now (after_event schema world user state (ask text ending))
-    reply : told ≡ reply_to_ask schema world user state text ending
+    caused : IsCaused schema world user state (call purpose text ending)
+    after : is_now (after_event schema world user state (call purpose text ending))
+    reply : told ≡ reply_to_call schema world user state purpose text ending
 
-  once : (is_now : UserState → Type 0) (state : UserState) (text : Text) (told : Reply) → IsAskOf schema world user is_now state text told
-      → Once is_now state text told
-  once is_now state text told asked = by asked.ending asked.after asked.reply
+  once : (is_now : UserState → Type 0) (state : UserState) (purpose : Purpose) (text : Text) (told : Reply)
+      → IsCallOf schema world user is_now state purpose text told
+      → Once is_now state purpose text told
+  once is_now state purpose text told asked = by asked.ending asked.after asked.reply
     where
       unadded : (entry : Option AnsweredQuery) → entry ≡ None → record state { entries = state.entries ++ option_to_list entry } ≡ state
       unadded entry none =
           ap (λ e. record state { entries = state.entries ++ option_to_list e }) none ∙ ap (λ es. record state { entries = es }) (append-nil state.entries)
 
-      by_entry : (entry : Option AnsweredQuery) → entry_at schema world user state text ≡ entry → is_now (after_event schema world user state (ask text failed))
-          → told ≡ reply_to_ask schema world user state text failed → Once is_now state text told
+      by_entry : (entry : Option AnsweredQuery) → entry_at schema world user state purpose text ≡ entry
+          → is_now (after_event schema world user state (call purpose text failed))
+          → told ≡ reply_to_call schema world user state purpose text failed → Once is_now state purpose text told
       by_entry (Some entry) is after reply = record { ending = failed; caused = ap is_some is; after = after; reply = reply }
       by_entry None is after reply = record {
         ending = kept;
         caused = tt;
-        after = subst is_now (ap (λ e. Run.after_failure schema world user state e) is ∙ sym (unadded (entry_at schema world user state text) is)) after;
-        reply = reply ∙ ap (λ e. Run.reply_at_failure schema world user (Run.reply_at schema world user state text) e) is;
+        after = subst is_now (ap (λ e. Run.after_failure schema world user state e) is
+            ∙ sym (unadded (entry_at schema world user state purpose text) is)) after;
+        reply = reply ∙ ap (λ e. Run.reply_at_failure schema world user (Run.reply_at schema world user state purpose text) e) is;
       }
 
-      by : (ending : Ending) → is_now (after_event schema world user state (ask text ending)) → told ≡ reply_to_ask schema world user state text ending
-          → Once is_now state text told
+      by : (ending : Ending) → is_now (after_event schema world user state (call purpose text ending))
+          → told ≡ reply_to_call schema world user state purpose text ending
+          → Once is_now state purpose text told
       by want after reply = record { ending = want; caused = tt; after = after; reply = reply }
       by kept after reply = record { ending = kept; caused = tt; after = after; reply = reply }
-      by failed after reply = by_entry (entry_at schema world user state text) refl after reply
+      by failed after reply = by_entry (entry_at schema world user state purpose text) refl after reply
 
   -- a state in which an append failed adds nothing
-  broken_adds : (state : UserState) (text : Text) → state.broken ≡ true → entry_at schema world user state text ≡ None
-  broken_adds state text broken =
-      ap (λ b. Run.entry_added text (reading schema text) (Run.reply schema world user state.entries state.standing b text)) broken ∙
+  broken_adds : (state : UserState) (purpose : Purpose) (text : Text) → state.broken ≡ true → entry_at schema world user state purpose text ≡ None
+  broken_adds state purpose text broken =
+      ap (λ b. Run.entry_added text (reading schema text) (Run.reply schema world user state.entries state.standing b purpose text)) broken ∙
       by state.standing (reading schema text)
     where
       by : (standing : Run.Standing) (read : Result Formula Refusal)
-          → Run.entry_added text read (Run.reply_by schema world user state.entries standing true text read) ≡ None
+          → Run.entry_added text read (Run.reply_by schema world user state.entries standing true purpose text read) ≡ None
       by Run.standing_open (Ok query) = refl
       by Run.standing_open (Err why) = refl
       by Run.standing_closed (Ok query) = refl
@@ -184,7 +189,7 @@ module _ (schema : DatabaseSchema) (world : FactSet) (user : UserProfile) where
           → Holds schema world user header (after_events schema world user (opening schema world user opened) events) c
       pub size : list_any is_failed_append events ≡ false
           → IsNoLonger bytes (after_events schema world user (opening schema world user opened) events).entries reads
-      pub kept : (list_any is_opened events && list_any is_ask events) ≡ false → IsStill image reads
+      pub kept : (list_any is_opened events && list_any is_call events) ≡ false → IsStill image reads
 
     -- the same at a disk that an opening left
     pub stays_on : (opened : History) (events : List Event) (image image' : List ℕ → Type 0) (reads reads' : List ℕ) → reads' ≡ reads
@@ -214,9 +219,11 @@ module _ (schema : DatabaseSchema) (world : FactSet) (user : UserProfile) where
     sealed_on now later on (Journal journal_error.NotAJournal) is = is
     sealed_on now later on (Journal journal_error.OtherPolicy) is = is
     sealed_on now later on (Journal (journal_error.Damaged number)) is = is
+    sealed_on now later on (Journal journal_error.OldVersion) is = is
     sealed_on now later on (Stale number) is = is
     sealed_on now later on (Unlawful number stored computed) is = is
     sealed_on now later on (Size number) is = is
+    sealed_on now later on (Unsafe number) is = is
     sealed_on now later on (NotAdmitted admission) is = is
 
     refused_later : (now later : ℕ) → now ≤ later → (events : List Event) (refusal : Option DeskError)
@@ -256,21 +263,23 @@ module _ (schema : DatabaseSchema) (world : FactSet) (user : UserProfile) where
     -- ---- an ask
 
     -- a state whose journal was refused adds nothing
-    pub adds_none : (state : UserState) (text : Text) → state.standing ≡ standing_sealed → entry_at schema world user state text ≡ None
-    adds_none state text sealed =
-        ap (λ s. Run.entry_added text (reading schema text) (Run.reply schema world user state.entries s state.broken text)) sealed ∙ by (reading schema text)
+    pub adds_none : (state : UserState) (purpose : Purpose) (text : Text) → state.standing ≡ standing_sealed
+        → entry_at schema world user state purpose text ≡ None
+    adds_none state purpose text sealed =
+        ap (λ s. Run.entry_added text (reading schema text) (Run.reply schema world user state.entries s state.broken purpose text)) sealed
+        ∙ by (reading schema text)
       where
         by : (read : Result Formula Refusal) → Run.entry_added text read Run.desk_sealed ≡ None
         by (Ok query) = refl
         by (Err why) = refl
 
-    sealed_still : (state : UserState) (text : Text) (ending : Ending) → state.standing ≡ standing_sealed
-        → after_event schema world user state (ask text ending) ≡ state
-    sealed_still state text want sealed = refl
-    sealed_still state text kept sealed =
-        ap (λ e. record state { entries = state.entries ++ option_to_list e }) (adds_none state text sealed)
+    sealed_still : (state : UserState) (purpose : Purpose) (text : Text) (ending : Ending) → state.standing ≡ standing_sealed
+        → after_event schema world user state (call purpose text ending) ≡ state
+    sealed_still state purpose text want sealed = refl
+    sealed_still state purpose text kept sealed =
+        ap (λ e. record state { entries = state.entries ++ option_to_list e }) (adds_none state purpose text sealed)
         ∙ ap (λ es. record state { entries = es }) (append-nil state.entries)
-    sealed_still state text failed sealed = ap (λ e. Run.after_failure schema world user state e) (adds_none state text sealed)
+    sealed_still state purpose text failed sealed = ap (λ e. Run.after_failure schema world user state e) (adds_none state purpose text sealed)
 
     -- the state of a desk that isn't sealed is the one that it shows
     shown_is : (standing : Standing) (desk_state state : UserState) → is_sealed standing ≡ false → IsState standing desk_state state → state ≡ desk_state
@@ -284,8 +293,8 @@ module _ (schema : DatabaseSchema) (world : FactSet) (user : UserProfile) where
     sealed_is (Closed admission) desk_state state sealed is = absurd cc
     sealed_is (Sealed why) desk_state state sealed is = is
 
-    none_refused : (text : Text) (ending : Ending) → is_refused (ask text ending) ≡ false
-    none_refused text ending = refl
+    none_refused : (purpose : Purpose) (text : Text) (ending : Ending) → is_refused (call purpose text ending) ≡ false
+    none_refused purpose text ending = refl
 
     -- The count of his disk at its desk's opening rose for each failure; or for all but the last, an append that failed since.
     pub data RoseBut (events : List Event) (standing : Standing) (state : UserState) (now : ℕ) : Type 0 where
@@ -316,7 +325,7 @@ module _ (schema : DatabaseSchema) (world : FactSet) (user : UserProfile) where
           → Holds schema world user header (after_events schema world user (opening schema world user opened) events) c
       pub size : list_any is_failed_append events ≡ false
           → IsNoLonger bytes (after_events schema world user (opening schema world user opened) events).entries reads
-      pub kept : (list_any is_opened events && list_any is_ask events) ≡ false → IsStill image reads
+      pub kept : (list_any is_opened events && list_any is_call events) ≡ false → IsStill image reads
 
     -- the desk was just opened
     pub live : (opened : History) (events : List Event) (standing : Standing) (state : UserState) (image : List ℕ → Type 0) (reads : List ℕ) (now : ℕ)
@@ -343,7 +352,7 @@ module _ (schema : DatabaseSchema) (world : FactSet) (user : UserProfile) where
     pub closing : (opened : History) (events : List Event) (standing : Standing) (state : UserState) (image image' : List ℕ → Type 0) (reads reads' : List ℕ)
         (now later : ℕ) (refusal : Option DeskError)
         → IsLiving opened events standing state image reads now refusal → now ≤ later → (state.broken ≡ true → Rose now later)
-        → ((is_sealed standing ≡ true) ⊎ (list_any is_ask events ≡ false) → (reads' ≡ reads) × ((c : List ℕ) → image' c → image c))
+        → ((is_sealed standing ≡ true) ⊎ (list_any is_call events ≡ false) → (reads' ≡ reads) × ((c : List ℕ) → image' c → image c))
         → (is_sealed standing ≡ false → (c : List ℕ) → image' c → Holds schema world user header state c)
         → (state.broken ≡ false → IsNoLonger reads state.entries reads') → image' reads'
         → IsRunning opened events standing state image' reads' later refusal
@@ -384,12 +393,12 @@ module _ (schema : DatabaseSchema) (world : FactSet) (user : UserProfile) where
             let entries = ap (λ (s : UserState). bytes_needed s.entries) is in
             omega (arith, now, first, entries)
 
-        left_as : (is_sealed standing ≡ true) ⊎ (list_any is_ask events ≡ false) → IsStill image reads → IsStill image' reads'
+        left_as : (is_sealed standing ≡ true) ⊎ (list_any is_call events ≡ false) → IsStill image reads → IsStill image' reads'
         left_as why still = ((same why).0 ∙ still.0, λ c at. still.1 c ((same why).1 c at))
 
-        kept_by : (list_any is_opened events && list_any is_ask events) ≡ false → (b : Bool) → is_sealed standing ≡ b → IsStill image' reads'
+        kept_by : (list_any is_opened events && list_any is_call events) ≡ false → (b : Bool) → is_sealed standing ≡ b → IsStill image' reads'
         kept_by idle true sealed = left_as (inl sealed) (living.kept idle)
-        kept_by idle false served = left_as (inr (ap (λ b. b && list_any is_ask events) (sym (living.held served)) ∙ idle)) (living.kept idle)
+        kept_by idle false served = left_as (inr (ap (λ b. b && list_any is_call events) (sym (living.held served)) ∙ idle)) (living.kept idle)
 
         rises : RoseBut events standing state now → RoseBy (failures events) before later
         rises (all_rose rose) = rose_more (failures events) before now later rose on
@@ -409,37 +418,37 @@ module _ (schema : DatabaseSchema) (world : FactSet) (user : UserProfile) where
         by (inl (opens, was, rose)) = inl (opens, held was (is_sealed standing) refl, rises rose)
         by (inr (none, empty, is, never)) = inr (none, empty, (same (inl (living.shut none))).0 ∙ is, never)
 
-    -- an ask of the user at his desk, with some ending
+    -- a call for the user at his desk, with some ending
     pub record Asked (opened : History) (events : List Event) (standing : Standing) (state : UserState) (image : List ℕ → Type 0) (reads : List ℕ) (now : ℕ)
-        (refusal : Option DeskError) (text : Text) (told : Reply) : Type 0 where
+        (refusal : Option DeskError) (purpose : Purpose) (text : Text) (told : Reply) : Type 0 where
       pub ending : Ending
-      pub reply : told ≡ reply_to_ask schema world user (after_events schema world user (opening schema world user opened) events) text ending
-      pub living : IsLiving opened (events ++ ask text ending ∷ []) standing state image reads now refusal
+      pub reply : told ≡ reply_to_call schema world user (after_events schema world user (opening schema world user opened) events) purpose text ending
+      pub living : IsLiving opened (events ++ call purpose text ending ∷ []) standing state image reads now refusal
 
     pub ask_step : (opened : History) (events : List Event) (standing : Standing) (old new : UserState) (image : List ℕ → Type 0) (reads : List ℕ) (now : ℕ)
-        (refusal : Option DeskError) (text : Text) (told : Reply)
+        (refusal : Option DeskError) (purpose : Purpose) (text : Text) (told : Reply)
         → IsLiving opened events standing old image reads now refusal
-        → ((state : UserState) → IsState standing old state → IsAskOf schema world user (IsState standing new) state text told)
-        → Asked opened events standing new image reads now refusal text told
-    ask_step opened events standing old new image reads now refusal text told living settles =
-        let one = once (IsState standing new) state text told (settles state living.is_in) in
+        → ((state : UserState) → IsState standing old state → IsCallOf schema world user (IsState standing new) state purpose text told)
+        → Asked opened events standing new image reads now refusal purpose text told
+    ask_step opened events standing old new image reads now refusal purpose text told living settles =
+        let one = once (IsState standing new) state purpose text told (settles state living.is_in) in
         record {
           ending = one.ending;
           reply = one.reply;
           living = record {
             is_in = subst (IsState standing new) (sym (pushed one.ending)) one.after;
             later = living.later;
-            caused = caused-push (opening schema world user opened) events (ask text one.ending) living.caused one.caused;
-            refused = refusal_on now now (omega arith) events (ask text one.ending) (none_refused text one.ending) refusal living.refused;
+            caused = caused-push (opening schema world user opened) events (call purpose text one.ending) living.caused one.caused;
+            refused = refusal_on now now (omega arith) events (call purpose text one.ending) (none_refused purpose text one.ending) refusal living.refused;
             shut = living.shut;
             fits = fits_on one.ending one.caused one.after living.fits;
-            held = λ served. any-push is_opened events (ask text one.ending) ∙ or_left (list_any is_opened events) false (living.held served);
+            held = λ served. any-push is_opened events (call purpose text one.ending) ∙ or_left (list_any is_opened events) false (living.held served);
             stands = λ sealed some c at.
                 subst (λ s. Holds schema world user header s c)
-                (sym (pushed one.ending ∙ sealed_still state text one.ending (sealed_is standing old state sealed living.is_in)))
+                (sym (pushed one.ending ∙ sealed_still state purpose text one.ending (sealed_is standing old state sealed living.is_in)))
                 (living.stands sealed (sym (unopened one.ending) ∙ some) c at);
             size = λ whole. subst (λ (s : UserState). IsNoLonger bytes s.entries reads) (sym (pushed one.ending))
-                (no_longer_on state (ask text one.ending) bytes reads (living.size (unfailed-push events (ask text one.ending) whole)));
+                (no_longer_on state (call purpose text one.ending) bytes reads (living.size (unfailed-push events (call purpose text one.ending) whole)));
             kept = λ idle. living.kept (never_opened one.ending idle);
           };
         }
@@ -448,74 +457,78 @@ module _ (schema : DatabaseSchema) (world : FactSet) (user : UserProfile) where
         state = after_events schema world user (opening schema world user opened) events
 
         pushed : (ending : Ending)
-            → after_events schema world user (opening schema world user opened) (events ++ ask text ending ∷ [])
-            ≡ after_event schema world user state (ask text ending)
-        pushed ending = after_events-push schema world user (opening schema world user opened) events (ask text ending)
+            → after_events schema world user (opening schema world user opened) (events ++ call purpose text ending ∷ [])
+            ≡ after_event schema world user state (call purpose text ending)
+        pushed ending = after_events-push schema world user (opening schema world user opened) events (call purpose text ending)
 
-        unopened : (ending : Ending) → list_any is_opened (events ++ ask text ending ∷ []) ≡ list_any is_opened events
-        unopened ending = any-push is_opened events (ask text ending) ∙ or-false (list_any is_opened events)
+        unopened : (ending : Ending) → list_any is_opened (events ++ call purpose text ending ∷ []) ≡ list_any is_opened events
+        unopened ending = any-push is_opened events (call purpose text ending) ∙ or-false (list_any is_opened events)
 
         -- behind an ask the disk is promised to be as it was only where no opening held
-        never_opened : (ending : Ending) → (list_any is_opened (events ++ ask text ending ∷ []) && list_any is_ask (events ++ ask text ending ∷ [])) ≡ false
-            → (list_any is_opened events && list_any is_ask events) ≡ false
+        never_opened : (ending : Ending) → (list_any is_opened (events ++ call purpose text ending ∷ []) && list_any is_call
+            (events ++ call purpose text ending ∷ [])) ≡ false
+            → (list_any is_opened events && list_any is_call events) ≡ false
         never_opened ending idle =
-            and_left (list_any is_opened events) (list_any is_ask events)
+            and_left (list_any is_opened events) (list_any is_call events)
             (sym (and-true (list_any is_opened events))
-            ∙ (λ i. sym (unopened ending) i && sym (any-push is_ask events (ask text ending) ∙ or-true (list_any is_ask events)) i) ∙ idle)
+            ∙ (λ i. sym (unopened ending) i && sym (any-push is_call events (call purpose text ending) ∙ or-true (list_any is_call events)) i) ∙ idle)
 
         -- a desk whose append failed is still so
-        broken_still : (ending : Ending) → IsState standing new (after_event schema world user state (ask text ending)) → is_sealed standing ≡ false
-            → old.broken ≡ true → (after_event schema world user state (ask text ending)).broken ≡ state.broken → new.broken ≡ true
+        broken_still : (ending : Ending) → IsState standing new (after_event schema world user state (call purpose text ending)) → is_sealed standing ≡ false
+            → old.broken ≡ true → (after_event schema world user state (call purpose text ending)).broken ≡ state.broken → new.broken ≡ true
         broken_still ending after served broken same =
             ap (λ (s : UserState). s.broken) (sym (shown_is standing new _ served after)) ∙ same
             ∙ ap (λ (s : UserState). s.broken) (shown_is standing old state served living.is_in) ∙ broken
 
-        more : (ending : Ending) (n : ℕ) → failures_in (ask text ending) ≡ n → failures (events ++ ask text ending ∷ []) ≡ failures events + n
-        more ending n is = failures-push events (ask text ending) ∙ ap (λ k. failures events + k) is
+        more : (ending : Ending) (n : ℕ) → failures_in (call purpose text ending) ≡ n → failures (events ++ call purpose text ending ∷ []) ≡ failures events + n
+        more ending n is = failures-push events (call purpose text ending) ∙ ap (λ k. failures events + k) is
 
-        unfailed : (ending : Ending) → failures_in (ask text ending) ≡ 0 → (after_event schema world user state (ask text ending)).broken ≡ state.broken
-            → IsState standing new (after_event schema world user state (ask text ending))
-            → RoseBut events standing old now → RoseBut (events ++ ask text ending ∷ []) standing new now
+        unfailed : (ending : Ending) → failures_in (call purpose text ending) ≡ 0
+            → (after_event schema world user state (call purpose text ending)).broken ≡ state.broken
+            → IsState standing new (after_event schema world user state (call purpose text ending))
+            → RoseBut events standing old now → RoseBut (events ++ call purpose text ending ∷ []) standing new now
         unfailed ending none same after (all_rose rose) = all_rose (subst (λ n. RoseBy n before now) (omega arith ∙ sym (more ending 0 none)) rose)
         unfailed ending none same after (last_flies earlier count rose served broken) =
             last_flies earlier (let e = more ending 0 none in omega (arith, e, count)) rose served (broken_still ending after served broken same)
 
         -- the entry in flight shows that no append had failed before, and that the desk isn't sealed
-        flew : is_some (entry_at schema world user state text) ≡ true → IsState standing new (after_event schema world user state (ask text failed))
+        flew : is_some (entry_at schema world user state purpose text) ≡ true
+            → IsState standing new (after_event schema world user state (call purpose text failed))
             → RoseBut events standing old now → (b : Bool) → is_sealed standing ≡ b
-            → RoseBut (events ++ ask text failed ∷ []) standing new now
+            → RoseBut (events ++ call purpose text failed ∷ []) standing new now
         flew some after rose true sealed =
             let e : false ≡ true =
-            sym (ap (λ (o : Option AnsweredQuery). is_some o) (adds_none state text (sealed_is standing old state sealed living.is_in))) ∙ some in absurd cc
+            sym (ap (λ (o : Option AnsweredQuery). is_some o) (adds_none state purpose text (sealed_is standing old state sealed living.is_in)))
+            ∙ some in absurd cc
         flew some after (all_rose rose) false served =
             last_flies (failures events) (more failed 1 refl) rose served
-            (by_entry (entry_at schema world user state text) some (shown_is standing new _ served after))
+            (by_entry (entry_at schema world user state purpose text) some (shown_is standing new _ served after))
           where
             by_entry : (entry : Option AnsweredQuery) → is_some entry ≡ true → Run.after_failure schema world user state entry ≡ new → new.broken ≡ true
             by_entry (Some entry) some is = ap (λ (s : UserState). s.broken) (sym is)
             by_entry None some is = absurd cc
         flew some after (last_flies earlier count rose served' broken) false served =
             let broke : state.broken ≡ true = ap (λ (s : UserState). s.broken) (shown_is standing old state served living.is_in) ∙ broken in
-            let e : false ≡ true = sym (ap (λ (o : Option AnsweredQuery). is_some o) (broken_adds state text broke)) ∙ some in absurd cc
+            let e : false ≡ true = sym (ap (λ (o : Option AnsweredQuery). is_some o) (broken_adds state purpose text broke)) ∙ some in absurd cc
 
-        rises : (ending : Ending) → IsCaused schema world user state (ask text ending)
-            → IsState standing new (after_event schema world user state (ask text ending)) → RoseBut events standing old now
-            → RoseBut (events ++ ask text ending ∷ []) standing new now
+        rises : (ending : Ending) → IsCaused schema world user state (call purpose text ending)
+            → IsState standing new (after_event schema world user state (call purpose text ending)) → RoseBut events standing old now
+            → RoseBut (events ++ call purpose text ending ∷ []) standing new now
         rises want caused after rose = unfailed want refl refl after rose
         rises kept caused after rose = unfailed kept refl refl after rose
         rises failed caused after rose = flew caused after rose (is_sealed standing) refl
 
-        fits_on : (ending : Ending) → IsCaused schema world user state (ask text ending)
-            → IsState standing new (after_event schema world user state (ask text ending))
-            → FitsLiving opened events standing old reads now → FitsLiving opened (events ++ ask text ending ∷ []) standing new reads now
+        fits_on : (ending : Ending) → IsCaused schema world user state (call purpose text ending)
+            → IsState standing new (after_event schema world user state (call purpose text ending))
+            → FitsLiving opened events standing old reads now → FitsLiving opened (events ++ call purpose text ending ∷ []) standing new reads now
         fits_on ending caused after (inl (opens, was, rose)) = inl (
           opens,
           λ sealed. subst (λ s. Holds schema world user header s reads)
-              (sym (pushed ending ∙ sealed_still state text ending (sealed_is standing old state sealed living.is_in))) (was sealed),
+              (sym (pushed ending ∙ sealed_still state purpose text ending (sealed_is standing old state sealed living.is_in))) (was sealed),
           rises ending caused after rose,
         )
         fits_on ending caused after (inr (none, empty, is, never)) =
-            inr (none, empty, is, any-push is_opened events (ask text ending) ∙ ap (λ b. b || false) never)
+            inr (none, empty, is, any-push is_opened events (call purpose text ending) ∙ ap (λ b. b || false) never)
 
     -- ---- an opening
 
@@ -543,10 +556,13 @@ module _ (schema : DatabaseSchema) (world : FactSet) (user : UserProfile) where
         absurd (exclusive entries c (Journal journal_error.OtherPolicy) opens (is t))
     faulty exclusive entries c opens T t start now later a b on (Journal (journal_error.Damaged number)) is =
         absurd (exclusive entries c (Journal (journal_error.Damaged number)) opens (is t))
+    faulty exclusive entries c opens T t start now later a b on (Journal journal_error.OldVersion) is =
+        absurd (exclusive entries c (Journal journal_error.OldVersion) opens (is t))
     faulty exclusive entries c opens T t start now later a b on (Stale number) is = absurd (exclusive entries c (Stale number) opens (is t))
     faulty exclusive entries c opens T t start now later a b on (Unlawful number stored computed) is =
         absurd (exclusive entries c (Unlawful number stored computed) opens (is t))
     faulty exclusive entries c opens T t start now later a b on (Size number) is = absurd (exclusive entries c (Size number) opens (is t))
+    faulty exclusive entries c opens T t start now later a b on (Unsafe number) is = absurd (exclusive entries c (Unsafe number) opens (is t))
     faulty exclusive entries c opens T t start now later a b on (NotAdmitted admission) is = absurd (exclusive entries c (NotAdmitted admission) opens (is t))
 
     -- the bytes are still those at the beginning
@@ -561,10 +577,13 @@ module _ (schema : DatabaseSchema) (world : FactSet) (user : UserProfile) where
         λ u. subst (λ b. Refuses schema world user header b (Journal journal_error.OtherPolicy)) same (is t)
     shown_by T t c same now later a on (Journal (journal_error.Damaged number)) is =
         λ u. subst (λ b. Refuses schema world user header b (Journal (journal_error.Damaged number))) same (is t)
+    shown_by T t c same now later a on (Journal journal_error.OldVersion) is =
+        λ u. subst (λ b. Refuses schema world user header b (Journal journal_error.OldVersion)) same (is t)
     shown_by T t c same now later a on (Stale number) is = λ u. subst (λ b. Refuses schema world user header b (Stale number)) same (is t)
     shown_by T t c same now later a on (Unlawful number stored computed) is =
         λ u. subst (λ b. Refuses schema world user header b (Unlawful number stored computed)) same (is t)
     shown_by T t c same now later a on (Size number) is = λ u. subst (λ b. Refuses schema world user header b (Size number)) same (is t)
+    shown_by T t c same now later a on (Unsafe number) is = λ u. subst (λ b. Refuses schema world user header b (Unsafe number)) same (is t)
     shown_by T t c same now later a on (NotAdmitted admission) is = λ u. subst (λ b. Refuses schema world user header b (NotAdmitted admission)) same (is t)
 
     -- the first refusal behind an opening with this standing
@@ -666,9 +685,9 @@ module _ (schema : DatabaseSchema) (world : FactSet) (user : UserProfile) where
       size = λ whole. subst (λ (s : UserState). IsNoLonger bytes s.entries reads) (sym pushed)
           (no_longer_on state (restart found opens) bytes reads (stays.size (unfailed-push events (restart found opens) whole)));
       kept = λ idle. stays.kept
-          (idle_before (list_any is_opened events) (list_any is_ask events) opens
+          (idle_before (list_any is_opened events) (list_any is_call events) opens
           ((λ i. sym (any-push is_opened events (restart found opens)) i
-          && sym (any-push is_ask events (restart found opens) ∙ or-false (list_any is_ask events)) i) ∙ idle));
+          && sym (any-push is_call events (restart found opens) ∙ or-false (list_any is_call events)) i) ∙ idle));
     }
       where
         state : UserState

@@ -11,6 +11,7 @@ use Rattle.outside.specs.declared.disk.Disk.{Ghosts as DiskGhosts}
 use Rattle.cqe_base.specs.Schema.{Text, DatabaseSchema, has_duplicate}
 use Rattle.cqe_base.specs.Facts.{FactSet}
 use Rattle.cqe_base.specs.Run.{Reply}
+use Rattle.cqe_base.specs.Transcript.{purpose_of}
 use Rattle.cqe_base.specs.declared.user.User.{User}
 use Rattle.cqe_base.proofs.Lists.{other_text}
 use Rattle.cqe_base.proofs.Truths.{or_first, or_second}
@@ -126,7 +127,7 @@ module _ (schema : DatabaseSchema) (world : FactSet) {D : Type 0} {g h : _} wher
     mids : List (DeskSeat D g h)
     rests : List (List Answer)
     reply : Option Reply
-    tells : Tells schema world ask.name ask.text olds mids reply
+    tells : Tells schema world ask.name (purpose_of ask.caller) ask.text olds mids reply
     runs : OwnRuns (number + 1) asks mids news rests
     known : list_any (λ name. bytes_eq name ask.name) (map seat_name olds) ≡ is_some reply
     names : map seat_name mids ≡ map seat_name olds
@@ -220,7 +221,8 @@ module _ (schema : DatabaseSchema) (world : FactSet) {D : Type 0} {g h : _} wher
   -- ---- one more ask at the end of a user's run
 
   pub own_more : (number : ℕ) (asks : List NamedAsk) (ask : NamedAsk) (old mid new : DeskSeat D g h) (reply : Reply) (answers : List Answer)
-      → OwnRun schema world number asks old mid answers → is_named ask.name mid ≡ true → IsToldAt schema world ask.text reply mid new
+      → OwnRun schema world number asks old mid answers → is_named ask.name mid ≡ true → IsToldAt schema world (purpose_of ask.caller) ask.text reply mid
+      new
       → OwnRun schema world number (asks ++ ask ∷ []) old new (answers ++ answer_to (number + length asks) ask (Some reply) ∷ [])
   own_more number asks ask old mid new reply answers (done n seat) named told =
       let same : number ≡ number + 0 = omega arith in

@@ -9,6 +9,8 @@ use Rattle.cqe_base.specs.Facts.{FactSet}
 use Rattle.cqe_base.specs.History.{profile_of}
 use Rattle.cqe_base.specs.Limits.{KeepsLimits}
 use Rattle.cqe_base.specs.Run.{Reply}
+use Rattle.cqe_base.specs.Transcript.{purpose_of}
+use Rattle.cqe_base.specs.declared.user.Purpose.{Purpose}
 use Rattle.std.specs.Prelude.{Vec}
 use Rattle.std.specs.declared.alloc.Global.{Global}
 use Rattle.std.proofs.Math.Bool.{or-false}
@@ -68,23 +70,24 @@ module _ (schema : DatabaseSchema) (world : FactSet) (header : List ℕ) {D : Ty
       → KeepsLimits schema (profile_of (seat_user new))
   limit_at old new is keeps = subst (λ u. KeepsLimits schema (profile_of u)) (sym is) keeps
 
-  stay_told : (name text : Text) (old new : List (DeskSeat D g h)) (reply : Option Reply) → Tells schema world name text old new reply → Stay old new
-  stay_told name text old new reply nobody = stay []
-  stay_told name text old new reply (here {old = first} {new = next} {others} is answer) =
+  stay_told : (name : Text) (purpose : Purpose) (text : Text) (old new : List (DeskSeat D g h)) (reply : Option Reply)
+      → Tells schema world name purpose text old new reply → Stay old new
+  stay_told name purpose text old new reply nobody = stay []
+  stay_told name purpose text old new reply (here {old = first} {new = next} {others} is answer) =
       let kept = answer.kept_is in
       record {
         names = ap (λ j. j ∷ journals others) answer.journal_is;
         users = ap (λ (u : User). string_bytes u.name ∷ map seat_name others) answer.user_is;
         limits = λ l. (limit_at first next answer.user_is l.0, l.1);
-        served = λ s. (still_served schema world header first next text _ answer s.0, s.1);
+        served = λ s. (still_served schema world header first next purpose text _ answer s.0, s.1);
         later = λ count l. (
           later_at count first next answer.journal_is
               (subst (λ d. Disk.faults (seat_disk first) ≤ Disk.faults d) (sym (ap (λ (f : Fixed D). f.disk) kept)) (omega arith)) l.0,
           l.1,
         );
       }
-  stay_told name text old new reply (further {seat} {others} {after} {told_reply} other rest) =
-      let tail : Stay others after = stay_told name text others after told_reply rest in
+  stay_told name purpose text old new reply (further {seat} {others} {after} {told_reply} other rest) =
+      let tail : Stay others after = stay_told name purpose text others after told_reply rest in
       record {
         names = ap (λ js. seat_journal seat ∷ js) tail.names;
         users = ap (λ ns. seat_name seat ∷ ns) tail.users;
@@ -112,7 +115,7 @@ module _ (schema : DatabaseSchema) (world : FactSet) (header : List ℕ) {D : Ty
 
   stay_carried : (item : BatchItem) (old new : List (DeskSeat D g h)) (line : List ℕ) (is_broken : Bool)
       → Carries schema world header Disk item old new line is_broken → Stay old new
-  stay_carried (asked ask) old new line is_broken carried = stay_told ask.name ask.text old new carried.0 carried.1
+  stay_carried (asked ask) old new line is_broken carried = stay_told ask.name (purpose_of ask.caller) ask.text old new carried.0 carried.1
   stay_carried restarted old new line is_broken carried = stay_reopened old new carried.0
 
   pub stay_run : (items : List BatchItem) (old new : List (DeskSeat D g h)) (output : List ℕ) (is_broken : Bool)

@@ -9,13 +9,14 @@ use Rattle.std.proofs.lemmas.Bool.{or_right}
 use Rattle.outside.specs.declared.disk.Disk.{Ghosts as DiskGhosts}
 use Rattle.outside.proofs.Taken.{taken_reads, taken_images}
 use Rattle.outside.specs.Shelf.{bytes_on, image_on}
+use Rattle.cqe_base.specs.declared.user.Purpose.{Purpose}
 use Rattle.cqe_base.specs.Schema.{Text, DatabaseSchema, has_duplicate}
 use Rattle.cqe_base.specs.Facts.{FactSet}
 use Rattle.cqe_base.specs.History.{UserProfile, History, profile_of}
 use Rattle.cqe_base.specs.Run
 use Rattle.cqe_base.specs.declared.user.User.{User}
-use Rattle.cqe_base.specs.Run.{Reply, Ending, Event, UserState, ask, restart, opening, after_events, reply_to_ask}
-use Rattle.cqe_base.specs.Transcript.{NamedUser, ScriptEvent, script_ask, own_event, own_events, told_after}
+use Rattle.cqe_base.specs.Run.{Reply, Ending, Event, UserState, call, restart, opening, after_events, reply_to_call}
+use Rattle.cqe_base.specs.Transcript.{NamedUser, ScriptEvent, Caller, purpose_of, script_call, own_event, own_events, told_after}
 use Rattle.cqe_base.proofs.Lists.{other_text, text_is}
 use Rattle.cqe_base.proofs.Truths.{or_first, or_second}
 use Rattle.user_desk.specs.Causes.{Opens, OpensWithin, IsStanding}
@@ -23,12 +24,12 @@ use Rattle.user_desk.specs.Lives.{Holds, HoldsFrom, HoldsAmid, Restarts, IsState
 use Rattle.user_desk.specs.Standings.{is_sealed}
 use Rattle.desk_counter.specs.declared.item.Fixed.{Fixed}
 use Rattle.desk_counter.specs.Items.{flying}
-use Rattle.desk_counter.specs.Lives.{IsAskOf}
+use Rattle.desk_counter.specs.Lives.{IsCallOf}
 use Rattle.desk_counter.specs.Sole.{pairs_of_sole}
 use Rattle.log_journal.specs.Names.{journal_name}
 use Rattle.desk_crew.specs.Openings.{OpensNone, OpensWith}
 use Rattle.batch_engine.specs.Batch.{unopened}
-use Rattle.batch_engine.specs.Lives.{is_ask, is_opened, is_opening}
+use Rattle.batch_engine.specs.Lives.{is_call, is_opened, is_opening}
 use Rattle.desk_crew.specs.Shelved.{IsSeatOf, AreSeatsOf}
 use Rattle.desk_crew.specs.Crew.{named_user, first_refusal, seat_user, seat_name, seat_journal, seat_kept, seat_standing, seat_history, seat_state, seat_disk}
 use Rattle.desk_crew.specs.Crew.{IsSeatIn, IsSeatAsOpened, is_named, IsClosed, IsSeatServed, IsToldAt, IsReopened, AreReopened, Tells, nobody, here, further}
@@ -121,7 +122,7 @@ module _ (schema : DatabaseSchema) (world : FactSet) (header directory : List �
     pub served : IsSeatServed schema world header seat
     pub living : IsLiving schema world user.profile header (bytes user.name) (before user.name) (images user.name) user.opened events (seat_standing seat)
         (seat_state seat) (Disk.image (seat_disk seat)) (Disk.reads (seat_disk seat)) (Disk.faults (seat_disk seat)) seat.refusal
-    pub fresh : list_any is_ask events ≡ false → IsSeatAsOpened seat
+    pub fresh : list_any is_call events ≡ false → IsSeatAsOpened seat
     -- the moments at which the call began and his journal was first opened, and what each crash could leave since; at his desk's opening there were as many
     -- entries as at first, and as at the end of each stretch before
     pub began : ℕ
@@ -138,25 +139,25 @@ module _ (schema : DatabaseSchema) (world : FactSet) (header directory : List �
   AreSeated script (user ∷ users) (seat ∷ seats) = IsSeated user (own_events user.name script) seat × AreSeated script users seats
   AreSeated script users seats = ⊥
 
-  -- ---- an ask
+  -- ---- a call
 
-  record AskedAt (user : NamedUser) (events : List Event) (seat : DeskSeat D g h) (text : Text) (told : Reply) : Type 0 where
+  record AskedAt (user : NamedUser) (events : List Event) (seat : DeskSeat D g h) (purpose : Purpose) (text : Text) (told : Reply) : Type 0 where
     ending : Ending
-    reply : told ≡ reply_to_ask schema world user.profile
-        (after_events schema world user.profile (opening schema world user.profile user.opened) events) text ending
-    seated : IsSeated user (events ++ ask text ending ∷ []) seat
+    reply : told ≡ reply_to_call schema world user.profile
+        (after_events schema world user.profile (opening schema world user.profile user.opened) events) purpose text ending
+    seated : IsSeated user (events ++ call purpose text ending ∷ []) seat
 
-  ask_at : (user : NamedUser) (events : List Event) (old new : DeskSeat D g h) (text : Text) (told : Reply) → IsSeated user events old
-      → IsToldAt schema world text told old new → AskedAt user events new text told
-  ask_at user events old new text told seated answer =
+  ask_at : (user : NamedUser) (events : List Event) (old new : DeskSeat D g h) (purpose : Purpose) (text : Text) (told : Reply) → IsSeated user events old
+      → IsToldAt schema world purpose text told old new → AskedAt user events new purpose text told
+  ask_at user events old new purpose text told seated answer =
       let kept = answer.kept_is in
       let profile : profile_of (seat_user old) ≡ user.profile = seated.profile_is in
       let asked : Asked schema world user.profile header (bytes user.name) (before user.name) (images user.name) user.opened events (seat_standing old)
-      (seat_state new) (Disk.image (seat_disk old)) (Disk.reads (seat_disk old)) (Disk.faults (seat_disk old)) old.refusal text told =
+      (seat_state new) (Disk.image (seat_disk old)) (Disk.reads (seat_disk old)) (Disk.faults (seat_disk old)) old.refusal purpose text told =
       ask_step schema world user.profile header (bytes user.name) (before user.name) (images user.name) user.opened events (seat_standing old) (seat_state old)
-      (seat_state new) (Disk.image (seat_disk old)) (Disk.reads (seat_disk old)) (Disk.faults (seat_disk old)) old.refusal text told seated.living
-      (λ state is. subst (λ (f : Fixed D). IsAskOf schema world user.profile (IsState f.standing (seat_state new)) state text told) kept
-      (subst (λ p. IsAskOf schema world p (IsSeatIn new) state text told) profile (answer.settled state is))) in
+      (seat_state new) (Disk.image (seat_disk old)) (Disk.reads (seat_disk old)) (Disk.faults (seat_disk old)) old.refusal purpose text told seated.living
+      (λ state is. subst (λ (f : Fixed D). IsCallOf schema world user.profile (IsState f.standing (seat_state new)) state purpose text told) kept
+      (subst (λ p. IsCallOf schema world p (IsSeatIn new) state purpose text told) profile (answer.settled state is))) in
       record {
         ending = asked.ending;
         reply = asked.reply;
@@ -164,100 +165,106 @@ module _ (schema : DatabaseSchema) (world : FactSet) (header directory : List �
           name_is = ap (λ (u : User). string_bytes u.name) answer.user_is ∙ seated.name_is;
           profile_is = ap profile_of answer.user_is ∙ profile;
           journal_is = answer.journal_is ∙ seated.journal_is;
-          served = still_served schema world header old new text told answer seated.served;
+          served = still_served schema world header old new purpose text told answer seated.served;
           living = subst (λ r.
               IsLiving schema world user.profile header (bytes user.name) (before user.name) (images user.name) user.opened
-              (events ++ ask text asked.ending ∷ []) (seat_standing new) (seat_state new) (Disk.image (seat_disk new)) (Disk.reads (seat_disk new))
+              (events ++ call purpose text asked.ending ∷ []) (seat_standing new) (seat_state new) (Disk.image (seat_disk new)) (Disk.reads (seat_disk new))
               (Disk.faults (seat_disk new)) r) (sym answer.refusal_is)
               (subst (λ (f : Fixed D).
               IsLiving schema world user.profile header (bytes user.name) (before user.name) (images user.name) user.opened
-              (events ++ ask text asked.ending ∷ []) f.standing (seat_state new) (Disk.image f.disk) (Disk.reads f.disk) (Disk.faults f.disk) old.refusal)
+              (events ++ call purpose text asked.ending ∷ []) f.standing (seat_state new) (Disk.image f.disk) (Disk.reads f.disk)
+              (Disk.faults f.disk) old.refusal)
               (sym kept) asked.living);
-          fresh = λ none. let e : true ≡ false = sym (any-push is_ask events (ask text asked.ending) ∙ or-true (list_any is_ask events)) ∙ none in absurd cc;
+          fresh = λ none. let e : true ≡ false = sym (any-push is_call events (call purpose text asked.ending) ∙ or-true (list_any is_call events))
+              ∙ none in absurd cc;
           began = seated.began;
           began_is = seated.began_is;
           opens_at = seated.opens_at;
           along = subst (λ (f : Fixed D).
-              IsAlong schema world user.profile header (images user.name) user.opened seated.began seated.opens_at (events ++ ask text asked.ending ∷ [])
-              (Disk.moment f.disk) (Disk.image_since f.disk)) (sym kept)
-              (along_event schema world user.profile header (images user.name) user.opened seated.began seated.opens_at events (ask text asked.ending)
-              (Disk.moment (seat_disk old)) (Disk.image_since (seat_disk old)) refl (λ opens. absurd cc) seated.along);
+              IsAlong schema world user.profile header (images user.name) user.opened seated.began seated.opens_at
+              (events ++ call purpose text asked.ending ∷ []) (Disk.moment f.disk) (Disk.image_since f.disk)) (sym kept)
+              (along_event schema world user.profile header (images user.name) user.opened seated.began seated.opens_at events
+              (call purpose text asked.ending) (Disk.moment (seat_disk old)) (Disk.image_since (seat_disk old)) refl (λ opens. absurd cc) seated.along);
           least = λ served. subst (λ (f : Fixed D). length user.opened ≤ length f.opening) (sym kept)
               (seated.least (ap (λ (f : Fixed D). is_sealed f.standing) (sym kept) ∙ served));
-          fewer = λ served. subst (λ (f : Fixed D). HasFewer schema world user (events ++ ask text asked.ending ∷ []) (length f.opening)) (sym kept)
-              (fewer_asked schema world user events (ask text asked.ending) (length (seat_kept old).opening) refl
+          fewer = λ served. subst (λ (f : Fixed D). HasFewer schema world user (events ++ call purpose text asked.ending ∷ []) (length f.opening)) (sym kept)
+              (fewer_asked schema world user events (call purpose text asked.ending) (length (seat_kept old).opening) refl
               (seated.fewer (ap (λ (f : Fixed D). is_sealed f.standing) (sym kept) ∙ served)));
         };
       }
 
-  -- an ask of another name changes nothing
-  unnamed : (script : List ScriptEvent) (name : Text) (session : ℕ) (text : Text) (ending : Ending) (user : NamedUser) (seat : DeskSeat D g h)
+  -- a call for another name changes nothing
+  unnamed : (script : List ScriptEvent) (name : Text) (caller : Caller) (text : Text) (ending : Ending) (user : NamedUser) (seat : DeskSeat D g h)
       → bytes_eq name user.name ≡ false → IsSeated user (own_events user.name script) seat
-      → IsSeated user (own_events user.name (script ++ script_ask name session text ending ∷ [])) seat
-  unnamed script name session text ending user seat other seated =
+      → IsSeated user (own_events user.name (script ++ script_call name caller text ending ∷ [])) seat
+  unnamed script name caller text ending user seat other seated =
       subst (λ es. IsSeated user es seat)
-      (sym (own-push user.name script (script_ask name session text ending)
-      ∙ ap (λ b. own_events user.name script ++ (if b then ask text ending ∷ [] else [])) other ∙ append-nil (own_events user.name script))) seated
+      (sym (own-push user.name script (script_call name caller text ending)
+      ∙ ap (λ b. own_events user.name script ++ (if b then call (purpose_of caller) text ending ∷ [] else [])) other
+      ∙ append-nil (own_events user.name script))) seated
 
-  all_unnamed : (script : List ScriptEvent) (name : Text) (session : ℕ) (text : Text) (ending : Ending) (users : List NamedUser) (seats : List (DeskSeat D g h))
+  all_unnamed : (script : List ScriptEvent) (name : Text) (caller : Caller) (text : Text) (ending : Ending) (users : List NamedUser)
+      (seats : List (DeskSeat D g h))
       → list_any (bytes_eq name) (names users) ≡ false
-      → AreSeated script users seats → AreSeated (script ++ script_ask name session text ending ∷ []) users seats
-  all_unnamed script name session text ending [] [] none seated = tt
-  all_unnamed script name session text ending [] (seat ∷ seats) none seated = absurd seated
-  all_unnamed script name session text ending (user ∷ users) [] none seated = absurd seated
-  all_unnamed script name session text ending (user ∷ users) (seat ∷ seats) none seated = (
-    unnamed script name session text ending user seat (or_first _ _ none) seated.0,
-    all_unnamed script name session text ending users seats (or_second _ _ none) seated.1,
+      → AreSeated script users seats → AreSeated (script ++ script_call name caller text ending ∷ []) users seats
+  all_unnamed script name caller text ending [] [] none seated = tt
+  all_unnamed script name caller text ending [] (seat ∷ seats) none seated = absurd seated
+  all_unnamed script name caller text ending (user ∷ users) [] none seated = absurd seated
+  all_unnamed script name caller text ending (user ∷ users) (seat ∷ seats) none seated = (
+    unnamed script name caller text ending user seat (or_first _ _ none) seated.0,
+    all_unnamed script name caller text ending users seats (or_second _ _ none) seated.1,
   )
 
-  -- an ask with some ending: what is told, and the seats behind it
-  pub record Next (script : List ScriptEvent) (name : Text) (session : ℕ) (text : Text) (users : List NamedUser) (new : List (DeskSeat D g h))
+  -- a call with some ending: what is told, and the seats behind it
+  pub record Next (script : List ScriptEvent) (name : Text) (caller : Caller) (text : Text) (users : List NamedUser) (new : List (DeskSeat D g h))
       (told : Option Reply) : Type 0 where
     pub ending : Ending
-    pub replied : told_after schema world script text ending (find (λ u. bytes_eq u.name name) users) ≡ told
-    pub seated : AreSeated (script ++ script_ask name session text ending ∷ []) users new
+    pub replied : told_after schema world script (purpose_of caller) text ending (find (λ u. bytes_eq u.name name) users) ≡ told
+    pub seated : AreSeated (script ++ script_call name caller text ending ∷ []) users new
 
-  told_here : (script : List ScriptEvent) (name : Text) (session : ℕ) (text : Text) (user : NamedUser) (users : List NamedUser) (old new : DeskSeat D g h)
+  told_here : (script : List ScriptEvent) (name : Text) (caller : Caller) (text : Text) (user : NamedUser) (users : List NamedUser) (old new : DeskSeat D g h)
       (others : List (DeskSeat D g h)) (told : Reply)
-      → is_named name old ≡ true → IsToldAt schema world text told old new → list_any (bytes_eq user.name) (names users) ≡ false
+      → is_named name old ≡ true → IsToldAt schema world (purpose_of caller) text told old new → list_any (bytes_eq user.name) (names users) ≡ false
       → IsSeated user (own_events user.name script) old → AreSeated script users others
-      → Next script name session text (user ∷ users) (new ∷ others) (Some told)
-  told_here script name session text user users old new others told is answer distinct seated rest =
-      let one : AskedAt user (own_events user.name script) new text told = ask_at user (own_events user.name script) old new text told seated answer in
+      → Next script name caller text (user ∷ users) (new ∷ others) (Some told)
+  told_here script name caller text user users old new others told is answer distinct seated rest =
+      let one : AskedAt user (own_events user.name script) new (purpose_of caller) text told =
+      ask_at user (own_events user.name script) old new (purpose_of caller) text told seated answer in
       let named : bytes_eq user.name name ≡ true = ap (λ n. bytes_eq n name) (sym seated.name_is) ∙ is in
       let same : user.name ≡ name = same_text user.name name (sym named) in
       let asked_by : bytes_eq name user.name ≡ true = ap (λ n. bytes_eq n user.name) (sym same) ∙ text_is user.name in
       record {
         ending = one.ending;
-        replied = ap (λ b. told_after schema world script text one.ending (if b then Some user else find (λ u. bytes_eq u.name name) users)) named
-            ∙ ap Some (sym one.reply);
+        replied = ap (λ b. told_after schema world script (purpose_of caller) text one.ending (if b then Some user
+            else find (λ u. bytes_eq u.name name) users)) named ∙ ap Some (sym one.reply);
         seated = (
           subst (λ es. IsSeated user es new)
-              (sym (own-push user.name script (script_ask name session text one.ending)
-              ∙ ap (λ b. own_events user.name script ++ (if b then ask text one.ending ∷ [] else [])) asked_by)) one.seated,
-          all_unnamed script name session text one.ending users others (ap (λ n. list_any (bytes_eq n) (names users)) (sym same) ∙ distinct) rest,
+              (sym (own-push user.name script (script_call name caller text one.ending)
+              ∙ ap (λ b. own_events user.name script ++ (if b then call (purpose_of caller) text one.ending ∷ [] else [])) asked_by)) one.seated,
+          all_unnamed script name caller text one.ending users others (ap (λ n. list_any (bytes_eq n) (names users)) (sym same) ∙ distinct) rest,
         );
       }
 
-  pub told_next : (script : List ScriptEvent) (name : Text) (session : ℕ) (text : Text) (users : List NamedUser) (old new : List (DeskSeat D g h))
+  pub told_next : (script : List ScriptEvent) (name : Text) (caller : Caller) (text : Text) (users : List NamedUser) (old new : List (DeskSeat D g h))
       (told : Option Reply)
-      → has_duplicate (names users) ≡ false → AreSeated script users old → Tells schema world name text old new told
-      → Next script name session text users new told
-  told_next script name session text [] old new told distinct seated nobody = record { ending = Run.kept; replied = refl; seated = tt }
-  told_next script name session text (user ∷ users) old new told distinct seated nobody = absurd seated
-  told_next script name session text [] old new told distinct seated (here is answer) = absurd seated
-  told_next script name session text (user ∷ users) old new told distinct seated (here {old = first} {new = next} {others} {told_reply = reply} is answer) =
-      told_here script name session text user users first next others reply is answer (or_first _ _ distinct) seated.0 seated.1
-  told_next script name session text [] old new told distinct seated (further other more) = absurd seated
-  told_next script name session text (user ∷ users) old new told distinct seated (further {seat} {others} {after} {told_reply = reply} other more) =
-      let rest : Next script name session text users after reply =
-      told_next script name session text users others after reply (or_second _ _ distinct) seated.1 more in
+      → has_duplicate (names users) ≡ false → AreSeated script users old → Tells schema world name (purpose_of caller) text old new told
+      → Next script name caller text users new told
+  told_next script name caller text [] old new told distinct seated nobody = record { ending = Run.kept; replied = refl; seated = tt }
+  told_next script name caller text (user ∷ users) old new told distinct seated nobody = absurd seated
+  told_next script name caller text [] old new told distinct seated (here is answer) = absurd seated
+  told_next script name caller text (user ∷ users) old new told distinct seated (here {old = first} {new = next} {others} {told_reply = reply} is answer) =
+      told_here script name caller text user users first next others reply is answer (or_first _ _ distinct) seated.0 seated.1
+  told_next script name caller text [] old new told distinct seated (further other more) = absurd seated
+  told_next script name caller text (user ∷ users) old new told distinct seated (further {seat} {others} {after} {told_reply = reply} other more) =
+      let rest : Next script name caller text users after reply =
+      told_next script name caller text users others after reply (or_second _ _ distinct) seated.1 more in
       let differs : bytes_eq user.name name ≡ false = ap (λ n. bytes_eq n name) (sym seated.0.name_is) ∙ other in
       record {
         ending = rest.ending;
         replied =
-            ap (λ b. told_after schema world script text rest.ending (if b then Some user else find (λ u. bytes_eq u.name name) users)) differs ∙ rest.replied;
-        seated = (unnamed script name session text rest.ending user seat (other_text user.name name differs) seated.0, rest.seated);
+            ap (λ b. told_after schema world script (purpose_of caller) text rest.ending (if b then Some user
+            else find (λ u. bytes_eq u.name name) users)) differs ∙ rest.replied;
+        seated = (unnamed script name caller text rest.ending user seat (other_text user.name name differs) seated.0, rest.seated);
       }
 
   -- ---- a close
@@ -281,7 +288,7 @@ module _ (schema : DatabaseSchema) (world : FactSet) (header directory : List �
       (closed.size t)
       (read_is_image disk t)
     where
-      by : (is_sealed (seat_standing seat) ≡ true) ⊎ (list_any is_ask events ≡ false) → disk ≡ seat_disk seat
+      by : (is_sealed (seat_standing seat) ≡ true) ⊎ (list_any is_call events ≡ false) → disk ≡ seat_disk seat
       by (inl sealed) = closed.shut sealed
       by (inr none) = closed.still (seated.fresh none)
 
@@ -336,10 +343,10 @@ module _ (schema : DatabaseSchema) (world : FactSet) (header directory : List �
           (sym same) (within served c at)))
 
       -- and nothing new, where he didn't ask at an open desk
-      rests : is_sealed (seat_standing seat) ≡ false → (list_any is_opened events && list_any is_ask events) ≡ false → (c : List ℕ)
+      rests : is_sealed (seat_standing seat) ≡ false → (list_any is_opened events && list_any is_call events) ≡ false → (c : List ℕ)
           → Disk.image_since disk (Disk.moment (seat_disk seat)) c → images user.name c
       rests served idle c at =
-          let none : list_any is_ask events ≡ false = ap (λ b. b && list_any is_ask events) (sym (seated.living.held served)) ∙ idle in
+          let none : list_any is_call events ≡ false = ap (λ b. b && list_any is_call events) (sym (seated.living.held served)) ∙ idle in
           (seated.living.kept idle).1 c
           (clock.only_now (seat_disk seat) c
           (subst (λ d. Disk.image_since d (Disk.moment (seat_disk seat)) c) (closed.still (seated.fresh none)) at))

@@ -8,7 +8,8 @@ use Rattle.cqe_base.specs.Facts.{FactSet}
 use Rattle.cqe_base.specs.History.{UserProfile}
 use Rattle.cqe_base.specs.Run
 use Rattle.cqe_base.specs.Run.{Reply}
-use Rattle.cqe_base.specs.Transcript.{NamedUser, ScriptEvent, script_ask, script_restart, Line, reply_line, restart_line, written_after, lines_after}
+use Rattle.cqe_base.specs.Transcript.{NamedUser, ScriptEvent, Caller, script_call, script_restart, Line, reply_line, restart_line, written_after}
+use Rattle.cqe_base.specs.Transcript.{lines_after}
 use Rattle.cqe_base.specs.Transcript.{transcript, line_text}
 use Rattle.batch_engine.specs.BatchLines.{BatchItem, asked, restarted}
 use Rattle.batch_engine.specs.Batch.{IsEventOf, AreEventsOf, line_bytes, is_broken_line, with_opening}
@@ -29,16 +30,18 @@ events-push (i ∷ items) [] item event are is = absurd are
 events-push (i ∷ items) (e ∷ events) item event are is = (are.0, events-push items events item event are.1 is)
 
 -- a line that says that an append failed
-pub broken_told : (name : Text) (session : ℕ) (told : Option Reply) → is_broken_line (reply_line name session told) ≡ is_broken_reply told
-broken_told name session None = refl
-broken_told name session (Some (Run.marked mark)) = refl
-broken_told name session (Some (Run.no_sentence kind place)) = refl
-broken_told name session (Some Run.history_full) = refl
-broken_told name session (Some Run.too_large) = refl
-broken_told name session (Some Run.user_closed) = refl
-broken_told name session (Some Run.desk_sealed) = refl
-broken_told name session (Some Run.desk_broken) = refl
-broken_told name session (Some Run.no_memory) = refl
+pub broken_told : (name : Text) (caller : Caller) (told : Option Reply) → is_broken_line (reply_line name caller told) ≡ is_broken_reply told
+broken_told name caller None = refl
+broken_told name caller (Some (Run.marked mark)) = refl
+broken_told name caller (Some (Run.no_sentence kind place)) = refl
+broken_told name caller (Some Run.history_full) = refl
+broken_told name caller (Some Run.too_large) = refl
+broken_told name caller (Some Run.user_closed) = refl
+broken_told name caller (Some Run.desk_sealed) = refl
+broken_told name caller (Some Run.desk_broken) = refl
+broken_told name caller (Some Run.no_memory) = refl
+broken_told name caller (Some Run.secrets_full) = refl
+broken_told name caller (Some Run.unsafe_secret) = refl
 
 module _ (schema : DatabaseSchema) (world : FactSet) (users : List NamedUser) where
   lines-push : (events earlier : List ScriptEvent) (event : ScriptEvent)
@@ -164,19 +167,19 @@ module _ (schema : DatabaseSchema) (world : FactSet) (users : List NamedUser) wh
           → OneMore events item line new says_broken
       one_more events old new says_broken (asked ask) line seated (told, tells, is, says) =
           let script = with_opening found opened events in
-          let next : Next schema world header directory Disk t read_is_image clock bytes before images script ask.name ask.session ask.text
+          let next : Next schema world header directory Disk t read_is_image clock bytes before images script ask.name ask.caller ask.text
           users new
           told =
-          told_next schema world header directory Disk t read_is_image clock bytes before images script ask.name ask.session ask.text
+          told_next schema world header directory Disk t read_is_image clock bytes before images script ask.name ask.caller ask.text
           users old new
           told distinct seated tells in
           record {
-            event = script_ask ask.name ask.session ask.text next.ending;
+            event = script_call ask.name ask.caller ask.text next.ending;
             is_event = (refl, refl, refl);
-            said = reply_line ask.name ask.session told;
-            one = ap (λ r. reply_line ask.name ask.session r ∷ []) next.replied;
+            said = reply_line ask.name ask.caller told;
+            one = ap (λ r. reply_line ask.name ask.caller r ∷ []) next.replied;
             line_is = is;
-            says_is = says ∙ sym (broken_told ask.name ask.session told);
+            says_is = says ∙ sym (broken_told ask.name ask.caller told);
             seated = next.seated;
           }
       one_more events old new says_broken restarted line seated (again, is, says) =

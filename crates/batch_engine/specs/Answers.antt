@@ -5,7 +5,7 @@ use Rattle.std.specs.List.{flat_map, list_any}
 use Rattle.cqe_base.specs.Schema.{Text, DatabaseSchema}
 use Rattle.cqe_base.specs.Facts.{FactSet}
 use Rattle.cqe_base.specs.Run.{Reply, desk_broken}
-use Rattle.cqe_base.specs.Transcript.{reply_line, restart_line, line_text}
+use Rattle.cqe_base.specs.Transcript.{purpose_of, reply_line, restart_line, line_text}
 use Rattle.batch_engine.specs.BatchLines.{NamedAsk}
 use Rattle.batch_engine.specs.declared.answer.Answer.{Answer}
 use Rattle.desk_crew.specs.Crew.{is_named, IsToldAt, Tells}
@@ -20,7 +20,7 @@ is_broken_reply reply = false
 abbrev pub answer_to : ℕ → NamedAsk → Option Reply → Answer
 answer_to number ask reply = record {
   number = number;
-  line = line_text (reply_line ask.name ask.session reply) ++ 10 ∷ [];
+  line = line_text (reply_line ask.name ask.caller reply) ++ 10 ∷ [];
   is_broken = is_broken_reply reply;
 }
 
@@ -65,7 +65,8 @@ module _ (schema : DatabaseSchema) (world : FactSet) where
     done : (number : ℕ) (seat : DeskSeat D g h) → OwnRun number [] seat seat []
     his : (number : ℕ) (ask : NamedAsk) (asks : List NamedAsk) (old mid new : DeskSeat D g h)
         (reply : Reply) (answers : List Answer)
-        → is_named ask.name old ≡ true → IsToldAt schema world ask.text reply old mid
+        → is_named ask.name old ≡ true
+        → IsToldAt schema world (purpose_of ask.caller) ask.text reply old mid
         → OwnRun (number + 1) asks mid new answers
         → OwnRun number (ask ∷ asks) old new (answer_to number ask (Some reply) ∷ answers)
     of_another : (number : ℕ) (ask : NamedAsk) (asks : List NamedAsk) (old new : DeskSeat D g h)
@@ -80,5 +81,6 @@ module _ (schema : DatabaseSchema) (world : FactSet) where
     no_ask : (seats : List (DeskSeat D g h)) → TellsEach [] seats seats []
     next_ask : (ask : NamedAsk) (asks : List NamedAsk) (old mid new : List (DeskSeat D g h))
         (reply : Option Reply) (replies : List (Option Reply))
-        → Tells schema world ask.name ask.text old mid reply → TellsEach asks mid new replies
+        → Tells schema world ask.name (purpose_of ask.caller) ask.text old mid reply
+        → TellsEach asks mid new replies
         → TellsEach (ask ∷ asks) old new (reply ∷ replies)

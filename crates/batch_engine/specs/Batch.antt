@@ -7,7 +7,8 @@ use Rattle.cqe_base.specs.Facts.{FactSet}
 use Rattle.cqe_base.specs.Censor.{IsLegal, admitted}
 use Rattle.cqe_base.specs.Headline.{HidesInScript}
 use Rattle.cqe_base.specs.Run.{Event, desk_broken, opening, replies, final_history}
-use Rattle.cqe_base.specs.Transcript.{NamedUser, ScriptEvent, script_ask, script_restart}
+use Rattle.cqe_base.specs.Transcript.{NamedUser, ScriptEvent, script_call}
+use Rattle.cqe_base.specs.Transcript.{script_restart}
 use Rattle.cqe_base.specs.Transcript.{script_opening, Line, reply_line, own_events, own_replies}
 use Rattle.cqe_base.specs.Transcript.{state_after, transcript, line_text}
 use Rattle.user_desk.specs.Causes.{Opens}
@@ -21,7 +22,7 @@ use Rattle.batch_engine.specs.BatchLines.{BatchItem, asked, restarted, batch_of}
 use Rattle.desk_crew.specs.Openings.{OpensNone, OpensWith}
 use Rattle.batch_engine.specs.Lives.{
   RoseBy,
-  is_ask,
+  is_call,
   is_opened,
   is_failed_append,
   IsStretchEnd,
@@ -33,10 +34,11 @@ use Rattle.batch_engine.specs.declared.run.BatchEnd.{BatchEnd}
 use Rattle.batch_engine.specs.declared.run.BatchEnd.TheVariants.{Done, Script as Refused, ReadFault}
 use Rattle.batch_engine.specs.declared.run.BatchEnd.TheVariants.{WriteFault, ShelfFault, Memory}
 
--- an event is of an item: an ask with some ending, or a restart with some choice for each name
+-- an event is of an item: a call with some ending, or a restart with some choice for each
+-- name
 abbrev pub IsEventOf : BatchItem → ScriptEvent → Type 0
-IsEventOf (asked ask) (script_ask name session text ending) =
-    (name ≡ ask.name) × (session ≡ ask.session) × (text ≡ ask.text)
+IsEventOf (asked ask) (script_call name caller text ending) =
+    (name ≡ ask.name) × (caller ≡ ask.caller) × (text ≡ ask.text)
 IsEventOf restarted (script_restart found opened) = Unit {0}
 IsEventOf item event = ⊥
 
@@ -46,7 +48,7 @@ AreEventsOf [] [] = Unit {0}
 AreEventsOf (item ∷ items) (event ∷ events) = IsEventOf item event × AreEventsOf items events
 AreEventsOf items events = ⊥
 
--- items of one stretch: asks, and maybe the restart that ends it
+-- items of one stretch: calls, and maybe the restart that ends it
 abbrev pub IsStretch : List BatchItem → Type 0
 IsStretch [] = Unit {0}
 IsStretch (asked ask ∷ items) = IsStretch items
@@ -58,7 +60,7 @@ line_bytes lines = flat_map (λ line. line_text line ++ 10 ∷ []) lines
 
 -- a line says that an append failed
 abbrev pub is_broken_line : Line → Bool
-is_broken_line (reply_line name session (Some desk_broken)) = true
+is_broken_line (reply_line name caller (Some desk_broken)) = true
 is_broken_line line = false
 
 -- a user before his journal is opened
@@ -119,9 +121,9 @@ module _ (schema : DatabaseSchema) (world : FactSet) (header : List ℕ) (journa
     pub size : list_any is_failed_append (own_events user.name events) ≡ false
         → IsNoLonger (journals.bytes user.name) (state_after schema world user events).entries
         (journals.reads user.name)
-    -- and unless one held and he asked, his journal is as it was
+    -- and unless one held and a call was made for him, his journal is as it was
     pub kept : (list_any is_opened (own_events user.name events)
-        && list_any is_ask (own_events user.name events)) ≡ false → KeepsJournal journals user.name
+        && list_any is_call (own_events user.name events)) ≡ false → KeepsJournal journals user.name
     -- At each moment since his journal was first opened each crash leaves his history behind some
     -- first of his events, or this and the entry in flight; before that, and where no opening held,
     -- nothing new.

@@ -1,6 +1,7 @@
 -- What one line of a batch says, and what its lines add up to.
 use Rattle.std.specs.Prelude.{◌==◌, ℕ, ◌+◌, ◌-◌, ◌*◌, not, ◌&&◌, nat_le, List, [], ◌∷◌, ◌++◌}
 use Rattle.std.specs.Prelude.{Option, Some, None, Result, Ok, Err, if◌then◌else◌, codes, bytes_eq}
+use Rattle.std.specs.Prelude.{option_map}
 use Rattle.std.specs.List.{list_all, list_any, before_first, after_first}
 use Rattle.std.specs.Char.{is_ascii_digit}
 use Rattle.cqe_base.specs.declared.text.ScriptKind.{ScriptKind}
@@ -8,14 +9,15 @@ use Rattle.cqe_base.specs.declared.text.ScriptKind.TheVariants.{NotALine}
 use Rattle.cqe_base.specs.declared.text.ScriptError.{ScriptError}
 use Rattle.cqe_base.specs.Schema.{Text, is_schema_name}
 use Rattle.cqe_base.specs.Tokens.{is_blank}
+use Rattle.cqe_base.specs.Transcript.{Caller, by_session, by_operator}
 use Rattle.line_protocol.specs.Words.{is_printable}
 use Rattle.script_lines.specs.Scripts.{script_from}
 use Rattle.script_lines.specs.Silence.{is_silent}
 
--- an ask of a named user in one of his sessions
+-- an ask of a named user in one of his sessions, or a text that an operator adds to his secrets
 pub record NamedAsk : Type 0 where
   pub name : Text
-  pub session : ℕ
+  pub caller : Caller
   pub text : Text
 
 -- what a line says
@@ -27,7 +29,7 @@ pub data BatchLine : Type 0 where
 
 -- what is to be done in a batch
 pub data BatchItem : Type 0 where
-  -- an ask is to be answered
+  -- a call is to be answered
   asked : (ask : NamedAsk) → BatchItem
   -- every desk is to be closed and opened again
   restarted : BatchItem
@@ -41,6 +43,12 @@ session_number (a ∷ b ∷ []) =
     then Some (10 * (a - 48) + (b - 48)) else None
 session_number _ = None
 
+-- who makes a call, by one word: `op`, or the number of a session
+abbrev pub caller_named : Text → Option Caller
+caller_named word =
+    if bytes_eq word (codes "op") then Some by_operator
+    else option_map by_session (session_number word)
+
 -- the text of an ask: `ask`, one blank, and the text, or `ask` alone, which asks the empty text
 abbrev pub ask_text : Text → Option Text
 ask_text request =
@@ -49,22 +57,40 @@ ask_text request =
     then Some (after_first is_blank request) else None)
     else (if bytes_eq request (codes "ask") then Some [] else None)
 
--- the ask of a name with a session and a text, if both are there
-abbrev pub ask_of : Text → Option ℕ → Option Text → Option BatchLine
-ask_of name (Some session) (Some text) =
-    Some (asks (record { name = name; session = session; text = text }))
-ask_of name (Some session) None = None
-ask_of name None text = None
+-- the text of an addition: `protect`, one blank, and the text
+abbrev pub secret_text : Text → Option Text
+secret_text request =
+    if list_any is_blank request
+    then (if bytes_eq (before_first is_blank request) (codes "protect")
+    then Some (after_first is_blank request) else None)
+    else None
 
--- a name of the form of a constant's, one blank, a session, one blank, and `ask TEXT` or `ask`
+-- the text of a request, by who makes it
+abbrev pub request_text : Caller → Text → Option Text
+request_text (by_session number) request = ask_text request
+request_text by_operator request = secret_text request
+
+-- the call for a name with a text, if that is there
+abbrev pub ask_of : Text → Caller → Option Text → Option BatchLine
+ask_of name caller (Some text) =
+    Some (asks (record { name = name; caller = caller; text = text }))
+ask_of name caller None = None
+
+-- the call for a name that is a request of a caller, if there is one
+abbrev pub ask_by : Text → Option Caller → Text → Option BatchLine
+ask_by name (Some caller) request = ask_of name caller (request_text caller request)
+ask_by name None request = None
+
+-- a name of the form of a constant's, one blank, a caller, one blank, and his request: `ask TEXT`
+-- or `ask` of a session, `protect TEXT` of an operator
 abbrev pub named_ask : Text → Text → Option BatchLine
 named_ask name rest =
     if is_schema_name name && list_any is_blank rest
-    then ask_of name (session_number (before_first is_blank rest))
-    (ask_text (after_first is_blank rest)) else None
+    then ask_by name (caller_named (before_first is_blank rest)) (after_first is_blank rest)
+    else None
 
--- the line of a first word, and the text behind the blank that ends it: `* restart`, or an ask of a
--- name
+-- the line of a first word, and the text behind the blank that ends it: `* restart`, or a call for
+-- a name
 abbrev pub worded : Text → Text → Option BatchLine
 worded word rest =
     if bytes_eq word (codes "*")

@@ -4,12 +4,17 @@ use Rattle.std.specs.List.{list_all}
 use Rattle.std.specs.declared.alloc.Global.{Global}
 use Rattle.batch_engine.specs.BatchLines.{NamedAsk, BatchItem, asked, restarted}
 use Rattle.batch_engine.specs.Said.{is_short_ask}
+use Rattle.batch_engine.specs.Callers.{caller_in}
 use Rattle.batch_engine.specs.declared.batch.BatchAsk.{BatchAsk}
 
 -- an ask in memory
 abbrev pub ask_in : BatchAsk → NamedAsk
 ask_in ask =
-    record { name = string_bytes ask.name; session = ask.session; text = string_bytes ask.text }
+    record {
+      name = string_bytes ask.name;
+      caller = caller_in ask.caller;
+      text = string_bytes ask.text;
+    }
 
 -- the asks of a stretch
 abbrev pub asks_in : List BatchAsk → List NamedAsk

@@ -1,4 +1,5 @@
 pub mod BatchLines
+pub mod Callers
 pub mod Said
 pub mod Batches
 pub mod BatchOf

@@ -6,10 +6,12 @@ use Rattle.batch_engine.specs.BatchLines.{restarted}
 use Rattle.batch_engine.specs.declared.line.BatchLine.{BatchLine}
 use Rattle.batch_engine.specs.declared.line.BatchLine.TheVariants.{Silence, Restart, Ask}
 use Rattle.batch_engine.specs.declared.line.LineAsk.{LineAsk}
+use Rattle.batch_engine.specs.Callers.{caller_in, is_short_caller}
 
 -- the ask whose parts are slices of a line
 abbrev pub ask_said : LineAsk → NamedAsk
-ask_said ask = record { name = ask.name.now; session = ask.session; text = ask.text.now }
+ask_said ask =
+    record { name = ask.name.now; caller = caller_in ask.caller; text = ask.text.now }
 
 -- what a line in memory says
 abbrev pub said : BatchLine → BatchLines.BatchLine
@@ -17,11 +19,11 @@ said Silence = silence
 said Restart = restarts
 said (Ask ask) = asks (ask_said ask)
 
--- whether its name has at most 32 bytes, its session is at most 64, and its text has at most 4,096
+-- whether its name has at most 32 bytes, a session is at most 64, and its text has at most 4,096
 -- bytes
 abbrev pub is_short_ask : NamedAsk → Bool
 is_short_ask ask =
-    (nat_le (length ask.name) 32 && nat_le ask.session 64) && nat_le (length ask.text) 4096
+    (nat_le (length ask.name) 32 && is_short_caller ask.caller) && nat_le (length ask.text) 4096
 
 -- the ask of a line is short
 abbrev pub IsShortLine : BatchLine → Type 0

@@ -6,7 +6,7 @@ use Rattle.cqe_base.specs.Schema.{DatabaseSchema}
 use Rattle.cqe_base.specs.Facts.{FactSet}
 use Rattle.cqe_base.specs.Run.{Reply}
 use Rattle.batch_engine.specs.Answers.{is_broken_reply}
-use Rattle.cqe_base.specs.Transcript.{reply_line, restart_line, line_text}
+use Rattle.cqe_base.specs.Transcript.{purpose_of, reply_line, restart_line, line_text}
 use Rattle.batch_engine.specs.BatchLines.{BatchItem, asked, restarted}
 use Rattle.desk_crew.specs.Crew.{Tells, AreReopened}
 use Rattle.desk_crew.specs.Seats.{DeskSeat}
@@ -23,13 +23,14 @@ restart_bytes false = []
 
 module _ (schema : DatabaseSchema) (world : FactSet) (header : List ℕ) {D : Type 0}
     (Disk : DiskGhosts D) where
-  -- what an item does: an ask is replied to by the user of its name, and a restart closes and opens
-  -- every desk; its line, and whether that says that an append failed
+  -- what an item does: a call is replied to for the user of its name, and a restart closes and
+  -- opens every desk; its line, and whether that says that an append failed
   abbrev pub Carries : {g h : _} → BatchItem → List (DeskSeat D g h) → List (DeskSeat D g h)
       → List ℕ → Bool → Type 0
   Carries (asked ask) old new line is_broken =
-      (reply : Option Reply) × Tells schema world ask.name ask.text old new reply
-      × (line ≡ line_text (reply_line ask.name ask.session reply) ++ 10 ∷ [])
+      (reply : Option Reply)
+      × Tells schema world ask.name (purpose_of ask.caller) ask.text old new reply
+      × (line ≡ line_text (reply_line ask.name ask.caller reply) ++ 10 ∷ [])
       × (is_broken ≡ is_broken_reply reply)
   Carries restarted old new line is_broken =
       AreReopened schema world header Disk old new

@@ -6,21 +6,21 @@ ghost use Rattle.batch_engine.specs.BatchLines.{asked, restarted};
 ghost use Rattle.batch_engine.specs.Said.{ask_said, is_short_ask, is_short_item};
 ghost use Rattle.batch_engine.specs.Batches.{items_in, AreShort};
 
-use crate::line::{BatchLine, LineAsk, batch_line};
+use crate::line::{BatchLine, Caller, LineAsk, batch_line};
 use cqe_base::text::ScriptKind;
 use script_lines::LineError;
 use std::alloc::{AllocError, Global};
 use std::mem;
 
-/// An ask of a named user in one of his sessions.
+/// An ask of a named user in one of his sessions, or a text that an operator adds to his secrets.
 #[derive(Drop)]
 pub struct BatchAsk {
     pub name: String,
-    pub session: u8,
+    pub caller: Caller,
     pub text: String,
 }
 
-/// What is to be done, in order: stretches of asks, with a restart between two of them.
+/// What is to be done, in order: stretches of calls, with a restart between two of them.
 #[derive(Drop)]
 pub struct Batch {
     // The stretches that a restart ended.
@@ -67,12 +67,8 @@ impl Batch {
     {
         let name = String::from_str(alloc, ask.name)?;
         let text = String::from_str(alloc, ask.text)?;
-        let session = ask.session;
-        self.last.push(BatchAsk {
-            name,
-            session,
-            text,
-        })?;
+        let caller = ask.caller;
+        self.last.push(BatchAsk { name, caller, text })?;
         Ok(())
     }
 

@@ -1,22 +1,36 @@
 //! What one line of a batch says, by its shape alone.
 
 ghost use Rattle.std.specs.Prelude.{◌≡◌, ◌≤◌, true, Some, None, length, option_map, IfSome};
-ghost use Rattle.std.specs.Prelude.{bytes_eq, codes, if◌then◌else◌};
+ghost use Rattle.std.specs.Prelude.{bytes_eq, if◌then◌else◌};
 ghost use Rattle.std.specs.List.{list_all, list_any};
 ghost use Rattle.line_protocol.specs.Words.{is_printable};
-ghost use Rattle.batch_engine.specs.BatchLines.{session_number, ask_text, ask_of, named_ask};
+ghost use Rattle.batch_engine.specs.BatchLines.{session_number, caller_named, ask_text};
+ghost use Rattle.batch_engine.specs.BatchLines.{secret_text, request_text, ask_of, ask_by};
+ghost use Rattle.batch_engine.specs.BatchLines.{named_ask};
 ghost use Rattle.batch_engine.specs.BatchLines.{worded, spoken, batch_line};
+ghost use Rattle.batch_engine.specs.Callers.{caller_in, is_short_caller};
+ghost use Rattle.cqe_base.specs.Transcript.{purpose_of};
 ghost use Rattle.batch_engine.specs.Said.{said, IsShortLine};
 
 use cqe_base::declarations::is_schema_name;
+use cqe_base::user::Purpose;
 use line_protocol::words::{are_printable, printable_text, split_at_blank};
 use script_lines::is_silent;
 
-/// An ask in the slices of its line.
+/// Who makes a call for a user.
+#[derive(Clone, Copy, Debug, PartialEq, Eq)]
+pub enum Caller {
+    /// He himself, in a session of this number.
+    Session(u8),
+    /// An operator, who adds a secret.
+    Operator,
+}
+
+/// A call in the slices of its line.
 #[derive(Clone, Copy, Debug, PartialEq, Eq)]
 pub struct LineAsk<'a> {
     pub name: &'a str,
-    pub session: u8,
+    pub caller: Caller,
     pub text: &'a str,
 }
 
@@ -27,7 +41,7 @@ pub enum BatchLine<'a> {
     Silence,
     /// `* restart`.
     Restart,
-    /// `NAME SESSION ask TEXT` or `NAME SESSION ask`.
+    /// `NAME SESSION ask TEXT` or `NAME SESSION ask`, or `NAME op protect TEXT`.
     Ask(LineAsk<'a>),
 }
 
@@ -46,6 +60,29 @@ fn session_number(text: &[u8]) -> Option<u8>
     }
 }
 
+/// Who makes a call, by one word.
+fn caller_named(word: &[u8]) -> Option<Caller>
+    requires { list_all is_printable word.now ≡ true }
+    ensures caller { option_map caller_in result ≡ caller_named word.now }
+    ensures short { IfSome result (λ caller. is_short_caller (caller_in caller) ≡ true) }
+{
+    if printable_text(word) == "op" {
+        return Some(Caller::Operator);
+    }
+    let number = session_number(word)?;
+    Some(Caller::Session(number))
+}
+
+/// What a call is made for.
+pub(crate) fn purpose_of(caller: Caller) -> Purpose
+    ensures { result ≡ purpose_of (caller_in caller) }
+{
+    match caller {
+        Caller::Session(_) => Purpose::Asking,
+        Caller::Operator => Purpose::Protecting,
+    }
+}
+
 /// The text of an ask, if it is one.
 fn ask_text(request: &[u8]) -> Option<&str>
     requires printable { list_all is_printable request.now ≡ true }
@@ -54,40 +91,73 @@ fn ask_text(request: &[u8]) -> Option<&str>
     ensures short { IfSome result (λ t. length t.now ≤ 4096) }
 {
     match split_at_blank(request) {
-        Some((word, text)) => text_behind(printable_text(word), printable_text(text)),
-        None => text_behind(printable_text(request), ""),
+        Some((word, text)) => text_behind(printable_text(word), "ask", printable_text(text)),
+        None => text_behind(printable_text(request), "ask", ""),
     }
 }
 
-/// The text behind a word, if that is `ask`.
-fn text_behind<'a>(word: &str, text: &'a str) -> Option<&'a str>
-    requires { length text.now ≤ 4096 }
-    ensures text { option_map (λ t. t.now) result
-        ≡ (if bytes_eq word.now (codes "ask") then Some text.now else None) }
+/// The text of an addition, if it is one.
+fn secret_text(request: &[u8]) -> Option<&str>
+    requires printable { list_all is_printable request.now ≡ true }
+    requires short { length request.now ≤ 4096 }
+    ensures text { option_map (λ t. t.now) result ≡ secret_text request.now }
     ensures short { IfSome result (λ t. length t.now ≤ 4096) }
 {
-    if word == "ask" { Some(text) } else { None }
+    let (word, text) = split_at_blank(request)?;
+    text_behind(printable_text(word), "protect", printable_text(text))
 }
 
-/// The ask of a name with a session and a text, if both are there.
-fn ask_of<'a>(name: &'a str, session: Option<u8>, text: Option<&'a str>) -> Option<BatchLine<'a>>
+/// The text behind a first word, if that is the one that is looked for.
+fn text_behind<'a>(first: &str, word: &str, text: &'a str) -> Option<&'a str>
+    requires { length text.now ≤ 4096 }
+    ensures text { option_map (λ t. t.now) result
+        ≡ (if bytes_eq first.now word.now then Some text.now else None) }
+    ensures short { IfSome result (λ t. length t.now ≤ 4096) }
+{
+    if first == word { Some(text) } else { None }
+}
+
+/// The text of a request, by who makes it.
+fn request_text(caller: Caller, request: &[u8]) -> Option<&str>
+    requires printable { list_all is_printable request.now ≡ true }
+    requires short { length request.now ≤ 4096 }
+    ensures text { option_map (λ t. t.now) result ≡ request_text (caller_in caller) request.now }
+    ensures short { IfSome result (λ t. length t.now ≤ 4096) }
+{
+    match caller {
+        Caller::Session(_) => ask_text(request),
+        Caller::Operator => secret_text(request),
+    }
+}
+
+/// The call for a name with a text, if that is there.
+fn ask_of<'a>(name: &'a str, caller: Caller, text: Option<&'a str>) -> Option<BatchLine<'a>>
     requires name { length name.now ≤ 32 }
-    requires session { IfSome session (λ n. n ≤ 64) }
+    requires caller { is_short_caller (caller_in caller) ≡ true }
     requires text { IfSome text (λ t. length t.now ≤ 4096) }
     ensures says { option_map said result
-        ≡ ask_of name.now session (option_map (λ t. t.now) text.entry) }
+        ≡ ask_of name.now (caller_in caller) (option_map (λ t. t.now) text.entry) }
     ensures short { IfSome result IsShortLine }
 {
-    let session = session?;
     let text = text?;
-    Some(BatchLine::Ask(LineAsk {
-        name,
-        session,
-        text,
-    }))
+    Some(BatchLine::Ask(LineAsk { name, caller, text }))
 }
 
-/// The ask of a name and what stands behind it.
+/// The call for a name that is a request of a caller, if there is one.
+fn ask_by<'a>(name: &'a str, caller: Option<Caller>, request: &'a [u8]) -> Option<BatchLine<'a>>
+    requires name { length name.now ≤ 32 }
+    requires caller { IfSome caller (λ who. is_short_caller (caller_in who) ≡ true) }
+    requires printable { list_all is_printable request.now ≡ true }
+    requires short { length request.now ≤ 4096 }
+    ensures says { option_map said result
+        ≡ ask_by name.now (option_map caller_in caller) request.now }
+    ensures short { IfSome result IsShortLine }
+{
+    let caller = caller?;
+    ask_of(name, caller, request_text(caller, request))
+}
+
+/// The call for a name and what stands behind it.
 fn named_ask<'a>(name: &'a str, rest: &'a [u8]) -> Option<BatchLine<'a>>
     requires printable { list_all is_printable rest.now ≡ true }
     requires short { length rest.now ≤ 4096 }
@@ -97,8 +167,8 @@ fn named_ask<'a>(name: &'a str, rest: &'a [u8]) -> Option<BatchLine<'a>>
     if !is_schema_name(name) {
         return None;
     }
-    let (session, request) = split_at_blank(rest)?;
-    ask_of(name, session_number(session), ask_text(request))
+    let (caller, request) = split_at_blank(rest)?;
+    ask_by(name, caller_named(caller), request)
 }
 
 /// The line of a first word and the text behind the blank that ends it.
@@ -129,7 +199,7 @@ fn spoken(line: &[u8]) -> Option<BatchLine<'_>>
     worded(printable_text(word), rest)
 }
 
-/// What a line says, if it has one of the shapes. An ask has a short name, session and text.
+/// What a line says, if it has one of the shapes. A call has a short name, session and text.
 #[tactic(auto, unfolding(crate::specs::BatchLines::batch_line))]
 pub fn batch_line(line: &[u8]) -> Option<BatchLine<'_>>
     requires { length line.now ≤ 4096 }

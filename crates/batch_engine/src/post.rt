@@ -15,8 +15,9 @@ ghost use Rattle.batch_engine.specs.Posts.{seat_of, answers_at, names_of};
 
 use crate::answer::{Answer, answer_to};
 use crate::batch::BatchAsk;
+use crate::line::purpose_of;
 use desk_counter::{Owned, TicketedDesk};
-use desk_crew::{DeskSeat, Seat, ask_at, room_for};
+use desk_crew::{DeskSeat, Seat, call_at, room_for};
 use outside::{Disk, Gate};
 use std::alloc::{AllocError, Global};
 use std::sync::Wait;
@@ -99,7 +100,14 @@ fn answer_own<R: Threads + Wait + Sync, G: Gate, D: Disk>(
 {
     for (number, ask) in asks.iter().enumerate() {
         if post.seat.user.name.as_str() == ask.name.as_str() {
-            let reply = ask_at(rt, alloc, &mut post.seat, ask.text.as_str(), gate);
+            let reply = call_at(
+                rt,
+                alloc,
+                &mut post.seat,
+                purpose_of(ask.caller),
+                ask.text.as_str(),
+                gate,
+            );
             post.answers
                 .push_reserved(answer_to(number, ask, Some(reply)));
         }

@@ -3,16 +3,17 @@ use Rattle.std.proofs.Common.{◌≡◌, inl, inr, ℕ, suc, Bool, true, false, 
 use Rattle.std.specs.Prelude.{Option, None, Result, Ok, Err, option_to_list, if◌then◌else◌}
 use Rattle.std.specs.List.{AllByRecursion}
 use Rattle.std.proofs.lemmas.Grind.{common_steps}
+use Rattle.cqe_base.specs.declared.user.Purpose.TheVariants.{Asking}
 use Rattle.cqe_base.specs.Schema.{Text, DatabaseSchema, is_valid_schema}
 use Rattle.cqe_base.specs.Facts.{FactSet}
 use Rattle.cqe_base.specs.Formula.{Formula}
 use Rattle.cqe_base.specs.Reading.{Refusal, reading}
 use Rattle.cqe_base.specs.History.{UserProfile, AnsweredQuery, History, is_user_of}
 use Rattle.cqe_base.specs.Censor.{admitted, EmptyHistoryIsLegal}
-use Rattle.cqe_base.specs.Headline.{RunsStayLegal}
+use Rattle.cqe_base.specs.Headline.{RunsStayLegal, RunsStayOfSchema}
 use Rattle.cqe_base.specs.Hiding.{LegalHistoriesHide}
-use Rattle.cqe_base.specs.Run.{Reply, Standing, standing_open, standing_closed, user_closed, Ending, want, kept, Event, ask, UserState, opening, after_event}
-use Rattle.cqe_base.specs.Run.{after_events, replies_from, replies_to_event, reply_to_ask, replies, final_history, entry_added}
+use Rattle.cqe_base.specs.Run.{Reply, Standing, standing_open, standing_closed, user_closed, Ending, want, kept, Event, call, UserState, opening, after_event}
+use Rattle.cqe_base.specs.Run.{after_events, replies_from, replies_to_event, reply_to_call, replies, final_history, entry_added}
 use Rattle.cqe_base.specs.Transcript.{reply_text}
 use Rattle.cqe_base.proofs.Runs.{after_events-push}
 use Rattle.user_log.specs.Asked.{IsAsked, wanted, answered}
@@ -22,11 +23,11 @@ use Rattle.case_engine.specs.Case.{ask_events, IsKeptOrWant, reply_lines, Answer
 -- ---- lists
 
 ask_events-push : (asks : List Text) (endings : List Ending) (text : Text) (ending : Ending) → length endings ≡ length asks
-    → ask_events (asks ++ text ∷ []) (endings ++ ending ∷ []) ≡ ask_events asks endings ++ ask text ending ∷ []
+    → ask_events (asks ++ text ∷ []) (endings ++ ending ∷ []) ≡ ask_events asks endings ++ call Asking text ending ∷ []
 ask_events-push [] [] text ending same = refl
 ask_events-push [] (e ∷ endings) text ending same = absurd (omega arith)
 ask_events-push (t ∷ asks) [] text ending same = absurd (omega arith)
-ask_events-push (t ∷ asks) (e ∷ endings) text ending same = ap (λ events. ask t e ∷ events) (ask_events-push asks endings text ending (omega arith))
+ask_events-push (t ∷ asks) (e ∷ endings) text ending same = ap (λ events. call Asking t e ∷ events) (ask_events-push asks endings text ending (omega arith))
 
 all_push : (endings : List Ending) (ending : Ending) → AllByRecursion IsKeptOrWant endings → IsKeptOrWant ending
     → AllByRecursion IsKeptOrWant (endings ++ ending ∷ [])
@@ -46,7 +47,7 @@ module _ (schema : DatabaseSchema) (world : FactSet) (user : UserProfile) where
   replies_count state [] endings same = refl
   replies_count state (text ∷ asks) [] same = absurd (omega arith)
   replies_count state (text ∷ asks) (ending ∷ endings) same =
-      ap suc (replies_count (after_event schema world user state (ask text ending)) asks endings (omega (arith, same)))
+      ap suc (replies_count (after_event schema world user state (call Asking text ending)) asks endings (omega (arith, same)))
 
   replies_from-push : (state : UserState) (events : List Event) (event : Event)
       → replies_from schema world user state (events ++ event ∷ [])
@@ -90,8 +91,9 @@ module _ (schema : DatabaseSchema) (world : FactSet) (user : UserProfile) where
 
   -- one more ask with this ending, its reply and the state behind it
   pushed : (is_open : Bool) (asks : List Text) (output : List ℕ) (history new : History) (text : Text) (told : Reply) (ending : Ending)
-      → SoFar is_open asks output history → IsKeptOrWant ending → replies_to_event schema world user (state_with is_open history) (ask text ending) ≡ told ∷ []
-      → after_event schema world user (state_with is_open history) (ask text ending) ≡ state_with is_open new
+      → SoFar is_open asks output history → IsKeptOrWant ending
+      → replies_to_event schema world user (state_with is_open history) (call Asking text ending) ≡ told ∷ []
+      → after_event schema world user (state_with is_open history) (call Asking text ending) ≡ state_with is_open new
       → SoFar is_open (asks ++ text ∷ []) (output ++ (reply_text told ++ 10 ∷ [])) new
   pushed is_open asks output history new text told ending so_far here replied next =
       let start = opening schema world user [] in
@@ -105,11 +107,11 @@ module _ (schema : DatabaseSchema) (world : FactSet) (user : UserProfile) where
             ap (λ o. o ++ (reply_text told ++ 10 ∷ [])) so_far.lines
             ∙ one_line (replies_from schema world user start before) told
             ∙ sym (ap (λ r. reply_lines (replies_from schema world user start before ++ r))
-            (ap (λ s. replies_to_event schema world user s (ask text ending)) so_far.state ∙ replied))
-            ∙ sym (ap reply_lines (ap (replies_from schema world user start) events ∙ replies_from-push start before (ask text ending)));
+            (ap (λ s. replies_to_event schema world user s (call Asking text ending)) so_far.state ∙ replied))
+            ∙ sym (ap reply_lines (ap (replies_from schema world user start) events ∙ replies_from-push start before (call Asking text ending)));
         state =
-            ap (after_events schema world user start) events ∙ after_events-push schema world user start before (ask text ending)
-            ∙ ap (λ s. after_event schema world user s (ask text ending)) so_far.state ∙ next;
+            ap (after_events schema world user start) events ∙ after_events-push schema world user start before (call Asking text ending)
+            ∙ ap (λ s. after_event schema world user s (call Asking text ending)) so_far.state ∙ next;
       }
 
   same_entries : (history : History) (added : Option AnsweredQuery) → added ≡ None → history ++ option_to_list added ≡ history
@@ -124,11 +126,11 @@ module _ (schema : DatabaseSchema) (world : FactSet) (user : UserProfile) where
   pub record OneAsk (is_open : Bool) (history new : History) (text : Text) (told : Reply) : Type 0 where
     pub ending : Ending
     pub kept_or_want : IsKeptOrWant ending
-    pub replied : reply_to_ask schema world user (state_with is_open history) text ending ≡ told
-    pub next : after_event schema world user (state_with is_open history) (ask text ending) ≡ state_with is_open new
+    pub replied : reply_to_call schema world user (state_with is_open history) Asking text ending ≡ told
+    pub next : after_event schema world user (state_with is_open history) (call Asking text ending) ≡ state_with is_open new
 
   -- a user who is admitted is told what his log answers
-  one_open : (history new : History) (text : Text) (told : Reply) → IsAsked schema world user history new text told → OneAsk true history new text told
+  one_open : (history new : History) (text : Text) (told : Reply) → IsAsked schema world user history new Asking text told → OneAsk true history new text told
   one_open history new text told (wanted same) = record { ending = want; kept_or_want = inr refl; replied = refl; next = ap (state_with true) (sym same) }
   one_open history new text told (answered is added) = record {
     ending = kept;
@@ -160,9 +162,10 @@ module _ (schema : DatabaseSchema) (world : FactSet) (user : UserProfile) where
   -- ---- the end of the run
 
   pub answers_asks : (is_open : Bool) (asks : List Text) (output : List ℕ) (history : History) → SoFar is_open asks output history → EmptyHistoryIsLegal
-      → RunsStayLegal → LegalHistoriesHide → is_valid_schema schema ≡ true → is_user_of schema user ≡ true → AnswersCase schema world user asks output
+      → RunsStayLegal → RunsStayOfSchema → LegalHistoriesHide → is_valid_schema schema ≡ true → is_user_of schema user ≡ true
+      → AnswersCase schema world user asks output
   unfolding replies
-  answers_asks is_open asks output history so_far empty runs hide valid is_user =
+  answers_asks is_open asks output history so_far empty runs of_schema hide valid is_user =
       let legal = runs schema world user [] (ask_events asks so_far.endings) (empty schema world user) in
       record {
         endings = so_far.endings;
@@ -170,5 +173,6 @@ module _ (schema : DatabaseSchema) (world : FactSet) (user : UserProfile) where
         kept_or_want = so_far.kept_or_want;
         lines = so_far.lines;
         legal = legal;
-        hides = λ is_admitted. hide schema world user (final_history schema world user [] (ask_events asks so_far.endings)) valid is_user is_admitted legal;
+        hides = λ is_admitted. hide schema world user (final_history schema world user [] (ask_events asks so_far.endings)) valid is_user
+            (of_schema schema world user [] (ask_events asks so_far.endings) refl) is_admitted legal;
       }

@@ -10,7 +10,7 @@ use Rattle.cqe_base.specs.Schema.{Text, DatabaseSchema, is_valid_schema}
 use Rattle.cqe_base.specs.Facts.{FactSet}
 use Rattle.cqe_base.specs.History.{UserProfile, History, is_user_of}
 use Rattle.cqe_base.specs.Censor.{admitted, EmptyHistoryIsLegal}
-use Rattle.cqe_base.specs.Headline.{RunsStayLegal}
+use Rattle.cqe_base.specs.Headline.{RunsStayLegal, RunsStayOfSchema}
 use Rattle.cqe_base.specs.Hiding.{LegalHistoriesHide}
 use Rattle.cqe_base.specs.Run.{Reply, opening, replies_from}
 use Rattle.cqe_base.specs.Transcript.{reply_text}
@@ -47,14 +47,15 @@ module _ (schema : DatabaseSchema) (world : FactSet) (user : UserProfile) (is_op
   told_more asks i text old before after line history new told (output, written, so_far) next appended is here =
       (output ++ line, appended ∙ ap (λ w. w ++ line) written ∙ append_assoc old output line, more asks i text output line history new told so_far next is here)
 
-  module _ (empty : EmptyHistoryIsLegal) (runs : RunsStayLegal) (hide : LegalHistoriesHide) (valid : is_valid_schema schema ≡ true)
+  module _ (empty : EmptyHistoryIsLegal) (runs : RunsStayLegal) (of_schema : RunsStayOfSchema) (hide : LegalHistoriesHide)
+      (valid : is_valid_schema schema ≡ true)
       (is_user : is_user_of schema user ≡ true) where
     -- at the end
     pub told_all : (asks : List Text) (old new : List ℕ) (history : History) → Told asks old new history → AppendsReplies schema world user asks old new
     told_all asks old new history (output, written, so_far) = record {
       written = output;
       appended = written;
-      answers = answers_asks schema world user is_open asks output history so_far empty runs hide valid is_user;
+      answers = answers_asks schema world user is_open asks output history so_far empty runs of_schema hide valid is_user;
     }
 
     -- where the sink failed in the middle of a line
@@ -86,7 +87,7 @@ module _ (schema : DatabaseSchema) (world : FactSet) (user : UserProfile) (is_op
               (ap (λ o. o ++ line) so_far.lines ∙ ap (λ l. reply_lines whole ++ l) is
               ∙ one_line whole told)
               (answers_asks schema world user is_open (map string_bytes (take (i + 1) asks)) (output ++ line) new
-              (more asks i text output line history new told so_far next is here) empty runs hide valid is_user));
+              (more asks i text output line history new told so_far next is here) empty runs of_schema hide valid is_user));
         }
 
 -- an ask of a script is short

@@ -1,6 +1,7 @@
 -- A script that was read, and one reply to it.
 use Rattle.std.specs.Prelude.{◌≡◌, Bool, true, false, nat_le, length, map, string_bytes}
 use Rattle.std.specs.List.{list_all}
+use Rattle.cqe_base.specs.declared.user.Purpose.TheVariants.{Asking}
 use Rattle.cqe_base.specs.Schema.{Text, DatabaseSchema}
 use Rattle.cqe_base.specs.Facts.{FactSet}
 use Rattle.cqe_base.specs.History.{UserProfile, History, profile_of, is_user_of}
@@ -27,5 +28,6 @@ pub record ArePartsOf (script : Script) (parts : Parts) : Type 0 where
 -- what a user who is admitted, or isn't, is told of a text, and his entries before and after
 abbrev pub IsTold : Bool → DatabaseSchema → FactSet → UserProfile → History → History → Text
     → Run.Reply → Type 0
-IsTold true schema world user old new text told = IsAsked schema world user old new text told
+IsTold true schema world user old new text told =
+    IsAsked schema world user old new Asking text told
 IsTold false schema world user old new text told = (told ≡ user_closed) × (new ≡ old)

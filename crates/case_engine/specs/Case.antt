@@ -1,11 +1,12 @@
 -- What a case writes, and what its lines mean for its user.
 use Rattle.std.specs.Prelude.{◌≡◌, ◌⊎◌, ℕ, true, List, [], ◌∷◌, ◌++◌, length, take, Ok, Err}
 use Rattle.std.specs.List.{flat_map, AllByRecursion}
+use Rattle.cqe_base.specs.declared.user.Purpose.TheVariants.{Asking}
 use Rattle.cqe_base.specs.Schema.{Text, DatabaseSchema}
 use Rattle.cqe_base.specs.Facts.{FactSet}
 use Rattle.cqe_base.specs.History.{UserProfile}
 use Rattle.cqe_base.specs.Censor.{IsLegal, admitted}
-use Rattle.cqe_base.specs.Run.{Reply, Ending, want, kept, Event, ask, replies, final_history}
+use Rattle.cqe_base.specs.Run.{Reply, Ending, want, kept, Event, call, replies, final_history}
 use Rattle.cqe_base.specs.Transcript.{reply_text}
 use Rattle.cqe_base.specs.Hiding.{Hides}
 use Rattle.script_lines.specs.Read.{IsReadThrough}
@@ -18,7 +19,8 @@ use Rattle.case_engine.specs.declared.case.CaseEnd.TheVariants.{WriteFault, Memo
 abbrev pub ask_events : List Text → List Ending → List Event
 ask_events [] endings = []
 ask_events (text ∷ asks) [] = []
-ask_events (text ∷ asks) (ending ∷ endings) = ask text ending ∷ ask_events asks endings
+ask_events (text ∷ asks) (ending ∷ endings) =
+    call Asking text ending ∷ ask_events asks endings
 
 -- an ask of a case keeps its entry or finds no memory
 abbrev pub IsKeptOrWant : Ending → Type 0

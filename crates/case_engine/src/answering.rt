@@ -18,7 +18,7 @@ ghost use Rattle.case_engine.specs.Written.{IsAnswered};
 use crate::case::CaseEnd;
 use crate::parts::Parts;
 use censors::{Admission, admit};
-use cqe_base::laws::{law_hides, law_legal_grows, law_runs_legal};
+use cqe_base::laws::{law_hides, law_legal_grows, law_runs_legal, law_runs_of_schema};
 use cqe_base::schema::Schema;
 use cqe_base::user::User;
 use cqe_base::world::World;
@@ -88,6 +88,7 @@ pub fn answer_all<R: Threads + Sync, K: Sink>(
     law_hides();
     law_legal_grows();
     law_runs_legal();
+    law_runs_of_schema();
     parts.schema.known();
     if parts.asks.is_empty() {
         return CaseEnd::Done;

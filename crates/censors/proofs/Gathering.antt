@@ -14,7 +14,7 @@ use Rattle.cqe_base.specs.Schema.{DatabaseSchema}
 use Rattle.cqe_base.specs.Formula.{Formula, nodes, is_sentence_of}
 use Rattle.cqe_base.specs.Entailment.{Signed, entails}
 use Rattle.cqe_base.specs.History.{profile_of}
-use Rattle.cqe_base.specs.Limits.{KeepsLimits, LimitsFitProbes}
+use Rattle.cqe_base.specs.Limits.{FitsProbes}
 use Rattle.cqe_base.specs.Censor.{guarded_by, with_query, with_negation}
 use Rattle.std.specs.Prelude.{nat_le}
 use Rattle.entailment.specs.Logs.{log_nodes}
@@ -151,19 +151,17 @@ module _ (user : User) (query : GroundSentence) (goals : List GroundSentence) wh
       (subst (λ l. IfSome found (IsPartFound cut k (question_of user query goals (schema_of view) l))) (alike k d within).1 (ran k d within).found)
 
   -- what can be examined can be asked, against the guarded sentences
-  pub asked_guarded : LimitsFitProbes → (guards : GuardedSentences) (first : LogView) → CanBeExamined guards user query first
+  pub asked_guarded : (guards : GuardedSentences) (first : LogView) → CanBeExamined guards user query first
       → map sentence_of goals ≡ guards.sentences → All (IsGroundOver guards.schema) goals → CanBeAskedAt user query goals first
-  asked_guarded law guards first can same over =
-      let fits = law (schema_of first) (profile_of user) can.limits in
-      record {
-        sentence = can.sentence;
-        grounded = can.grounded;
-        all_nodes = can.all_nodes;
-        goal_sentences = ap (list_all (is_sentence_of (schema_of first))) (same ∙ can.guarded_are) ∙ fits.guarded_sentences;
-        goal_nodes = ap (list_all (λ goal. nat_le (nodes (schema_of first) goal) 40000)) (same ∙ can.guarded_are) ∙ fits.guarded_nodes;
-        grounded_goals = subst (λ s. All (IsGroundOver s) goals) can.guards_schema over;
-        budget = can.limits.budget;
-      }
+  asked_guarded guards first can same over = record {
+    sentence = can.sentence;
+    grounded = can.grounded;
+    all_nodes = can.all_nodes;
+    goal_sentences = ap (list_all (is_sentence_of (schema_of first))) (same ∙ can.guarded_are) ∙ can.fits.guarded_sentences;
+    goal_nodes = ap (list_all (λ goal. nat_le (nodes (schema_of first) goal) 40000)) (same ∙ can.guarded_are) ∙ can.fits.guarded_nodes;
+    grounded_goals = subst (λ s. All (IsGroundOver s) goals) can.guards_schema over;
+    budget = can.fits.budget;
+  }
 
 -- over a view of the same log the same can be examined
 pub examined_alike : (guards : GuardedSentences) (user : User) (query : GroundSentence) (first view : LogView)
@@ -171,7 +169,7 @@ pub examined_alike : (guards : GuardedSentences) (user : User) (query : GroundSe
 examined_alike guards user query first view alike can =
     let there = sym alike.0 in
     record {
-      limits = subst (λ s. KeepsLimits s (profile_of user)) there can.limits;
+      fits = subst (λ s. FitsProbes s (profile_of user)) there can.fits;
       guards_schema = can.guards_schema ∙ there;
       guarded_are = can.guarded_are;
       sentence = ap (λ s. is_sentence_of s (sentence_of query)) alike.0 ∙ can.sentence;

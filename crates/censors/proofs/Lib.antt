@@ -6,3 +6,4 @@ mod Lanes
 mod Parting
 pub mod Gathering
 pub mod Crossing
+pub mod Adding

@@ -8,7 +8,7 @@ use Rattle.cqe_base.specs.Schema.{DatabaseSchema}
 use Rattle.cqe_base.specs.Formula.{Formula, nodes, is_sentence_of}
 use Rattle.cqe_base.specs.Entailment.{Signed}
 use Rattle.cqe_base.specs.History.{profile_of}
-use Rattle.cqe_base.specs.Limits.{KeepsLimits}
+use Rattle.cqe_base.specs.Limits.{FitsProbes}
 use Rattle.cqe_base.specs.Censor.{guarded, with_query, with_negation}
 use Rattle.entailment.specs.Logs.{log_nodes}
 use Rattle.entailment.specs.Views.{LogView, schema_of, log_of}
@@ -145,7 +145,7 @@ harms_of of_query of_negation =
 -- the probes of a query can be made over a view, against what is guarded from the user
 pub record CanBeExamined (guards : GuardedSentences) (user : User) (query : GroundSentence)
     (view : LogView) : Type 0 where
-  pub limits : KeepsLimits (schema_of view) (profile_of user)
+  pub fits : FitsProbes (schema_of view) (profile_of user)
   pub guards_schema : guards.schema ≡ schema_of view
   pub guarded_are : guards.sentences ≡ guarded (profile_of user)
   pub sentence : is_sentence_of (schema_of view) (sentence_of query) ≡ true

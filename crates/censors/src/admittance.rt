@@ -5,9 +5,11 @@ ghost use Rattle.std.specs.List.{list_all};
 ghost use Rattle.cqe_base.specs.Formula.{formula_of, nodes, is_sentence_of};
 ghost use Rattle.cqe_base.specs.History.{profile_of, known, disjunction_of};
 ghost use Rattle.cqe_base.specs.Limits.{KeepsLimits};
-ghost use Rattle.cqe_base.specs.Censor.{admitted};
+ghost use Rattle.cqe_base.specs.Outcome.{outcome};
+ghost use Rattle.cqe_base.specs.Censor.{admitted, admission_budget};
 ghost use Rattle.entailment.specs.Logs.{log_nodes};
 ghost use Rattle.entailment.specs.Views.{schema_of, log_of};
+ghost use Rattle.entailment.specs.Probes.{outcome_found};
 ghost use Rattle.censors.specs.Admitting.{probe_objection, secrets_objection, truth_objection};
 ghost use Rattle.censors.specs.Admitting.{objection_of, admission_of};
 
@@ -179,14 +181,33 @@ fn probe_objection(
         ≡ probe_objection schema.now (log_of view.old) (formula_of goal) number) }
     ensures same { view.new ≡ view.old }
 {
+    match admission_outcome(alloc, schema, view, goal)? {
+        ProbeOutcome::Follows => Ok(Some(Admission::Implied(number))),
+        ProbeOutcome::Open => Ok(None),
+        ProbeOutcome::Spent => Ok(Some(Admission::Spent(number))),
+    }
+}
+
+/// The outcome of the probe of the log against a goal, at the admission budget.
+pub(crate) fn admission_outcome(
+    alloc: Global,
+    schema: &Schema,
+    view: &mut View<'_>,
+    goal: Sentence,
+) -> Result<ProbeOutcome, AllocError>
+    requires schema { schema_of view.old ≡ schema.now }
+    requires sentence { is_sentence_of schema.now (formula_of goal) ≡ true }
+    requires goal_nodes { nodes schema.now (formula_of goal) ≤ 40000 }
+    requires log_nodes { log_nodes schema.now (log_of view.old) ≤ 60000 }
+    ensures outcome { IfOk result (λ found. outcome_found found
+        ≡ outcome schema.now (log_of view.old) (formula_of goal, true) admission_budget) }
+    ensures same { view.new ≡ view.old }
+{
     let goal = GroundSentence::new(alloc, schema, goal)?;
     let probe = Probe {
         premise: None,
         goal: (&goal, true),
     };
-    match probe_outcome(alloc, view, &probe, ADMISSION_BUDGET)? {
-        ProbeOutcome::Follows => Ok(Some(Admission::Implied(number))),
-        ProbeOutcome::Open => Ok(None),
-        ProbeOutcome::Spent => Ok(Some(Admission::Spent(number))),
-    }
+    let found = probe_outcome(alloc, view, &probe, ADMISSION_BUDGET)?;
+    Ok(found)
 }

@@ -4,7 +4,7 @@ ghost use Rattle.std.specs.Prelude.{◌≡◌, ◌≤◌, ◌<◌, ◌+◌, ◌|
 ghost use Rattle.std.specs.Prelude.{slice_index_or};
 ghost use Rattle.cqe_base.specs.Formula.{nodes, is_sentence_of};
 ghost use Rattle.cqe_base.specs.History.{profile_of};
-ghost use Rattle.cqe_base.specs.Limits.{KeepsLimits};
+ghost use Rattle.cqe_base.specs.Limits.{FitsProbes};
 ghost use Rattle.cqe_base.specs.Censor.{guarded};
 ghost use Rattle.entailment.specs.Logs.{log_nodes};
 ghost use Rattle.entailment.specs.Views.{schema_of, log_of};
@@ -18,7 +18,6 @@ use crate::examination::{Answer, Findings, Harms, examine, found};
 use crate::lent::{Held, Lane, LentViews, MOST_LANES};
 use crate::parts::{Cut, cut_of, gathered, run_part};
 use crate::{Guards, law_undecided_is_cost};
-use cqe_base::laws::law_limits;
 use cqe_base::machine_laws::law_spent_is_cost;
 use cqe_base::user::{Method, User};
 use entailment::GroundSentence;
@@ -57,7 +56,7 @@ pub fn examine_beside<R: Threads + Sync>(
     user: &User,
     query: &GroundSentence,
 ) -> Result<Findings, AllocError>
-    requires limits { KeepsLimits (schema_of lent.old) (profile_of user.now) }
+    requires fits { FitsProbes (schema_of lent.old) (profile_of user.now) }
     requires guards_schema { guards.now.schema ≡ schema_of lent.old }
     requires guarded { guards.now.sentences ≡ guarded (profile_of user.now) }
     requires sentence { is_sentence_of (schema_of lent.old) (sentence_of query.now) ≡ true }
@@ -118,7 +117,6 @@ fn examine_in_lanes<R: Threads + Sync>(
         (log_of (held_view (Held.Several lanes.old))) (sentence_of query.now)) }
     ensures same { held_views (Held.Several lanes.new) ≡ held_views (Held.Several lanes.old) }
 {
-    law_limits();
     let goals = guards.sentences();
     let cut = cut_of(user.method, goals.len(), lanes.len());
     run_all(rt, alloc, cut, user, query, goals, lanes);

@@ -6,7 +6,7 @@ ghost use Rattle.std.specs.List.{list_all};
 ghost use Rattle.cqe_base.specs.Formula.{nodes, is_sentence_of};
 ghost use Rattle.cqe_base.specs.Entailment.{are_sentences_of};
 ghost use Rattle.cqe_base.specs.History.{profile_of};
-ghost use Rattle.cqe_base.specs.Limits.{KeepsLimits};
+ghost use Rattle.cqe_base.specs.Limits.{FitsProbes};
 ghost use Rattle.cqe_base.specs.Censor.{guarded};
 ghost use Rattle.entailment.specs.Logs.{log_nodes, sentence_nodes};
 ghost use Rattle.entailment.specs.Views.{schema_of, log_of};
@@ -18,7 +18,7 @@ ghost use Rattle.censors.specs.Asked.{IsAnswer, IsAnswerOfAll, AreHarms, IsImpli
 ghost use Rattle.censors.specs.Asked.{together, findings_of};
 
 use crate::{Guards, law_undecided_is_cost};
-use cqe_base::laws::{law_entailment, law_limits};
+use cqe_base::laws::law_entailment;
 use cqe_base::machine_laws::law_spent_is_cost;
 use cqe_base::user::{Method, User};
 use entailment::{GroundSentence, Probe, ProbeOutcome, View, probe_outcome};
@@ -60,8 +60,8 @@ pub(crate) struct Implied {
     answer: Option<bool>,
 }
 
-/// Makes every probe of a query after the view's log, with the user's budget. It looks at no world,
-/// and the log stays.
+/// Makes every probe of a query after the view's log, with the budget of the user, who has the
+/// secrets of now. It looks at no world, and the log stays.
 pub fn examine(
     alloc: Global,
     view: &mut View<'_>,
@@ -69,7 +69,7 @@ pub fn examine(
     user: &User,
     query: &GroundSentence,
 ) -> Result<Findings, AllocError>
-    requires limits { KeepsLimits (schema_of view.old) (profile_of user.now) }
+    requires fits { FitsProbes (schema_of view.old) (profile_of user.now) }
     requires guards_schema { guards.now.schema ≡ schema_of view.old }
     requires guarded { guards.now.sentences ≡ guarded (profile_of user.now) }
     requires sentence { is_sentence_of (schema_of view.old) (sentence_of query.now) ≡ true }
@@ -86,7 +86,6 @@ pub fn examine(
         (log_of view.old) (sentence_of query.now)) }
     ensures same { view.new ≡ view.old }
 {
-    law_limits();
     law_spent_is_cost();
     law_undecided_is_cost();
     let implied = ask_implied(alloc, view, user, query)?;

@@ -4,12 +4,11 @@ ghost use Rattle.std.specs.Prelude.{◌≡◌, ◌≤◌, true, nat_le, [], ◌�
 ghost use Rattle.std.specs.List.{list_all};
 ghost use Rattle.cqe_base.specs.Formula.{formula_of, nodes, is_sentence_of};
 ghost use Rattle.cqe_base.specs.History.{profile_of, disjunction_of};
-ghost use Rattle.cqe_base.specs.Limits.{KeepsLimits};
+ghost use Rattle.cqe_base.specs.Limits.{FitsProbes};
 ghost use Rattle.cqe_base.specs.Censor.{guarded};
 ghost use Rattle.entailment.specs.GroundSentences.{sentence_of, IsGroundOver};
 
 use crate::disjunction;
-use cqe_base::laws::law_limits;
 use cqe_base::schema::Schema;
 use cqe_base::sentence::Sentence;
 use cqe_base::user::{Method, User};
@@ -40,9 +39,9 @@ impl<'s> Model for Guards<'s> {
 }
 
 impl<'s> Guards<'s> {
-    /// What is guarded from the user.
+    /// What is guarded from the user, with the secrets that he has now.
     pub fn new(alloc: Global, schema: &'s Schema, user: &User) -> Result<Guards<'s>, AllocError>
-        requires { KeepsLimits schema.now (profile_of user.now) }
+        requires { FitsProbes schema.now (profile_of user.now) }
         ensures schema { IfOk result (λ guards. guards.schema ≡ schema.now) }
         ensures guarded { IfOk result (λ guards.
             guards.sentences ≡ guarded (profile_of user.now)) }
@@ -66,12 +65,11 @@ fn guarded_sentences(
     schema: &Schema,
     user: &User,
 ) -> Result<Vec<GroundSentence>, AllocError>
-    requires { KeepsLimits schema.now (profile_of user.now) }
+    requires { FitsProbes schema.now (profile_of user.now) }
     ensures guarded { IfOk result (λ made. map sentence_of made.items
         ≡ guarded (profile_of user.now)) }
     ensures grounded { IfOk result (λ made. All (IsGroundOver schema.now) made.items) }
 {
-    law_limits();
     let secrets = user.secrets.as_slice();
     match user.method {
         Method::Lying => joined_sentence(alloc, schema, secrets),

@@ -9,7 +9,7 @@ use Rattle.clap.specs.declared.builder.value_parser.ValueParser.TheVariants.{Non
 use Rattle.command_words.specs.Numbers.{number_from, number_or}
 use Rattle.command_words.specs.Readings.{FileNames, Reading, runs_case, runs_init}
 use Rattle.command_words.specs.Readings.{files_said, batch_said, audit_said, selfrun_said}
-use Rattle.command_words.specs.Readings.{serve_said}
+use Rattle.command_words.specs.Readings.{serve_said, migrate_said}
 
 -- `--`, or a hyphen and a further byte that isn't one: no reading has such a word
 abbrev pub is_short : List ℕ → Bool
@@ -69,6 +69,10 @@ serve_command = with_rule
     (with_rule (with_rule (file_command (codes "serve")) (needed_rule (codes "listen")))
     (optional_rule (codes "workers"))) (optional_rule (codes "sessions"))
 
+-- the subcommand `migrate`
+abbrev pub migrate_command : App
+migrate_command = with_rule (file_command (codes "migrate")) (needed_rule (codes "to"))
+
 -- a command line with no subcommand yet
 abbrev pub bare : App
 bare = on_top with_settings (new_app (codes "cqe"))
@@ -76,10 +80,11 @@ bare = on_top with_settings (new_app (codes "cqe"))
 -- the command line of the program
 abbrev pub program : App
 program = with_subcommand
-    (with_subcommand (with_subcommand (with_subcommand (with_subcommand (with_subcommand bare
+    (with_subcommand (with_subcommand (with_subcommand (with_subcommand (with_subcommand
+    (with_subcommand bare
     (new_app (codes "case")).top) (file_command (codes "init")).top)
     batch_command.top) audit_command.top) selfrun_command.top)
-    serve_command.top
+    serve_command.top) migrate_command.top
 
 -- the files that the rows that were matched name
 abbrev pub files_in : List Row → Option FileNames
@@ -115,6 +120,10 @@ serve_in rows =
     (number_or 4 1 64 (first_of (codes "workers") rows))
     (number_or 1073741824 1 1000000 (first_of (codes "sessions") rows))
 
+-- the moving of journals that rows say
+abbrev pub migrate_in : List Row → Option Reading
+migrate_in rows = migrate_said (files_in rows) (first_of (codes "to") rows)
+
 -- the reading of a command with the rows that were matched
 abbrev pub command_with : List ℕ → List Row → Option Reading
 command_with command rows =
@@ -124,4 +133,5 @@ command_with command rows =
     else if bytes_eq command (codes "audit") then audit_in rows
     else if bytes_eq command (codes "selfrun") then selfrun_in rows
     else if bytes_eq command (codes "serve") then serve_in rows
+    else if bytes_eq command (codes "migrate") then migrate_in rows
     else None

@@ -6,7 +6,7 @@ use Rattle.command_words.specs.Uses.{OptionRow, Use, uses_of}
 use Rattle.command_words.specs.Numbers.{number_from, number_or}
 use Rattle.command_words.specs.declared.command.Command.{Command}
 use Rattle.command_words.specs.declared.command.Command.TheVariants.{Case, Init, Batch, Audit}
-use Rattle.command_words.specs.declared.command.Command.TheVariants.{Selfrun, Serve}
+use Rattle.command_words.specs.declared.command.Command.TheVariants.{Selfrun, Serve, Migrate}
 use Rattle.command_words.specs.declared.command.Files.{Files}
 
 -- ---- what words say
@@ -31,6 +31,8 @@ pub data Reading : Type 0 where
   runs_selfrun : ℕ → ℕ → ℕ → Reading
   -- a server over these files, at this address, with so many workers, for so many sessions
   runs_serve : FileNames → List ℕ → ℕ → ℕ → Reading
+  -- the moving of the journals of these files to a directory
+  runs_migrate : FileNames → List ℕ → Reading
 
 -- ---- the uses of options
 
@@ -82,6 +84,12 @@ serve_said (Some files) (Some address) (Some workers) (Some sessions) =
     Some (runs_serve files address workers sessions)
 serve_said _ _ _ _ = None
 
+-- the moving of the journals of these files to a directory, which is another word
+abbrev pub migrate_said : Option FileNames → Option (List ℕ) → Option Reading
+migrate_said (Some files) (Some to) =
+    if bytes_eq files.directory to then None else Some (runs_migrate files to)
+migrate_said _ _ = None
+
 -- the files that uses name
 abbrev pub files_of : List Use → Option FileNames
 files_of uses = files_said (value_of uses (codes "policy")) (value_of uses (codes "facts"))
@@ -111,6 +119,10 @@ serve_of uses =
     serve_said (files_of uses) (value_of uses (codes "listen"))
     (number_or 4 1 64 (value_of uses (codes "workers")))
     (number_or 1073741824 1 1000000 (value_of uses (codes "sessions")))
+
+-- the moving of journals that uses say
+abbrev pub migrate_of : List Use → Option Reading
+migrate_of uses = migrate_said (files_of uses) (value_of uses (codes "to"))
 
 -- ---- the table
 
@@ -188,9 +200,18 @@ serve_row = record {
   says = serve_of;
 }
 
+-- `migrate --policy P --facts F --journals DIR --to DIR2`, with two different directories
+abbrev pub migrate_row : CommandRow
+migrate_row = record {
+  name = codes "migrate";
+  options =
+      file_options (needed (codes "to") ∷ []);
+  says = migrate_of;
+}
+
 -- all commands
 abbrev pub commands : List CommandRow
-commands = case_row ∷ init_row ∷ batch_row ∷ audit_row ∷ selfrun_row ∷ serve_row ∷ []
+commands = case_row ∷ init_row ∷ batch_row ∷ audit_row ∷ selfrun_row ∷ serve_row ∷ migrate_row ∷ []
 
 -- the command of this name
 abbrev pub command_of : List ℕ → Option CommandRow
@@ -230,3 +251,4 @@ reading_in (Audit words) = runs_audit (names_of_files words.files) words.user.no
 reading_in (Selfrun words) = runs_selfrun words.seed words.users words.asks
 reading_in (Serve words) =
     runs_serve (names_of_files words.files) words.listen.now words.workers words.sessions
+reading_in (Migrate words) = runs_migrate (names_of_files words.files) words.to.now

@@ -5,8 +5,9 @@ ghost use Rattle.std.specs.List.{list_any};
 ghost use Rattle.clap.specs.Words.{found_of, kind_of, rows_of, subcommand_rows_of};
 ghost use Rattle.command_words.specs.Readings.{reading_of, reading_in, names_of_files, files_said};
 ghost use Rattle.command_words.specs.Readings.{batch_said, audit_said, selfrun_said, serve_said};
+ghost use Rattle.command_words.specs.Readings.{migrate_said};
 ghost use Rattle.command_words.specs.Matched.{is_short, says_true, files_in, batch_in, audit_in};
-ghost use Rattle.command_words.specs.Matched.{selfrun_in, serve_in, command_with};
+ghost use Rattle.command_words.specs.Matched.{selfrun_in, serve_in, migrate_in, command_with};
 
 use crate::number::{number_from, number_or, small_number_from, small_number_or};
 use crate::program::program;
@@ -69,6 +70,15 @@ pub struct ServeWords<'a> {
     pub sessions: u64,
 }
 
+/// Which journals are moved.
+#[derive(Clone, Copy, Debug, PartialEq, Eq)]
+pub struct MigrateWords<'a> {
+    /// the files, with the directory of the old journals
+    pub files: Files<'a>,
+    /// the directory of the new ones, which is another word
+    pub to: &'a str,
+}
+
 /// What the program is to do. The texts are those of the words.
 #[derive(Clone, Copy, Debug, PartialEq, Eq)]
 pub enum Command<'a> {
@@ -84,6 +94,8 @@ pub enum Command<'a> {
     Selfrun(SelfrunWords),
     /// `serve`: a server of connections.
     Serve(ServeWords<'a>),
+    /// `migrate`: the old journals of one directory, moved to another.
+    Migrate(MigrateWords<'a>),
 }
 
 /// Reads the words behind the program's name.
@@ -162,6 +174,7 @@ fn command_with<'a>(name: &str, given: &ArgMatches<'a>) -> Option<Command<'a>>
         "audit" => audit_in(given),
         "selfrun" => selfrun_in(given),
         "serve" => serve_in(given),
+        "migrate" => migrate_in(given),
         _ => None,
     }
 }
@@ -304,6 +317,30 @@ fn serve_with<'a>(
                 workers,
                 sessions,
             }))
+        }
+        _ => None,
+    }
+}
+
+// The moving of journals that was matched.
+fn migrate_in<'a>(given: &ArgMatches<'a>) -> Option<Command<'a>>
+    ensures { option_map reading_in result ≡ migrate_in (rows_of (found_of given.now)) }
+{
+    migrate_with(files_in(given), given.get_str("to"))
+}
+
+fn migrate_with<'a>(files: Option<Files<'a>>, to: Option<&'a str>) -> Option<Command<'a>>
+    ensures { option_map reading_in result
+        ≡ migrate_said (option_map names_of_files files.entry)
+        (option_map (λ s. s.now) to.entry) }
+{
+    match (files, to) {
+        (Some(files), Some(to)) => {
+            if files.journals == to {
+                None
+            } else {
+                Some(Command::Migrate(MigrateWords { files, to }))
+            }
         }
         _ => None,
     }

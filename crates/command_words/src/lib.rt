@@ -15,4 +15,6 @@ mod command;
 mod number;
 mod program;
 
-pub use command::{AuditWords, BatchWords, Command, Files, SelfrunWords, ServeWords, read_words};
+pub use command::{
+    AuditWords, BatchWords, Command, Files, MigrateWords, SelfrunWords, ServeWords, read_words,
+};

@@ -3,7 +3,7 @@ ghost use Rattle.std.specs.Prelude.{◌≡◌, false, IfOk};
 ghost use Rattle.clap.specs.Words.{app_of, rule_of};
 ghost use Rattle.clap.specs.declared.builder.command.Command.TheViews.{out-Command};
 ghost use Rattle.command_words.specs.Matched.{audit_command, batch_command, file_command};
-ghost use Rattle.command_words.specs.Matched.{flag_rule, needed_rule};
+ghost use Rattle.command_words.specs.Matched.{flag_rule, migrate_command, needed_rule};
 ghost use Rattle.command_words.specs.Matched.{optional_rule, program, serve_command, three_command};
 
 use clap::builder::ValueParser;
@@ -20,6 +20,7 @@ pub(crate) fn program<'a>(alloc: Global) -> Result<Command<'a>, AllocError>
     let audit = audit(alloc)?;
     let selfrun = with_three(alloc, "selfrun", "seed", "users", "asks")?;
     let serve = serve(alloc)?;
+    let migrate = migrate(alloc)?;
     let program = Command::new(alloc, "cqe")
         .no_binary_name(true)
         .disable_help_flag(true)
@@ -31,7 +32,8 @@ pub(crate) fn program<'a>(alloc: Global) -> Result<Command<'a>, AllocError>
         .subcommand(batch)?
         .subcommand(audit)?
         .subcommand(selfrun)?
-        .subcommand(serve)?;
+        .subcommand(serve)?
+        .subcommand(migrate)?;
     Ok(program)
 }
 
@@ -71,6 +73,17 @@ fn serve<'a>(alloc: Global) -> Result<Command<'a>, AllocError>
     let sessions = optional(alloc, "sessions");
     let files = with_files(alloc, "serve")?;
     let command = files.arg(listen)?.arg(workers)?.arg(sessions)?;
+    Ok(command)
+}
+
+// The moving of journals.
+fn migrate<'a>(alloc: Global) -> Result<Command<'a>, AllocError>
+    ensures shape { IfOk result (λ command. app_of command ≡ migrate_command) }
+    ensures plain { IfOk result (λ command. (out-Command command).has_globals ≡ false) }
+{
+    let to = needed(alloc, "to");
+    let files = with_files(alloc, "migrate")?;
+    let command = files.arg(to)?;
     Ok(command)
 }
 

@@ -6,14 +6,14 @@ use Rattle.cqe_base.specs.declared.user.Method.TheVariants.{Lying, Refusal, Comb
 use Rattle.cqe_base.specs.Schema.{DatabaseSchema}
 use Rattle.cqe_base.specs.Facts.{FactSet}
 use Rattle.cqe_base.specs.Formula.{Formula}
-use Rattle.cqe_base.specs.Entailment.{all_hold_in, entails, IsCountermodel}
-use Rattle.cqe_base.specs.History.{UserProfile, known, log}
+use Rattle.cqe_base.specs.Entailment.{all_hold_in, entails}
+use Rattle.cqe_base.specs.History.{UserProfile, known, log, user_at}
 use Rattle.cqe_base.specs.Censor.{guarded, knows_truth_by, admitted, IsLegal}
 use Rattle.cqe_base.specs.OtherWorlds.{LogsKeepSecrets, CountermodelsAreAlike, LegalEntriesReplyAlike}
 use Rattle.cqe_base.proofs.Truths.{true_is_not_false, false_if_not_true, and_second, and_both, list_any-false, none_passes}
-use Rattle.cqe_base.proofs.Logs.{log-nil, known_holds}
+use Rattle.cqe_base.proofs.Logs.{log-nil, user_at-nil, known_holds}
 use Rattle.cqe_base.proofs.Worlds.{entails-true, entails-false}
-use Rattle.cqe_base.proofs.Secrets.{legal_shields, legal_again}
+use Rattle.cqe_base.proofs.Secrets.{HasCountermodel, legal_shields, legal_again}
 use Rattle.cqe_base.proofs.Runs.{replies_alike}
 
 -- an admitted user is admitted in each world in which what he knows is true
@@ -34,7 +34,7 @@ pub countermodel_alike : CountermodelsAreAlike
 countermodel_alike schema world user entries goal other admits legal guards is =
     let knows : all_hold_in schema other (known user) ≡ true = known_holds schema other user entries is.premises_true in
     let admits_there : admitted schema other user ≡ true = admitted_again schema world user other admits knows in
-    let legal_there : IsLegal schema other user entries = legal_again schema user goal guards world other entries legal is in
+    let legal_there : IsLegal schema other user entries = legal_again schema user goal world other entries legal guards is in
     record {
       of_schema = is.of_schema;
       knowledge_true = knows;
@@ -44,17 +44,19 @@ countermodel_alike schema world user entries goal other admits legal guards is =
     }
 
 pub logs_keep_secrets : LogsKeepSecrets
-logs_keep_secrets schema world user entries admissible legal = none_passes (λ goal. entails schema (log user entries) (goal, true)) (guarded user) kept
+logs_keep_secrets schema world user entries valid of_schema sentences admissible legal =
+    none_passes (λ goal. entails schema (log user entries) (goal, true)) (guarded (user_at user entries)) kept
   where
-    kept : (goal : Formula) → Contains (guarded user) goal → entails schema (log user entries) (goal, true) ≡ false
+    begin : (goal : Formula) → Contains (guarded (user_at user [])) goal → HasCountermodel schema (log user []) goal
+    begin goal guards =
+        let first : Contains (guarded user) goal = subst (λ u. Contains (guarded u) goal) (user_at-nil user) guards in
+        subst (λ premises. HasCountermodel schema premises goal) (sym (log-nil user))
+        (entails-false schema (known user) (goal, true) (list_any-false _ (guarded user) admissible.knows_no_secret goal first))
+
+    kept : (goal : Formula) → Contains (guarded (user_at user entries)) goal → entails schema (log user entries) (goal, true) ≡ false
     kept goal guards =
-        let start : (other : FactSet)
-        × IsCountermodel schema (known user) (goal, true) other =
-        entails-false schema (known user) (goal, true) (list_any-false _ (guarded user) admissible.knows_no_secret goal guards) in
-        let begin : (other : FactSet) × IsCountermodel schema (log user []) (goal, true) other =
-        subst (λ premises. (other : FactSet) × IsCountermodel schema premises (goal, true) other) (sym (log-nil user)) start in
-        let final : (other : FactSet) × IsCountermodel schema (log user entries) (goal, true) other =
-        legal_shields schema user goal guards world entries legal [] entries refl begin in
+        let final : HasCountermodel schema (log user entries) goal =
+        legal_shields schema world user valid of_schema entries legal sentences [] entries refl begin goal guards in
         false_if_not_true _ (λ e.
         true_is_not_false (sym (entails-true schema (log user entries) (goal, true) e final.0 final.1.of_schema final.1.premises_true)
         ∙ final.1.goal_false))

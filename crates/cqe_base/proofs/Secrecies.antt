@@ -1,14 +1,16 @@
 -- Secrecies: what their secrets are, and that liars have none.
-use Rattle.std.proofs.Common.{◌≡◌, ℕ, zero, suc, ◌+◌, ◌*◌, ◌<◌, ◌≤◌, true, List, [], ◌∷◌, length, refl, sym, ap, subst, ◌∙◌, arith}
+use Rattle.std.proofs.Common.{◌≡◌, ℕ, zero, suc, ◌+◌, ◌*◌, ◌<◌, ◌≤◌, true, List, [], ◌∷◌, length, refl, sym, ap, subst, ◌∙◌, length-append, arith}
 use Rattle.std.specs.Prelude.{◌&&◌, Contains, slice_index_or}
 use Rattle.std.specs.List.{list_all}
 use Rattle.std.proofs.lemmas.Bool.{and_parts, and_from}
-use Rattle.std.proofs.lemmas.List.Elements.{Contains-get_or, Contains-append_right}
+use Rattle.std.proofs.lemmas.List.{get_or_append_left}
+use Rattle.std.proofs.lemmas.List.Elements.{Contains-get_or, Contains-append_left, Contains-append_right}
 use Rattle.cqe_base.specs.Formula.{Formula, falsum, negation}
+use Rattle.cqe_base.specs.History.{UserProfile, History, added_secrets, user_at}
 use Rattle.cqe_base.specs.Censor.{admitted}
 use Rattle.cqe_base.specs.Hiding.{Hides, SecreciesStayOpen}
 use Rattle.cqe_base.specs.Secrecies.{secrecy_at, with_secrecies, HasPairs, IsProtectedBothWays, SecretsHaveSecrecies, PairsAreProtected, LiarsKeepNoSecrecy}
-use Rattle.cqe_base.specs.Secrecies.{SecretsAreCounted, SecretsAllPass}
+use Rattle.cqe_base.specs.Secrecies.{SecretsAreCounted, SecretsAllPass, PairsStay}
 use Rattle.cqe_base.proofs.Truths.{true_is_not_false, false_if_not_true}
 use Rattle.cqe_base.proofs.Legal.{empty_history_is_legal}
 use Rattle.cqe_base.proofs.Confidential.{legal_histories_hide, negated_false}
@@ -21,18 +23,40 @@ pairs_are_protected user k pairs low =
       negation_secret = subst (Contains user.secrets) (pairs.negated k low) (Contains-get_or user.secrets (2 * k + 1) falsum (omega arith));
     }
 
+-- what is protected both ways stays so with what a history adds
+stays_protected : (user : UserProfile) (entries : History) (sentence : Formula) → IsProtectedBothWays user sentence
+    → IsProtectedBothWays (user_at user entries) sentence
+stays_protected user entries sentence protected = record {
+  sentence_secret = Contains-append_left user.secrets (added_secrets entries) sentence protected.sentence_secret;
+  negation_secret = Contains-append_left user.secrets (added_secrets entries) (negation sentence) protected.negation_secret;
+}
+
+pub pairs_stay : PairsStay
+pairs_stay user entries pairs =
+    let enough = pairs.enough in
+    let grown = length-append user.secrets (added_secrets entries) in
+    record {
+      enough = omega (arith, enough, grown);
+      negated = λ k low.
+          let stated = get_or_append_left user.secrets (added_secrets entries) falsum (2 * k) (omega (arith, enough, low)) in
+          get_or_append_left user.secrets (added_secrets entries) falsum (2 * k + 1) (omega (arith, enough, low))
+          ∙ pairs.negated k low ∙ ap negation (sym stated);
+    }
+
 pub secrecies_stay_open : SecreciesStayOpen
-secrecies_stay_open schema world user entries k valid of_schema admits legal pairs low =
-    let hides : Hides schema world user entries = legal_histories_hide schema world user entries valid of_schema admits legal in
-    hides.both_ways (secrecy_at user k) (pairs_are_protected user k pairs low)
+secrecies_stay_open schema world user entries k valid of_schema sentences admits legal pairs low =
+    let hides : Hides schema world user entries = legal_histories_hide schema world user entries valid of_schema sentences admits legal in
+    hides.both_ways (secrecy_at user k) (stays_protected user entries (secrecy_at user k) (pairs_are_protected user k pairs low))
 
 pub liars_keep_no_secrecy : LiarsKeepNoSecrecy
 liars_keep_no_secrecy schema world user valid of_schema pairs lies some = false_if_not_true _ never
   where
     never : admitted schema world user ≡ true → ⊥
     never admits =
-        let hides : Hides schema world user [] = legal_histories_hide schema world user [] valid of_schema admits (empty_history_is_legal schema world user) in
-        let protected : IsProtectedBothWays user (secrecy_at user 0) = pairs_are_protected user 0 pairs (omega arith) in
+        let hides : Hides schema world user [] =
+        legal_histories_hide schema world user [] valid of_schema refl admits (empty_history_is_legal schema world user) in
+        let protected : IsProtectedBothWays (user_at user []) (secrecy_at user 0) =
+        stays_protected user [] (secrecy_at user 0) (pairs_are_protected user 0 pairs (omega arith)) in
         let one = hides.one_world lies in
         true_is_not_false
         (sym (negated_false schema one.0 (secrecy_at user 0) (one.2 (negation (secrecy_at user 0)) protected.negation_secret))

@@ -7,7 +7,7 @@ use Rattle.cqe_base.specs.declared.user.Method.TheVariants.{Lying}
 use Rattle.cqe_base.specs.Schema.{DatabaseSchema, is_valid_schema}
 use Rattle.cqe_base.specs.Facts.{FactSet}
 use Rattle.cqe_base.specs.Formula.{Formula, negation}
-use Rattle.cqe_base.specs.History.{UserProfile, is_user_of, secret_at}
+use Rattle.cqe_base.specs.History.{UserProfile, History, is_user_of, secret_at, user_at}
 use Rattle.cqe_base.specs.Censor.{admitted}
 
 -- the secrets that secrecies and other secrets make: each secrecy and its negation, and then the
@@ -60,6 +60,11 @@ abbrev pub PairsAreProtected : Type 0
 PairsAreProtected =
     (user : UserProfile) (k : ℕ) → HasPairs user → k < user.pairs
     → IsProtectedBothWays user (secrecy_at user k)
+
+-- what a history adds stands behind the pairs
+abbrev pub PairsStay : Type 0
+PairsStay =
+    (user : UserProfile) (entries : History) → HasPairs user → HasPairs (user_at user entries)
 
 -- a lying user with a secrecy is never admitted
 abbrev pub LiarsKeepNoSecrecy : Type 0

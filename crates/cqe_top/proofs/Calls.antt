@@ -12,13 +12,13 @@ use Rattle.cqe_base.specs.History.{UserProfile, History}
 use Rattle.cqe_base.specs.Run.{UserState, Event, standing_open, opening, after_events, entries_found, replies}
 use Rattle.cqe_base.specs.Schema.{Text}
 use Rattle.cqe_base.specs.Transcript.{NamedUser, own_events, state_after}
-use Rattle.cqe_base.proofs.Confidential.{legal_histories_hide}
+use Rattle.cqe_base.proofs.Limits.{sizes_are_of_schema}
 use Rattle.cqe_base.proofs.Lists.{one_found}
 use Rattle.user_desk.specs.Causes.{Opens}
 use Rattle.user_desk.specs.Joining.{Call, bytes_behind, IsCallOver, AreCallsOver, Span, IsSpanOver}
 use Rattle.user_desk.specs.Lives.{Holds, shown}
 use Rattle.user_desk.proofs.Deciding.{opens_once}
-use Rattle.user_desk.proofs.Joining.{calls_join, after_events-append}
+use Rattle.user_desk.proofs.Joining.{hidden_by, calls_join, after_events-append}
 use Rattle.desk_crew.specs.Shelved.{Journals}
 use Rattle.batch_engine.specs.Joining.{cut_call_of}
 use Rattle.batch_engine.specs.Lives.{is_opened}
@@ -160,10 +160,8 @@ module _ (policy : PolicyValue) (world : FactSet) (header : List ℕ) (user : Po
         record {
           on = on;
           stands = all_stand on.entries left first later on.opens follow;
-          hidden = record {
-            legal = on.opens.legal;
-            hides = λ valid of admits. legal_histories_hide policy.schema world user.profile on.entries valid of admits on.opens.legal;
-          };
+          hidden = hidden_by policy.schema world user.profile on.entries on.opens.legal
+              (sizes_are_of_schema policy.schema user.profile on.entries on.opens.sizes);
         }
 
   -- ---- any number of batches

@@ -15,6 +15,8 @@ use Rattle.case_engine.specs.declared.case.CaseEnd.TheVariants as case_end
 use Rattle.outside.specs.Shelf.{SomeRose}
 use Rattle.init_engine.specs.declared.end.InitEnd.{InitEnd}
 use Rattle.init_engine.specs.declared.end.InitEnd.TheVariants as init_end
+use Rattle.migrate_engine.specs.declared.end.MigrateEnd.{MigrateEnd}
+use Rattle.migrate_engine.specs.declared.end.MigrateEnd.TheVariants as migrate_end
 use Rattle.selfrun_engine.specs.declared.end.SelfrunEnd.{SelfrunEnd}
 use Rattle.selfrun_engine.specs.declared.end.SelfrunEnd.TheVariants as selfrun_end
 use Rattle.serve_engine.specs.Serving as serving
@@ -71,6 +73,15 @@ module _ (s : Scene) where
   init_cause users init_end.DiskFault shelf disk = has_cause _ (disk refl)
   init_cause users init_end.ShelfFault shelf disk = has_cause _ (shelf refl)
   init_cause users init_end.Memory shelf disk = has_cause _ tt
+
+  pub migrate_cause : (users : Vec User Global) (end : MigrateEnd) → (end ≡ migrate_end.ShelfFault → HasRisen s.shelf.faults)
+      → (end ≡ migrate_end.DiskFault → SomeRose s.shelf.disk_faults s.shelf.disk_faults') → FaultsHaveCauses s (ends.Migrate users end)
+  migrate_cause users migrate_end.Done shelf disk = has_cause _ tt
+  migrate_cause users (migrate_end.Refused user why) shelf disk = has_cause _ tt
+  migrate_cause users (migrate_end.NotEmpty user) shelf disk = has_cause _ tt
+  migrate_cause users migrate_end.DiskFault shelf disk = has_cause _ (disk refl)
+  migrate_cause users migrate_end.ShelfFault shelf disk = has_cause _ (shelf refl)
+  migrate_cause users migrate_end.Memory shelf disk = has_cause _ tt
 
   -- asks that were answered to their end
   answers_cause : (users : Vec User Global) (refusals : Vec (Option DeskError) Global) (is_refused is_broken : Bool) → has_refusal refusals.items ≡ is_refused

@@ -6,17 +6,21 @@ use Rattle.std.specs.List.{list_any, AllByRecursion}
 use Rattle.std.proofs.lemmas.Slice.Eq.{bytes_eq-Decides}
 use Rattle.std.proofs.lemmas.Bool.{or_right}
 use Rattle.outside.specs.Faults.{Rose}
+use Rattle.cqe_base.specs.declared.user.Purpose.{Purpose}
+use Rattle.cqe_base.specs.declared.user.Purpose.TheVariants.{Asking, Protecting}
 use Rattle.cqe_base.specs.Schema.{Text, DatabaseSchema}
 use Rattle.cqe_base.specs.Facts.{FactSet}
 use Rattle.cqe_base.specs.Formula.{Formula}
 use Rattle.cqe_base.specs.Reading.{Refusal, reading}
-use Rattle.cqe_base.specs.History.{UserProfile, History, log}
-use Rattle.cqe_base.specs.Censor.{rule}
+use Rattle.cqe_base.specs.History.{UserProfile, History}
+use Rattle.cqe_base.specs.Censor.{mark_after, safe_after}
 use Rattle.cqe_base.specs.Run
-use Rattle.cqe_base.specs.Run.{Reply, marked, no_sentence, history_full, too_large, user_closed, desk_sealed, desk_broken, no_memory, standing_open}
-use Rattle.cqe_base.specs.Run.{standing_closed, standing_sealed, Event, ask, stop, restart, want, kept, failed, UserState, reply_by, is_full, is_too_large}
-use Rattle.cqe_base.specs.Run.{after_event, replies_from, replies, opening}
-use Rattle.cqe_base.specs.Transcript.{NamedUser, ScriptEvent, script_ask, script_stop, script_restart, script_opening, Line, reply_line, restart_line}
+use Rattle.cqe_base.specs.Run.{Reply, marked, no_sentence, history_full, too_large, user_closed, desk_sealed, desk_broken, no_memory, secrets_full}
+use Rattle.cqe_base.specs.Run.{unsafe_secret, standing_open, standing_closed, standing_sealed, Event, call, stop, restart, want, kept, failed, UserState}
+use Rattle.cqe_base.specs.Run.{reply_by, answer_by, protection_by, is_full, is_too_large, is_too_large_secret, has_all_secrets, after_event, replies_from}
+use Rattle.cqe_base.specs.Run.{replies, opening}
+use Rattle.cqe_base.specs.Transcript.{NamedUser, Caller, purpose_of, ScriptEvent, script_call, script_stop, script_restart, script_opening, Line, reply_line}
+use Rattle.cqe_base.specs.Transcript.{restart_line}
 use Rattle.cqe_base.specs.Transcript.{own_events, own_reply, own_replies, told_after, lines_after, transcript}
 use Rattle.cqe_base.proofs.Lists.{one_found}
 use Rattle.user_desk.specs.Causes.{Opens}
@@ -48,44 +52,53 @@ failures-cons event events = refl
 
 refused_fails : (events : List Event) → list_any is_refused events ≡ true → 1 ≤ failures events
 refused_fails [] says = let clash : false ≡ true = says in absurd cc
-refused_fails (ask text want ∷ events) says =
-    let later = refused_fails events says in let sum = failures-cons (ask text want) events in omega (arith, later, sum)
-refused_fails (ask text kept ∷ events) says =
-    let later = refused_fails events says in let sum = failures-cons (ask text kept) events in omega (arith, later, sum)
-refused_fails (ask text failed ∷ events) says = let sum = failures-cons (ask text failed) events in omega (arith, sum)
-refused_fails (stop text ∷ events) says = let later = refused_fails events says in let sum = failures-cons (stop text) events in omega (arith, later, sum)
+refused_fails (call purpose text want ∷ events) says =
+    let later = refused_fails events says in let sum = failures-cons (call purpose text want) events in omega (arith, later, sum)
+refused_fails (call purpose text kept ∷ events) says =
+    let later = refused_fails events says in let sum = failures-cons (call purpose text kept) events in omega (arith, later, sum)
+refused_fails (call purpose text failed ∷ events) says = let sum = failures-cons (call purpose text failed) events in omega (arith, sum)
+refused_fails (stop purpose text ∷ events) says = let later = refused_fails events says in let sum = failures-cons (stop purpose text) events in omega
+    (arith, later, sum)
 refused_fails (restart found true ∷ events) says =
     let later = refused_fails events says in let sum = failures-cons (restart found true) events in omega (arith, later, sum)
 refused_fails (restart found false ∷ events) says = let sum = failures-cons (restart found false) events in omega (arith, sum)
 
 module _ (schema : DatabaseSchema) (world : FactSet) (user : UserProfile) where
   -- before an append failed, no rule gives a reply that one did
-  unbroken : (entries : History) (standing : Run.Standing) (text : Text) (read : Result Formula Refusal)
-      → is_broken (reply_by schema world user entries standing false text read) ≡ false
-  unbroken entries standing_sealed text read = refl
-  unbroken entries standing_closed text read = refl
-  unbroken entries standing_open text (Err refusal) = refl
-  unbroken entries standing_open text (Ok query) = by (is_full entries (length text)) (is_too_large schema user entries query)
+  unbroken : (entries : History) (standing : Run.Standing) (purpose : Purpose) (text : Text) (read : Result Formula Refusal)
+      → is_broken (reply_by schema world user entries standing false purpose text read) ≡ false
+  unbroken entries standing_sealed purpose text read = refl
+  unbroken entries standing_closed purpose text read = refl
+  unbroken entries standing_open purpose text (Err refusal) = refl
+  unbroken entries standing_open Asking text (Ok query) = by (is_full entries (length text)) (is_too_large schema user entries query)
     where
-      by : (full large : Bool)
-          → is_broken (if full then history_full else if large then too_large else marked (rule schema world user (log user entries) query)) ≡ false
+      by : (full large : Bool) → is_broken (answer_by full large (mark_after schema world user entries query)) ≡ false
       by true large = refl
       by false true = refl
       by false false = refl
+  unbroken entries standing_open Protecting text (Ok secret) =
+      by (is_full entries (length text)) (is_too_large_secret schema user entries secret) (has_all_secrets user entries) (safe_after schema user entries secret)
+    where
+      by : (full large many safe : Bool) → is_broken (protection_by full large many safe) ≡ false
+      by true large many safe = refl
+      by false true many safe = refl
+      by false false true safe = refl
+      by false false false true = refl
+      by false false false false = refl
 
   broken_fails : (state : UserState) (events : List Event) → state.broken ≡ false → AreCaused schema world user state events
       → list_any is_broken (replies_from schema world user state events) ≡ true
       → 1 ≤ failures events
   broken_fails state [] whole caused says = let clash : false ≡ true = says in absurd cc
-  broken_fails state (ask text want ∷ events) whole caused says =
-      let later = broken_fails state events whole caused.1 says in let sum = failures-cons (ask text want) events in omega (arith, later, sum)
-  broken_fails state (ask text kept ∷ events) whole caused says =
-      let unsaid = ap (λ b. is_broken (reply_by schema world user state.entries state.standing b text (reading schema text))) whole
-      ∙ unbroken state.entries state.standing text (reading schema text) in
-      let later = broken_fails (after_event schema world user state (ask text kept)) events whole caused.1 (other _ _ unsaid says) in
-      let sum = failures-cons (ask text kept) events in omega (arith, later, sum)
-  broken_fails state (ask text failed ∷ events) whole caused says = let sum = failures-cons (ask text failed) events in omega (arith, sum)
-  broken_fails state (stop text ∷ events) whole caused says = absurd caused.0
+  broken_fails state (call purpose text want ∷ events) whole caused says =
+      let later = broken_fails state events whole caused.1 says in let sum = failures-cons (call purpose text want) events in omega (arith, later, sum)
+  broken_fails state (call purpose text kept ∷ events) whole caused says =
+      let unsaid = ap (λ b. is_broken (reply_by schema world user state.entries state.standing b purpose text (reading schema text))) whole
+      ∙ unbroken state.entries state.standing purpose text (reading schema text) in
+      let later = broken_fails (after_event schema world user state (call purpose text kept)) events whole caused.1 (other _ _ unsaid says) in
+      let sum = failures-cons (call purpose text kept) events in omega (arith, later, sum)
+  broken_fails state (call purpose text failed ∷ events) whole caused says = let sum = failures-cons (call purpose text failed) events in omega (arith, sum)
+  broken_fails state (stop purpose text ∷ events) whole caused says = absurd caused.0
   broken_fails state (restart found true ∷ events) whole caused says =
       let later = broken_fails (after_event schema world user state (restart found true)) events refl caused.1 says in
       let sum = failures-cons (restart found true) events in omega (arith, later, sum)
@@ -93,15 +106,17 @@ module _ (schema : DatabaseSchema) (world : FactSet) (user : UserProfile) where
 
 -- ---- the lines of a script
 
-same_line : (name : Text) (session : ℕ) (told : Reply) → is_broken_line (reply_line name session (Some told)) ≡ is_broken told
-same_line name session (marked mark) = refl
-same_line name session (no_sentence kind place) = refl
-same_line name session history_full = refl
-same_line name session too_large = refl
-same_line name session user_closed = refl
-same_line name session desk_sealed = refl
-same_line name session desk_broken = refl
-same_line name session no_memory = refl
+same_line : (name : Text) (caller : Caller) (told : Reply) → is_broken_line (reply_line name caller (Some told)) ≡ is_broken told
+same_line name caller (marked mark) = refl
+same_line name caller (no_sentence kind place) = refl
+same_line name caller history_full = refl
+same_line name caller too_large = refl
+same_line name caller user_closed = refl
+same_line name caller desk_sealed = refl
+same_line name caller desk_broken = refl
+same_line name caller no_memory = refl
+same_line name caller secrets_full = refl
+same_line name caller unsafe_secret = refl
 
 -- a user who has the name is told that an append failed
 pub record IsTold (users : List NamedUser) (lines : List Line) : Type 0 where
@@ -114,10 +129,10 @@ behind : (users : List NamedUser) (line : Line) (lines : List Line) → IsTold u
 behind users line lines one =
     record { name = one.name; user = one.user; is = one.is; told = any_behind is_broken (own_reply one.name line) (own_replies one.name lines) one.told }
 
-here : (users : List NamedUser) (name : Text) (session : ℕ) (told_reply : Reply) (user : NamedUser) (lines : List Line)
+here : (users : List NamedUser) (name : Text) (caller : Caller) (told_reply : Reply) (user : NamedUser) (lines : List Line)
     → find (λ u. bytes_eq u.name name) users ≡ Some user → is_broken told_reply ≡ true
-    → IsTold users (reply_line name session (Some told_reply) ∷ lines)
-here users name session told_reply user lines is broken =
+    → IsTold users (reply_line name caller (Some told_reply) ∷ lines)
+here users name caller told_reply user lines is broken =
     record { name = name; user = user; is = is; told = own ∙ ap (λ b. b || list_any is_broken (own_replies name lines)) broken }
   where
     own : list_any is_broken ((if bytes_eq name name then told_reply ∷ [] else []) ++ own_replies name lines)
@@ -128,24 +143,24 @@ module _ (schema : DatabaseSchema) (world : FactSet) (users : List NamedUser) wh
   told_so : (earlier events : List ScriptEvent) → list_any is_broken_line (lines_after schema world users earlier events) ≡ true
       → IsTold users (lines_after schema world users earlier events)
   told_so earlier [] says = let clash : false ≡ true = says in absurd cc
-  told_so earlier (script_stop name text ∷ events) says = told_so (earlier ++ script_stop name text ∷ []) events says
+  told_so earlier (script_stop name purpose text ∷ events) says = told_so (earlier ++ script_stop name purpose text ∷ []) events says
   told_so earlier (script_opening found opened ∷ events) says = told_so (earlier ++ script_opening found opened ∷ []) events says
   told_so earlier (script_restart found opened ∷ events) says = behind users restart_line _ (told_so (earlier ++ script_restart found opened ∷ []) events says)
-  told_so earlier (script_ask name session text ending ∷ events) says =
-      by (find (λ u. bytes_eq u.name name) users) refl (told_so (earlier ++ script_ask name session text ending ∷ []) events) says
+  told_so earlier (script_call name caller text ending ∷ events) says =
+      by (find (λ u. bytes_eq u.name name) users) refl (told_so (earlier ++ script_call name caller text ending ∷ []) events) says
     where
       told_by : (user : NamedUser) (told_reply : Reply) (lines : List Line) (b : Bool) → is_broken told_reply ≡ b
           → find (λ u. bytes_eq u.name name) users ≡ Some user
           → (list_any is_broken_line lines ≡ true → IsTold users lines)
-          → (is_broken_line (reply_line name session (Some told_reply)) || list_any is_broken_line lines) ≡ true
-          → IsTold users (reply_line name session (Some told_reply) ∷ lines)
-      told_by user told_reply lines true broken is further says = here users name session told_reply user lines is broken
-      told_by user told_reply lines false broken is further says = behind users _ _ (further (other _ _ (same_line name session told_reply ∙ broken) says))
+          → (is_broken_line (reply_line name caller (Some told_reply)) || list_any is_broken_line lines) ≡ true
+          → IsTold users (reply_line name caller (Some told_reply) ∷ lines)
+      told_by user told_reply lines true broken is further says = here users name caller told_reply user lines is broken
+      told_by user told_reply lines false broken is further says = behind users _ _ (further (other _ _ (same_line name caller told_reply ∙ broken) says))
 
       by : {lines : List Line} (asker : Option NamedUser) → find (λ u. bytes_eq u.name name) users ≡ asker
           → (list_any is_broken_line lines ≡ true → IsTold users lines)
-          → list_any is_broken_line (reply_line name session (told_after schema world earlier text ending asker) ∷ lines) ≡ true
-          → IsTold users (reply_line name session (told_after schema world earlier text ending asker) ∷ lines)
+          → list_any is_broken_line (reply_line name caller (told_after schema world earlier (purpose_of caller) text ending asker) ∷ lines) ≡ true
+          → IsTold users (reply_line name caller (told_after schema world earlier (purpose_of caller) text ending asker) ∷ lines)
       by None is further says = behind users _ _ (further says)
       by (Some user) is further says = told_by user _ _ (is_broken _) refl is further says
 

@@ -18,14 +18,16 @@ use Rattle.batch_engine.specs.declared.run.BatchEnd.TheVariants as batch_end
 use Rattle.case_engine.specs.Script.{script_of}
 use Rattle.case_engine.specs.declared.case.CaseEnd.{CaseEnd}
 use Rattle.case_engine.specs.declared.case.CaseEnd.TheVariants as case_end
-use Rattle.command_words.specs.Readings.{FileNames, Reading, runs_case, runs_init, runs_batch, runs_audit, runs_selfrun, runs_serve}
+use Rattle.command_words.specs.Readings.{FileNames, Reading, runs_case, runs_init, runs_batch, runs_audit, runs_selfrun, runs_serve, runs_migrate}
 use Rattle.desk_crew.specs.Shelved.{Journals}
 use Rattle.init_engine.specs.declared.end.InitEnd.{InitEnd}
 use Rattle.init_engine.specs.declared.end.InitEnd.TheVariants as init_end
 use Rattle.log_journal.specs.Names.{journal_name}
-use Rattle.log_journal.specs.Opening.{Refuses, IsRefused}
+use Rattle.log_journal.specs.Opening.{Refuses, IsRefused, RefusesOld, IsRefusedOld}
 use Rattle.log_journal.specs.declared.header.OpenError.{OpenError}
-use Rattle.log_journal.specs.declared.header.OpenError.TheVariants.{NotAJournal, OtherPolicy, Damaged, DiskFault, Memory}
+use Rattle.log_journal.specs.declared.header.OpenError.TheVariants.{NotAJournal, OtherPolicy, Damaged, DiskFault, Memory, OldVersion}
+use Rattle.migrate_engine.specs.declared.end.MigrateEnd.{MigrateEnd}
+use Rattle.migrate_engine.specs.declared.end.MigrateEnd.TheVariants as migrate_end
 use Rattle.policy_files.specs.Policies.{PolicyUser, PolicyValue}
 use Rattle.policy_files.specs.Users.{names_of}
 use Rattle.selfrun_engine.specs.declared.end.SelfrunEnd.{SelfrunEnd}
@@ -41,8 +43,9 @@ use Rattle.cqe_top.specs.Batch.{AnswersOverFiles, RunsBatch, BatchSucceeds}
 use Rattle.cqe_top.specs.Case.{RunsCase}
 use Rattle.cqe_top.specs.Files.{Said, both, SayOn, IsUnread, IsWhyUnread, journals_of, new_user}
 use Rattle.cqe_top.specs.Init.{Makes, RunsInit, InitSucceeds}
+use Rattle.cqe_top.specs.Migrate.{MovesJournals, RunsMigrate, MigrateSucceeds}
 use Rattle.cqe_top.specs.Promise.{OfReading}
-use Rattle.cqe_top.specs.Ready.{CanBeMade, CanBeOpened}
+use Rattle.cqe_top.specs.Ready.{CanBeMade, CanBeMoved, CanBeOpened}
 use Rattle.cqe_top.specs.Reports.{answers_report, has_refusal, IsDoneUnlessMemory, FaultsHaveCauses}
 use Rattle.cqe_top.specs.Scene.{Scene, ShelfScene, IsUntouched, HasRisen, SameInput, SameOutput, SameLinks}
 use Rattle.cqe_top.specs.Steps.{reading_over}
@@ -167,6 +170,7 @@ not_stopped told header bytes count count' why is (inl empty) whole reason = rea
 not_stopped told header bytes count count' NotAJournal is (inr shows) whole reason = shows NotAJournal (reason.2 is)
 not_stopped told header bytes count count' OtherPolicy is (inr shows) whole reason = shows OtherPolicy (reason.2 is)
 not_stopped told header bytes count count' (Damaged number) is (inr shows) whole reason = shows (Damaged number) (reason.2 is)
+not_stopped told header bytes count count' OldVersion is (inr shows) whole reason = shows OldVersion (reason.2.1 is)
 not_stopped told header bytes count count' DiskFault is (inr shows) whole reason = whole reason.2
 not_stopped told header bytes count count' Memory is (inr shows) whole reason = reason.1 refl
 
@@ -205,6 +209,67 @@ module _ (s : Scene) (files : FileNames) where
           absurd ((subst (IsReady header) one.2 one.1).1 stops.reason)
   init_succeeds users init_end.ShelfFault ran cause told says shelf = absurd (shelf (cause.shelf refl))
   init_succeeds users init_end.Memory ran cause told says shelf = inr refl
+
+-- ---- the moving of journals
+
+-- so it is with an old journal that shows no reason to be refused
+not_unread : (told : Type 0) (header bytes : List ℕ) (count count' : ℕ) (why : OpenError) → told → ((why : OpenError) → RefusesOld header bytes why → ⊥)
+    → (Rose count count' → ⊥) → (why ≢ Memory) × IsRefusedOld told header bytes count count' why → ⊥
+not_unread told header bytes count count' NotAJournal is shows whole reason = shows NotAJournal (reason.1 is)
+not_unread told header bytes count count' OtherPolicy is shows whole reason = shows OtherPolicy (reason.1 is)
+not_unread told header bytes count count' (Damaged number) is shows whole reason = shows (Damaged number) (reason.1 is)
+not_unread told header bytes count count' OldVersion is shows whole reason = shows OldVersion (reason.1.1 is)
+not_unread told header bytes count count' DiskFault is shows whole reason = whole reason.1
+not_unread told header bytes count count' Memory is shows whole reason = reason.0 refl
+
+module _ (s : Scene) (files : FileNames) (to : Text) where
+  -- the disks of this name are as the moving of journals needs them
+  abbrev AreReady : List ℕ → Text → Type 0
+  AreReady header name =
+      (((why : OpenError) → RefusesOld header (bytes_on s.shelf.Disk.reads (s.shelf.disk (journal_name files.directory name))) why → ⊥)
+      × (Rose (s.shelf.disk_faults (journal_name files.directory name)) (s.shelf.disk_faults' (journal_name files.directory name)) → ⊥))
+      × ((bytes_on s.shelf.Disk.reads (s.shelf.disk (journal_name to name)) ≡ [])
+      × (Rose (s.shelf.disk_faults (journal_name to name)) (s.shelf.disk_faults' (journal_name to name)) → ⊥))
+
+  abbrev CanMove : PolicyValue → FactSet → List ℕ → Type 0
+  CanMove = CanBeMoved (journals_of s.shelf files) (journals_of s.shelf (record files { directory = to }))
+
+  pub migrate_succeeds : (users : Vec User Global) (end : MigrateEnd) → RunsMigrate s.shelf files to users end → FaultsHaveCauses s (ends.Migrate users end)
+      → MigrateSucceeds s.shelf files to (ends.Migrate users end)
+  migrate_succeeds users migrate_end.Done ran cause told says shelf = inl refl
+  migrate_succeeds users (migrate_end.Refused user why) ran cause told says shelf =
+      by (agree (MovesJournals s.shelf files to users (migrate_end.Refused user why)) CanMove s.shelf files (ran.over_files told) says)
+    where
+      by : SayOn s.shelf files (λ policy world header. MovesJournals s.shelf files to users (migrate_end.Refused user why) policy world header
+          × CanMove policy world header)
+          → IsDoneUnlessMemory (ends.Migrate users (migrate_end.Refused user why))
+      by (policy, world, header, said, (over, can)) =
+          let stops = over.moves in
+          let one = at_number (λ (u : PolicyUser). AreReady header u.name) policy.users user stops.name can stops.is in
+          let ready = subst (AreReady header) one.2 one.1 in
+          absurd (not_unread s.shelf.tells header _ _ _ why told ready.0.0 ready.0.1 stops.reason)
+  migrate_succeeds users (migrate_end.NotEmpty user) ran cause told says shelf =
+      by (agree (MovesJournals s.shelf files to users (migrate_end.NotEmpty user)) CanMove s.shelf files (ran.over_files told) says)
+    where
+      by : SayOn s.shelf files (λ policy world header. MovesJournals s.shelf files to users (migrate_end.NotEmpty user) policy world header
+          × CanMove policy world header)
+          → IsDoneUnlessMemory (ends.Migrate users (migrate_end.NotEmpty user))
+      by (policy, world, header, said, (over, can)) =
+          let stops = over.moves in
+          let one = at_number (λ (u : PolicyUser). AreReady header u.name) policy.users user stops.name can stops.is in
+          absurd (stops.reason.1 told (subst (AreReady header) one.2 one.1).1.0)
+  migrate_succeeds users migrate_end.DiskFault ran cause told says shelf =
+      by (agree (MovesJournals s.shelf files to users migrate_end.DiskFault) CanMove s.shelf files (ran.over_files told) says)
+    where
+      by : SayOn s.shelf files (λ policy world header. MovesJournals s.shelf files to users migrate_end.DiskFault policy world header
+          × CanMove policy world header)
+          → IsDoneUnlessMemory (ends.Migrate users migrate_end.DiskFault)
+      by (policy, world, header, said, (over, can)) =
+          let stops = over.moves.1 in
+          let one = at_number (λ (u : PolicyUser). AreReady header u.name) policy.users over.moves.0 stops.name can stops.is in
+          absurd ((subst (AreReady header) one.2 one.1).1.1 stops.reason.1)
+  migrate_succeeds users migrate_end.ShelfFault ran cause told says shelf = absurd (shelf (cause.shelf refl))
+  migrate_succeeds users migrate_end.Memory ran cause told says shelf = inr refl
 
 -- ---- an audit
 
@@ -271,6 +336,13 @@ unread s files (task.Audit name json) end is cause input output links = record {
   reads_nothing = input;
   listens_nowhere = links;
 }
+unread s files (task.Migrate to) end is cause input output links = record {
+  ends = is;
+  succeeds = λ told says shelf. read_succeeds s files (CanMove s files to.now) end (is.refused told) cause says shelf;
+  reads_nothing = input;
+  writes_nothing = output;
+  listens_nowhere = links;
+}
 unread s files (task.Serve listening) end is cause input output links = record {
   ends = (is, links);
   succeeds = λ told links_told says shelf links. read_succeeds s files (CanBeOpened (journals_of s.shelf files)) end (is.refused told) cause says shelf;
@@ -301,3 +373,5 @@ nothing_begun s same (Some (runs_serve files address workers sessions)) =
       reads_nothing = same.input;
       writes_nothing = same.output;
     }
+nothing_begun s same (Some (runs_migrate files to)) =
+    record { ends = same.shelf; succeeds = λ told says shelf. inr refl; reads_nothing = same.input; writes_nothing = same.output; listens_nowhere = same.links }

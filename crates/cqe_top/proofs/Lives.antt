@@ -17,11 +17,12 @@ use Rattle.desk_crew.specs.Shelved.{Journals, KeepsJournals}
 use Rattle.batch_engine.specs.Batch.{ServesUser, AnswersBatch, LeavesJournals, unopened, with_opening}
 use Rattle.batch_engine.specs.BatchLines.{BatchItem}
 use Rattle.batch_engine.specs.Joining as batch
-use Rattle.batch_engine.specs.Lives.{is_ask, is_opened}
+use Rattle.batch_engine.specs.Lives.{is_call, is_opened}
 use Rattle.batch_engine.specs.declared.run.BatchEnd.{BatchEnd}
 use Rattle.batch_engine.specs.declared.run.BatchEnd.TheVariants as batch_end
 use Rattle.batch_engine.proofs.Joining.{batches_are_spans, cut_batches_are_calls, batches_join, cut_batches_join, late_batches_join}
 use Rattle.command_words.specs.Readings.{Reading, FileNames, reading_of, runs_case, runs_init, runs_batch, runs_audit, runs_selfrun, runs_serve}
+use Rattle.command_words.specs.Readings.{runs_migrate}
 use Rattle.desk_crew.proofs.Lasting.{keeps_same, keeps_all}
 use Rattle.policy_files.specs.Memory.{policy_user_of}
 use Rattle.policy_files.specs.Policies.{PolicyUser, PolicyValue}
@@ -122,7 +123,7 @@ module _ (journals : Journals) (policy : PolicyValue) (world : FactSet) (header 
     ended : (held : Bool) → list_any is_opened (own_events user.name script) ≡ held → (left : List ℕ) → journals.image user.name left
         → journals.image_before user.name left ⊎ IsLeftOpened left
     ended true held left at = inr (held, inl at)
-    ended false none left at = inl ((serves.kept (ap (λ b. b && list_any is_ask (own_events user.name script)) none)).1 left at)
+    ended false none left at = inl ((serves.kept (ap (λ b. b && list_any is_call (own_events user.name script)) none)).1 left at)
 
     amid : (held : Bool) → list_any is_opened (own_events user.name script) ≡ held → (left : List ℕ)
         → journals.image_before user.name left ⊎ journals.since user.name serves.moments.opening left
@@ -263,6 +264,7 @@ module _ {F D : Type 0} (Shelf : ShelfGhosts F D) (Disk : DiskGhosts D) (old new
     of_batch (end.Audit name audit) runs = absurd runs
     of_batch (end.Selfrun run) runs = absurd runs
     of_batch (end.Serve users served) runs = absurd runs
+    of_batch (end.Migrate users moved) runs = absurd runs
 
     of_audit : (user : Text) (json : Bool) (e : CommandEnd) → AuditEnds shelf output files user json e → Parts
     of_audit user json (end.Audit name engine_end) runs =
@@ -277,6 +279,7 @@ module _ {F D : Type 0} (Shelf : ShelfGhosts F D) (Disk : DiskGhosts D) (old new
     of_audit user json (end.Batch users batched) runs = absurd runs
     of_audit user json (end.Selfrun run) runs = absurd runs
     of_audit user json (end.Serve users served) runs = absurd runs
+    of_audit user json (end.Migrate users moved) runs = absurd runs
 
     of_serve : (address : Text) (workers limit : ℕ) (e : CommandEnd) → ServeEnds shelf links files address workers limit e → Parts
     of_serve address workers limit (end.Serve users engine_end) runs =
@@ -294,6 +297,7 @@ module _ {F D : Type 0} (Shelf : ShelfGhosts F D) (Disk : DiskGhosts D) (old new
     of_serve address workers limit end.Nobody runs = absurd runs
     of_serve address workers limit (end.Audit name audit) runs = absurd runs
     of_serve address workers limit (end.Selfrun run) runs = absurd runs
+    of_serve address workers limit (end.Migrate users moved) runs = absurd runs
 
     of_reading : (r : Option Reading) (e : CommandEnd) → OfReading (scene_of shelf input output links) r e → UsesJournals files r → Parts
     of_reading (Some (runs_batch its workers)) e of same =
@@ -306,6 +310,7 @@ module _ {F D : Type 0} (Shelf : ShelfGhosts F D) (Disk : DiskGhosts D) (old new
     of_reading (Some runs_case) e of uses = absurd uses
     of_reading (Some (runs_init its)) e of uses = absurd uses
     of_reading (Some (runs_selfrun seed users asks)) e of uses = absurd uses
+    of_reading (Some (runs_migrate its to)) e of uses = absurd uses
 
 pub calls_are_parts : {F D : Type 0} (Shelf : ShelfGhosts F D) (Disk : DiskGhosts D) (old new : F) (input : Input) (output : Output) (links : LinksScene)
     (complaints : Output) → ((d : D) (c : List ℕ) → Disk.image_since d (Disk.moment d) c → Disk.image d c)

@@ -9,7 +9,7 @@ use Rattle.line_protocol.specs.Words.{number_in}
 use Rattle.cqe_top.specs.Steps.{WorkersBounds, ServesBounds}
 use Rattle.command_words.specs.Readings.{Reading, FileNames, runs_init, runs_batch, runs_selfrun, runs_serve, reading_of, reading_with, reading_by, do_fit}
 use Rattle.command_words.specs.Readings.{CommandRow, case_row, init_row, batch_row, audit_row, selfrun_row, serve_row, files_of, audit_said, selfrun_said}
-use Rattle.command_words.specs.Readings.{batch_said, serve_said, value_of, is_used}
+use Rattle.command_words.specs.Readings.{batch_said, serve_said, value_of, is_used, runs_migrate, migrate_row, migrate_said}
 
 -- a number between two, or one of them
 abbrev IsWithin : ℕ → ℕ → ℕ → Type 0
@@ -48,11 +48,12 @@ pub record RunsBounds (users asks : ℕ) : Type 0 where
   pub some_ask : 1 ≤ asks
   pub few_asks : asks ≤ 10000
 
--- the numbers of a reading are within their limits
+-- the numbers of a reading are within their limits, and two directories are two
 abbrev pub Keeps : Reading → Type 0
 Keeps (runs_batch files workers) = WorkersBounds workers
 Keeps (runs_selfrun seed users asks) = RunsBounds users asks
 Keeps (runs_serve files address workers sessions) = ServesBounds workers sessions
+Keeps (runs_migrate files to) = bytes_eq files.directory to ≡ false
 Keeps reading = Unit {0}
 
 of_run : (one two three : Option (List ℕ)) → IfSome (selfrun_said (number_from 0 4294967295 one) (number_from 1 256 two) (number_from 1 10000 three)) Keeps
@@ -97,6 +98,15 @@ no_audit None user json = tt
 no_audit (Some files) None json = tt
 no_audit (Some files) (Some user) json = tt
 
+of_migrate : (files : Option FileNames) (to : Option (List ℕ)) → IfSome (migrate_said files to) Keeps
+of_migrate None to = tt
+of_migrate (Some files) None = tt
+of_migrate (Some files) (Some to) = by (bytes_eq files.directory to) refl
+  where
+    by : (t : Bool) → bytes_eq files.directory to ≡ t → IfSome (if t then None else Some (runs_migrate files to)) Keeps
+    by true same = tt
+    by false other = other
+
 -- words behind a command
 by_uses : (row : CommandRow) (uses : Option (List Use)) → ((some : List Use) → IfSome (row.says some) Keeps) → IfSome (reading_by row uses) Keeps
 by_uses row None further = tt
@@ -111,26 +121,30 @@ unfolding reading_of
 in_bounds [] = tt
 in_bounds (command ∷ words) =
     by (bytes_eq (codes "case") command) (bytes_eq (codes "init") command) (bytes_eq (codes "batch") command) (bytes_eq (codes "audit") command)
-    (bytes_eq (codes "selfrun") command) (bytes_eq (codes "serve") command)
+    (bytes_eq (codes "selfrun") command) (bytes_eq (codes "serve") command) (bytes_eq (codes "migrate") command)
   where
-    by : (a b c d e f : Bool)
+    by : (a b c d e f g : Bool)
         → IfSome (reading_with
         (cond a (Some case_row)
-        (cond b (Some init_row) (cond c (Some batch_row) (cond d (Some audit_row) (cond e (Some selfrun_row) (cond f (Some serve_row) None)))))) words)
+        (cond b (Some init_row)
+        (cond c (Some batch_row)
+        (cond d (Some audit_row) (cond e (Some selfrun_row) (cond f (Some serve_row) (cond g (Some migrate_row) None))))))) words)
         Keeps
-    by true b c d e f = by_uses case_row (uses_of case_row.options words) (λ uses. tt)
-    by false true c d e f = by_uses init_row (uses_of init_row.options words) (λ uses. no_init (files_of uses))
-    by false false true d e f =
+    by true b c d e f g = by_uses case_row (uses_of case_row.options words) (λ uses. tt)
+    by false true c d e f g = by_uses init_row (uses_of init_row.options words) (λ uses. no_init (files_of uses))
+    by false false true d e f g =
         by_uses batch_row (uses_of batch_row.options words) (λ uses. of_batch (files_of uses) (value_of uses (codes "workers")))
-    by false false false true e f =
+    by false false false true e f g =
         by_uses audit_row (uses_of audit_row.options words) (λ uses. no_audit (files_of uses) (value_of uses (codes "user")) (is_used uses (codes "json")))
-    by false false false false true f =
+    by false false false false true f g =
         by_uses selfrun_row (uses_of selfrun_row.options words) (λ uses.
         of_run (value_of uses (codes "seed")) (value_of uses (codes "users")) (value_of uses (codes "asks")))
-    by false false false false false true =
+    by false false false false false true g =
         by_uses serve_row (uses_of serve_row.options words) (λ uses.
         of_server (files_of uses) (value_of uses (codes "listen")) (value_of uses (codes "workers")) (value_of uses (codes "sessions")))
-    by false false false false false false = tt
+    by false false false false false false true =
+        by_uses migrate_row (uses_of migrate_row.options words) (λ uses. of_migrate (files_of uses) (value_of uses (codes "to")))
+    by false false false false false false false = tt
 
 -- what words say has its limits
 pub kept : (words : List (List ℕ)) (reading : Reading) → reading_of words ≡ Some reading → Keeps reading

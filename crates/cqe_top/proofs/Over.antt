@@ -1,5 +1,5 @@
 -- What an engine did over a shelf whose files were read before it, the call did.
-use Rattle.std.proofs.Common.{◌≡◌, ℕ, zero, suc, ◌≤◌, ◌<◌, List, [], ◌∷◌, length, map, refl, sym, ap, subst, ◌∙◌, arith}
+use Rattle.std.proofs.Common.{◌≡◌, ℕ, zero, suc, ◌≤◌, ◌<◌, List, [], ◌∷◌, ◌++◌, length, map, refl, sym, ap, subst, ◌∙◌, arith}
 use Rattle.std.specs.Prelude.{Some, None, slice_get}
 use Rattle.outside.proofs.Rises.{rose_since}
 use Rattle.outside.proofs.Taken.{Rests}
@@ -25,6 +25,9 @@ use Rattle.init_engine.specs.Ends.{Change, EndsInit}
 use Rattle.init_engine.specs.declared.end.InitEnd.{InitEnd}
 use Rattle.init_engine.specs.declared.end.InitEnd.TheVariants as init_end
 use Rattle.log_journal.specs.Names.{journal_name}
+use Rattle.migrate_engine.specs.Ends.{EndsMigrate}
+use Rattle.migrate_engine.specs.declared.end.MigrateEnd.{MigrateEnd}
+use Rattle.migrate_engine.specs.declared.end.MigrateEnd.TheVariants as migrate_end
 use Rattle.policy_files.specs.Memory.{policy_value_of}
 use Rattle.policy_files.specs.Users.{names_of}
 use Rattle.policy_files.specs.declared.policy.Policy.{Policy}
@@ -32,6 +35,7 @@ use Rattle.serve_engine.specs.Serving as serving
 use Rattle.serve_engine.specs.declared.run.ServeEnd.{ServeEnd}
 use Rattle.cqe_top.specs.Files.{TouchesOnlyJournals, CountsOnlyJournals, journals_of, new_users}
 use Rattle.cqe_top.specs.Init.{change_on, NamesOneOf}
+use Rattle.cqe_top.specs.Migrate.{CountsOnlyBoth, IsAtOneOf}
 use Rattle.cqe_top.specs.Scene.{shelf_of}
 use Rattle.cqe_top.proofs.Users.{names_are, batch_names_are, new_users_are}
 
@@ -73,6 +77,33 @@ module _ {F D : Type 0} (Shelf : ShelfGhosts F D) (Disk : DiskGhosts D) (old mid
         counted name (ap (λ ns. is_among (map (journal_name files.directory) ns) name) (ap init.user_names are ∙ names_are policy.users.items) ∙ none)
         ∙ counts name
 
+    -- and where journals were moved
+    pub counts_both : (to : Text) (policy : Policy) (users : List User) → users ≡ policy.users.items
+        → SameBeside (map (journal_name files.directory) (init.user_names users) ++ map (journal_name to) (init.user_names users)) (Shelf.disk_faults mid)
+        (Shelf.disk_faults new)
+        → CountsOnlyBoth (shelf_of Shelf Disk old new) files to (names_of (policy_value_of policy).users)
+    counts_both to policy users are counted name none =
+        counted name (ap (λ ns. is_among (map (journal_name files.directory) ns ++ map (journal_name to) ns) name)
+        (ap init.user_names are ∙ names_are policy.users.items) ∙ none)
+        ∙ counts name
+
+    -- what changed behind the files changed in the call, but for the shelf's own count
+    abbrev later_change : Change D
+    later_change = record (change_on (shelf_of Shelf Disk old new)) { shelf_before = Shelf.faults mid }
+
+    same_change : change_on (shelf_of Shelf Disk mid new) ≡ later_change
+    same_change = λ i. record {
+      old = λ name. disks name i;
+      new = Shelf.disk new;
+      before = λ name. counts name i;
+      now = Shelf.disk_faults new;
+      shelf_before = Shelf.faults mid;
+      shelf_now = Shelf.faults new;
+    }
+
+    rose_earlier : Shelf.faults old ≤ Shelf.faults mid → Rose (Shelf.faults mid) (Shelf.faults new) → Rose (Shelf.faults old) (Shelf.faults new)
+    rose_earlier later = rose_since (Shelf.faults old) (Shelf.faults mid) (Shelf.faults new) later
+
     -- the making of journals ended so, by the disks and the counts of a change
     abbrev Ended : List ℕ → Policy → Change D → InitEnd → Type 0
     Ended header policy change made = EndsInit Shelf.tells Disk header files.directory (names_of (policy_value_of policy).users) change made
@@ -82,31 +113,48 @@ module _ {F D : Type 0} (Shelf : ShelfGhosts F D) (Disk : DiskGhosts D) (old mid
         → EndsInit Shelf.tells Disk header files.directory (names_of (policy_value_of policy).users)
         (change_on (shelf_of Shelf Disk old new)) made
     init_over header policy users made are later ended =
-        earlier made (subst (λ c. Ended header policy c made) (λ i. record {
-          old = λ name. disks name i;
-          new = Shelf.disk new;
-          before = λ name. counts name i;
-          now = Shelf.disk_faults new;
-          shelf_before = Shelf.faults mid;
-          shelf_now = Shelf.faults new;
-        }) (subst (λ names. EndsInit Shelf.tells Disk header files.directory names (change_on (shelf_of Shelf Disk mid new)) made)
+        earlier made (subst (λ c. Ended header policy c made) same_change
+        (subst (λ names. EndsInit Shelf.tells Disk header files.directory names (change_on (shelf_of Shelf Disk mid new)) made)
         (ap init.user_names are ∙ names_are policy.users.items) ended))
       where
-        rose : Rose (Shelf.faults mid) (Shelf.faults new) → Rose (Shelf.faults old) (Shelf.faults new)
-        rose = rose_since (Shelf.faults old) (Shelf.faults mid) (Shelf.faults new) later
-
-        earlier : (made : InitEnd) → Ended header policy (record (change_on (shelf_of Shelf Disk old new)) {
-          shelf_before =
-              Shelf.faults mid;
-        }) made → Ended header policy (change_on (shelf_of Shelf Disk old new)) made
+        earlier : (made : InitEnd) → Ended header policy later_change made → Ended header policy (change_on (shelf_of Shelf Disk old new)) made
         earlier init_end.Done ended = ended
         earlier (init_end.Refused user why) ended = record { name = ended.name; is = ended.is; reason = ended.reason; kept = ended.kept; ready = ended.ready }
         earlier init_end.DiskFault (user, ended) =
             (user, record { name = ended.name; is = ended.is; reason = ended.reason; kept = ended.kept; ready = ended.ready })
         earlier init_end.ShelfFault (user, ended) =
-            (user, record { name = ended.name; is = ended.is; reason = rose ended.reason; kept = ended.kept; ready = ended.ready })
+            (user, record { name = ended.name; is = ended.is; reason = rose_earlier later ended.reason; kept = ended.kept; ready = ended.ready })
         earlier init_end.Memory (user, ended) =
             (user, record { name = ended.name; is = ended.is; reason = ended.reason; kept = ended.kept; ready = ended.ready })
+
+    -- the moving of journals ended so
+    abbrev Moved : List ℕ → Text → List Text → Change D → MigrateEnd → Type 0
+    Moved header to names change made = EndsMigrate Shelf.tells Disk header files.directory to names change made
+
+    pub migrate_over : (header : List ℕ) (to : Text) (policy : Policy) (users : List User) (made : MigrateEnd) → users ≡ policy.users.items
+        → Shelf.faults old ≤ Shelf.faults mid
+        → EndsMigrate Shelf.tells Disk header files.directory to (init.user_names users) (change_on (shelf_of Shelf Disk mid new)) made
+        → EndsMigrate Shelf.tells Disk header files.directory to (names_of (policy_value_of policy).users)
+        (change_on (shelf_of Shelf Disk old new)) made
+    migrate_over header to policy users made are later ended =
+        earlier made (subst (λ c. Moved header to names c made) same_change
+        (subst (λ ns. Moved header to ns (change_on (shelf_of Shelf Disk mid new)) made) (ap init.user_names are ∙ names_are policy.users.items) ended))
+      where
+        names : List Text
+        names = names_of (policy_value_of policy).users
+
+        earlier : (made : MigrateEnd) → Moved header to names later_change made → Moved header to names (change_on (shelf_of Shelf Disk old new)) made
+        earlier migrate_end.Done ended = ended
+        earlier (migrate_end.Refused user why) ended =
+            record { name = ended.name; is = ended.is; reason = ended.reason; target = ended.target; moves = ended.moves }
+        earlier (migrate_end.NotEmpty user) ended =
+            record { name = ended.name; is = ended.is; reason = ended.reason; target = ended.target; moves = ended.moves }
+        earlier migrate_end.DiskFault (user, ended) =
+            (user, record { name = ended.name; is = ended.is; reason = ended.reason; target = ended.target; moves = ended.moves })
+        earlier migrate_end.ShelfFault (user, ended) =
+            (user, record { name = ended.name; is = ended.is; reason = rose_earlier later ended.reason; target = ended.target; moves = ended.moves })
+        earlier migrate_end.Memory (user, ended) =
+            (user, record { name = ended.name; is = ended.is; reason = ended.reason; target = ended.target; moves = ended.moves })
 
   -- ---- the look at one disk
 
@@ -205,4 +253,27 @@ pub init_caused : {D : Type 0} (told : Type 0) (Disk : DiskGhosts D) (header dir
 init_caused told Disk header directory names change made ended = (
   λ is. (subst (λ m. EndsInit told Disk header directory names change m) is ended).1.reason,
   λ is. let stops = subst (λ m. EndsInit told Disk header directory names change m) is ended in (journal_name directory stops.1.name, stops.1.reason),
+)
+
+-- so is one at whose disks the moving of journals stopped
+pub at_one_of : {D : Type 0} (told : Type 0) (Disk : DiskGhosts D) (header from to : List ℕ) (users others : List User)
+    (change : Change D) (made : MigrateEnd)
+    → users ≡ others → EndsMigrate told Disk header from to (init.user_names users) change made → IsAtOneOf others made
+at_one_of told Disk header from to users others change (migrate_end.Refused user why) are ended =
+    subst (λ us. user < length us) are (is_within users user ended.name ended.is)
+at_one_of told Disk header from to users others change (migrate_end.NotEmpty user) are ended =
+    subst (λ us. user < length us) are (is_within users user ended.name ended.is)
+at_one_of told Disk header from to users others change migrate_end.Done are ended = tt
+at_one_of told Disk header from to users others change migrate_end.DiskFault are ended = tt
+at_one_of told Disk header from to users others change migrate_end.ShelfFault are ended = tt
+at_one_of told Disk header from to users others change migrate_end.Memory are ended = tt
+
+-- and it stops for a fault only where the count rose
+pub migrate_caused : {D : Type 0} (told : Type 0) (Disk : DiskGhosts D) (header from to : List ℕ) (names : List Text)
+    (change : Change D) (made : MigrateEnd)
+    → EndsMigrate told Disk header from to names change made
+    → (made ≡ migrate_end.ShelfFault → Rose change.shelf_before change.shelf_now) × (made ≡ migrate_end.DiskFault → SomeRose change.before change.now)
+migrate_caused told Disk header from to names change made ended = (
+  λ is. (subst (λ m. EndsMigrate told Disk header from to names change m) is ended).1.reason,
+  λ is. let stops = subst (λ m. EndsMigrate told Disk header from to names change m) is ended in (journal_name to stops.1.name, stops.1.reason.1),
 )

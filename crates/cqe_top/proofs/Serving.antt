@@ -17,7 +17,7 @@ use Rattle.desk_crew.specs.Crew.{refusal_of}
 use Rattle.desk_crew.specs.Shelved.{Journals}
 use Rattle.log_journal.specs.Opening.{header_bytes}
 use Rattle.log_journal.specs.declared.header.Header.{Header}
-use Rattle.log_journal.specs.declared.header.OpenError.TheVariants.{NotAJournal, OtherPolicy, Damaged, DiskFault, Memory}
+use Rattle.log_journal.specs.declared.header.OpenError.TheVariants.{NotAJournal, OtherPolicy, Damaged, DiskFault, Memory, OldVersion}
 use Rattle.policy_files.specs.Facts.{facts_of}
 use Rattle.policy_files.specs.Memory.{policy_user_of}
 use Rattle.policy_files.specs.Policies.{PolicyUser, PolicyValue}
@@ -94,10 +94,14 @@ module _ (schema : DatabaseSchema) (world : FactSet) (header : List ℕ) (journa
       unrefused user.profile (journals.bytes user.name) ready.0.0 (desk_errors.Journal OtherPolicy) ready.0.1 (is tt)
   not_sealed user (desk_errors.Journal (Damaged number)) ready is =
       unrefused user.profile (journals.bytes user.name) ready.0.0 (desk_errors.Journal (Damaged number)) ready.0.1 (is tt)
+  not_sealed user (desk_errors.Journal OldVersion) ready is =
+      unrefused user.profile (journals.bytes user.name) ready.0.0 (desk_errors.Journal OldVersion) ready.0.1 (is tt)
   not_sealed user (desk_errors.Stale number) ready is = unrefused user.profile (journals.bytes user.name) ready.0.0 (desk_errors.Stale number) ready.0.1 (is tt)
   not_sealed user (desk_errors.Unlawful number stored computed) ready is =
       unrefused user.profile (journals.bytes user.name) ready.0.0 (desk_errors.Unlawful number stored computed) ready.0.1 (is tt)
   not_sealed user (desk_errors.Size number) ready is = unrefused user.profile (journals.bytes user.name) ready.0.0 (desk_errors.Size number) ready.0.1 (is tt)
+  not_sealed user (desk_errors.Unsafe number) ready is =
+      unrefused user.profile (journals.bytes user.name) ready.0.0 (desk_errors.Unsafe number) ready.0.1 (is tt)
   not_sealed user (desk_errors.NotAdmitted admission) ready is =
       unrefused user.profile (journals.bytes user.name) ready.0.0 (desk_errors.NotAdmitted admission) ready.0.1 (is tt)
 

@@ -1,6 +1,7 @@
 -- The users of a policy as they begin a batch.
-use Rattle.std.proofs.Common.{◌≡◌, List, [], ◌∷◌, map, refl, ap, ◌∙◌, false}
-use Rattle.cqe_base.specs.Schema.{has_duplicate}
+use Rattle.std.proofs.Common.{◌≡◌, List, [], ◌∷◌, map, refl, ap, ◌∙◌, true, false}
+use Rattle.std.specs.List.{list_all}
+use Rattle.cqe_base.specs.Schema.{has_duplicate, is_schema_name}
 use Rattle.cqe_base.specs.declared.user.User.{User}
 use Rattle.init_engine.specs.Disks as init
 use Rattle.policy_files.specs.Users.{names_of}
@@ -23,6 +24,10 @@ batch_names_are (user ∷ users) = ap (λ names. (named_user user).name ∷ name
 -- they differ
 pub names_differ : (policy : Policy) → IsKeptPolicy (policy_value_of policy) → has_duplicate (init.user_names policy.users.items) ≡ false
 names_differ policy kept = ap has_duplicate (names_are policy.users.items) ∙ kept.differ
+
+-- and are proper
+pub names_proper : (policy : Policy) → IsKeptPolicy (policy_value_of policy) → list_all is_schema_name (init.user_names policy.users.items) ≡ true
+names_proper policy kept = ap (list_all is_schema_name) (names_are policy.users.items) ∙ kept.proper
 
 same_users : (users : List User) → map new_user (map policy_user_of users) ≡ map named_user users
 same_users [] = refl

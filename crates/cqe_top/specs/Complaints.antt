@@ -23,7 +23,7 @@ use Rattle.cqe_top.specs.declared.report.Report.{Report}
 use Rattle.cqe_top.specs.declared.report.Report.TheVariants.{Done, Usage, Policy, Facts, Script}
 use Rattle.cqe_top.specs.declared.report.Report.TheVariants.{ReadFault, WriteFault}
 use Rattle.cqe_top.specs.declared.report.Report.TheVariants.{Missing, ShelfFault}
-use Rattle.cqe_top.specs.declared.report.Report.TheVariants.{Journal, JournalAt, Journals}
+use Rattle.cqe_top.specs.declared.report.Report.TheVariants.{Journal, JournalAt, Journals, TargetAt}
 use Rattle.cqe_top.specs.declared.report.Report.TheVariants.{DiskFault, LinksFault, Memory}
 
 -- the number of a script's refusal
@@ -115,6 +115,7 @@ facts_complaint why =
 -- why a journal isn't opened
 abbrev pub opening_cause : OpenError → Text
 opening_cause open_errors.NotAJournal = codes "not a journal"
+opening_cause open_errors.OldVersion = codes "old version"
 opening_cause open_errors.OtherPolicy = codes "other policy"
 opening_cause (open_errors.Damaged number) = codes "damaged " ++ decimal number
 opening_cause open_errors.DiskFault = codes "disk fault"
@@ -129,11 +130,15 @@ journal_cause (desk_errors.Unlawful number stored computed) =
     codes "unlawful " ++ decimal number ++ codes " stored " ++ mark_text stored
     ++ codes " computed " ++ mark_text computed
 journal_cause (desk_errors.NotAdmitted admission) = codes "not admitted"
+journal_cause (desk_errors.Unsafe number) = codes "unsafe " ++ decimal number
+
+-- the line of a user with what is wrong with his journal
+abbrev pub cause_line : Text → Text → Text
+cause_line name cause = codes "cqe: journal " ++ name ++ codes " " ++ cause ++ codes "\n"
 
 -- the line of a user whose journal is refused
 abbrev pub journal_line : Text → DeskError → Text
-journal_line name why =
-    codes "cqe: journal " ++ name ++ codes " " ++ journal_cause why ++ codes "\n"
+journal_line name why = cause_line name (journal_cause why)
 
 -- the line of a user, if his journal is refused
 abbrev pub refusal_line : Text → Option DeskError → Text
@@ -147,10 +152,10 @@ journal_lines (user ∷ users) [] = []
 journal_lines (user ∷ users) (refusal ∷ refusals) =
     refusal_line (string_bytes user.name) refusal ++ journal_lines users refusals
 
--- the line of a user whose journal isn't opened, if there is such a user
-abbrev pub user_line : Option User → OpenError → Text
-user_line None why = []
-user_line (Some user) why = journal_line (string_bytes user.name) (desk_errors.Journal why)
+-- the line of a user with this cause, if there is such a user
+abbrev pub user_line : Option User → Text → Text
+user_line None cause = []
+user_line (Some user) cause = cause_line (string_bytes user.name) cause
 
 -- what is said of an end, by its report
 abbrev pub complaint_of : Report → Text
@@ -164,7 +169,10 @@ complaint_of WriteFault = codes "cqe: write fault\n"
 complaint_of (Missing name) = codes "cqe: missing " ++ name.now ++ codes "\n"
 complaint_of ShelfFault = codes "cqe: shelf fault\n"
 complaint_of (Journal name why) = journal_line name.now why
-complaint_of (JournalAt users number why) = user_line (slice_get users.items number) why
+complaint_of (JournalAt users number why) =
+    user_line (slice_get users.items number) (opening_cause why)
+complaint_of (TargetAt users number) =
+    user_line (slice_get users.items number) (codes "not empty")
 complaint_of (Journals users refusals) = journal_lines users.items refusals.items
 complaint_of DiskFault = codes "cqe: disk fault\n"
 complaint_of LinksFault = codes "cqe: links fault\n"

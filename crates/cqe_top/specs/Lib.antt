@@ -5,6 +5,7 @@ pub mod Complaints
 pub mod Ready
 pub mod Case
 pub mod Init
+pub mod Migrate
 pub mod Batch
 pub mod Audit
 pub mod Selfrun

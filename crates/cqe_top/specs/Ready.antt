@@ -5,7 +5,7 @@ use Rattle.std.specs.List.{AllByRecursion}
 use Rattle.outside.specs.Faults.{Rose}
 use Rattle.cqe_base.specs.Facts.{FactSet}
 use Rattle.cqe_base.specs.History.{History}
-use Rattle.log_journal.specs.Opening.{Refuses}
+use Rattle.log_journal.specs.Opening.{Refuses, RefusesOld}
 use Rattle.log_journal.specs.declared.header.OpenError.{OpenError}
 use Rattle.user_desk.specs.Causes.{Opens}
 use Rattle.desk_crew.specs.Shelved.{Journals}
@@ -22,6 +22,15 @@ CanBeMade journals policy world header = AllByRecursion (λ user.
     ((journals.bytes user.name ≡ [])
     ⊎ ((why : OpenError) → Refuses header (journals.bytes user.name) why → ⊥))
     × HasNoFault journals user) policy.users
+
+-- as the call begins each user's disk in one directory shows no reason to refuse it as a journal of
+-- version 1 with the digests of this header, his disk in the other is empty, and neither has a
+-- fault in the call
+abbrev pub CanBeMoved : Journals → Journals → PolicyValue → FactSet → List ℕ → Type 0
+CanBeMoved old new policy world header = AllByRecursion (λ user.
+    (((why : OpenError) → RefusesOld header (old.bytes user.name) why → ⊥)
+    × HasNoFault old user)
+    × ((new.bytes user.name ≡ []) × HasNoFault new user)) policy.users
 
 -- as the call begins this user's journal stands for a legal history of his within the limits, and
 -- its disk has no fault in the call

@@ -10,6 +10,7 @@ use Rattle.batch_engine.specs.declared.run.BatchEnd.TheVariants as batch_end
 use Rattle.case_engine.specs.declared.case.CaseEnd.TheVariants as case_end
 use Rattle.outside.specs.Shelf.{SomeRose}
 use Rattle.init_engine.specs.declared.end.InitEnd.TheVariants as init_end
+use Rattle.migrate_engine.specs.declared.end.MigrateEnd.TheVariants as migrate_end
 use Rattle.selfrun_engine.specs.declared.end.SelfrunEnd.TheVariants as selfrun_end
 use Rattle.serve_engine.specs.declared.run.ServeEnd.TheVariants as serve_end
 use Rattle.cqe_top.specs.declared.end.FilesEnd.TheVariants as files_end
@@ -19,7 +20,7 @@ use Rattle.cqe_top.specs.declared.report.Report.{Report}
 use Rattle.cqe_top.specs.declared.report.Report.TheVariants.{Done, Usage, Policy, Facts, Script}
 use Rattle.cqe_top.specs.declared.report.Report.TheVariants.{ReadFault, WriteFault}
 use Rattle.cqe_top.specs.declared.report.Report.TheVariants.{Missing, ShelfFault}
-use Rattle.cqe_top.specs.declared.report.Report.TheVariants.{Journal, JournalAt, Journals}
+use Rattle.cqe_top.specs.declared.report.Report.TheVariants.{Journal, JournalAt, Journals, TargetAt}
 use Rattle.cqe_top.specs.declared.report.Report.TheVariants.{DiskFault, LinksFault, Memory}
 use Rattle.cqe_top.specs.Scene.{Scene, HasRisen}
 
@@ -36,6 +37,7 @@ status_of (Missing name) = 8
 status_of ShelfFault = 9
 status_of (Journal name why) = 10
 status_of (JournalAt users number why) = 10
+status_of (TargetAt users number) = 10
 status_of (Journals users refusals) = 10
 status_of DiskFault = 11
 status_of LinksFault = 12
@@ -94,6 +96,12 @@ report_of (command_end.Serve users (serve_end.Done refusals broken)) =
 report_of (command_end.Serve users serve_end.LinksFault) = LinksFault
 report_of (command_end.Serve users serve_end.ShelfFault) = ShelfFault
 report_of (command_end.Serve users serve_end.Memory) = Memory
+report_of (command_end.Migrate users migrate_end.Done) = Done
+report_of (command_end.Migrate users (migrate_end.Refused user why)) = JournalAt users user why
+report_of (command_end.Migrate users (migrate_end.NotEmpty user)) = TargetAt users user
+report_of (command_end.Migrate users migrate_end.DiskFault) = DiskFault
+report_of (command_end.Migrate users migrate_end.ShelfFault) = ShelfFault
+report_of (command_end.Migrate users migrate_end.Memory) = Memory
 
 -- what is told is that all was done, or that memory was wanting
 abbrev pub IsDoneUnlessMemory : CommandEnd → Type 0

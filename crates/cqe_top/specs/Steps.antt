@@ -1,10 +1,11 @@
 -- Steps of the proof: what functions of this crate promise one another. Nothing of the promise
 -- stands here.
-use Rattle.std.specs.Prelude.{◌≡◌, ℕ, ◌^◌, ◌≤◌, List, Option, None, Result, Err}
+use Rattle.std.specs.Prelude.{◌≡◌, ℕ, ◌^◌, ◌≤◌, false, List, bytes_eq, Option, None, Result, Err}
 use Rattle.cqe_base.specs.Facts.{FactSet}
 use Rattle.cqe_base.specs.Schema.{Text}
 use Rattle.command_words.specs.Readings.{Reading, FileNames, names_of_files, runs_case, runs_init}
 use Rattle.command_words.specs.Readings.{runs_batch, runs_audit, runs_selfrun, runs_serve}
+use Rattle.command_words.specs.Readings.{runs_migrate}
 use Rattle.policy_files.specs.declared.error.PolicyError.{PolicyError}
 use Rattle.policy_files.specs.declared.error.FactsError.{FactsError}
 use Rattle.policy_files.specs.Policies.{PolicyValue}
@@ -13,7 +14,7 @@ use Rattle.cqe_top.specs.declared.end.FilesEnd.{FilesEnd}
 use Rattle.cqe_top.specs.declared.end.FilesEnd.TheVariants.{Missing, ShelfFault, Policy}
 use Rattle.cqe_top.specs.declared.end.FilesEnd.TheVariants.{Facts, Memory}
 use Rattle.cqe_top.specs.declared.over_files.Task.{Task}
-use Rattle.cqe_top.specs.declared.over_files.Task.TheVariants.{Init, Batch, Audit, Serve}
+use Rattle.cqe_top.specs.declared.over_files.Task.TheVariants.{Init, Batch, Audit, Migrate, Serve}
 use Rattle.cqe_top.specs.declared.part.Part.{Part}
 use Rattle.cqe_top.specs.declared.part.Part.TheVariants.{Case, Selfrun, OverFiles}
 
@@ -50,6 +51,7 @@ abbrev pub reading_over : FileNames → Task → Reading
 reading_over files Init = runs_init files
 reading_over files (Batch workers) = runs_batch files workers
 reading_over files (Audit user json) = runs_audit files user.now json
+reading_over files (Migrate to) = runs_migrate files to.now
 reading_over files (Serve listening) =
     runs_serve files listening.address.now listening.workers listening.sessions
 
@@ -71,9 +73,11 @@ pub record ServesBounds (workers sessions : ℕ) : Type 0 where
   pub some_session : 1 ≤ sessions
   pub few_sessions : sessions ≤ 2 ^ 30
 
--- the numbers of a batch and of a server are within them
-abbrev pub KeepsBounds : Task → Type 0
-KeepsBounds Init = Unit {0}
-KeepsBounds (Batch workers) = WorkersBounds workers
-KeepsBounds (Audit user json) = Unit {0}
-KeepsBounds (Serve listening) = ServesBounds listening.workers listening.sessions
+-- the numbers of a batch and of a server are within them, and journals are moved to another
+-- directory than that of these files
+abbrev pub KeepsBounds : FileNames → Task → Type 0
+KeepsBounds files Init = Unit {0}
+KeepsBounds files (Batch workers) = WorkersBounds workers
+KeepsBounds files (Audit user json) = Unit {0}
+KeepsBounds files (Migrate to) = bytes_eq files.directory to.now ≡ false
+KeepsBounds files (Serve listening) = ServesBounds listening.workers listening.sessions

@@ -34,7 +34,8 @@ use std::thread::Threads;
 /// workload, runs it over objects in memory, and prints how often each reply came. `serve` reads
 /// the same files as `batch` and serves the connections that the links give at an address, side by
 /// side, until the links end or so many connections were served. It may wait, for a client, at the
-/// desks and at the gate.
+/// desks and at the gate. `migrate` reads the same files as `init` and moves the old journal of
+/// each user to a disk in another directory, which has to be empty.
 /// What can't be done is said to the complaints; where they fail too, nothing else changes.
 ///
 /// No clause speaks of the gate, and none says that users of a batch or connections are served side

@@ -7,8 +7,8 @@ ghost use Rattle.outside.specs.Streams.{AppendsUnless, AppendsPart};
 ghost use Rattle.cqe_top.specs.Complaints.{complaint_of, kind_number, schema_number};
 ghost use Rattle.cqe_top.specs.Complaints.{script_complaint, policy_complaint, facts_complaint};
 ghost use Rattle.cqe_top.specs.Complaints.{place_complaint, user_text, index_text, cause_text};
-ghost use Rattle.cqe_top.specs.Complaints.{opening_cause, journal_cause, journal_line, user_line};
-ghost use Rattle.cqe_top.specs.Complaints.{refusal_line, journal_lines};
+ghost use Rattle.cqe_top.specs.Complaints.{opening_cause, journal_cause, cause_line, journal_line};
+ghost use Rattle.cqe_top.specs.Complaints.{user_line, refusal_line, journal_lines};
 
 use crate::report::Report;
 use cqe_base::schema::SchemaError;
@@ -51,7 +51,15 @@ fn give<E: Sink>(complaints: &mut E, report: &Report<'_>) -> Result<(), Failed>
         Report::WriteFault => write_all(complaints, b"cqe: write fault\n"),
         Report::Journal(name, why) => give_journal(complaints, name, *why),
         Report::JournalAt(users, number, why) => {
-            give_user(complaints, users.as_slice(), *number, *why)
+            give_user(complaints, users.as_slice(), *number, opening_cause(*why))
+        }
+        Report::TargetAt(users, number) => {
+            give_user(
+                complaints,
+                users.as_slice(),
+                *number,
+                LineText::new("not empty"),
+            )
         }
         Report::Journals(users, refusals) => {
             give_journals(complaints, users.as_slice(), refusals.as_slice())
@@ -104,21 +112,21 @@ fn give_refusal<E: Sink>(
     }
 }
 
-/// Gives the line of the user of this number, whose journal isn't opened, if there is such a user.
+/// Gives the line of the user of this number, with this cause, if there is such a user.
 fn give_user<E: Sink>(
     complaints: &mut E,
     users: &[User],
     number: usize,
-    why: OpenError,
+    cause: LineText,
 ) -> Result<(), Failed>
     ensures all { E.tells → OnOk result (E.written complaints.new
-        ≡ E.written complaints.old ++ user_line (slice_get users.now number) why) }
+        ≡ E.written complaints.old ++ user_line (slice_get users.now number) cause) }
     ensures part { E.tells → OnErr result (AppendsPart (E.written complaints.old)
-        (E.written complaints.new) (user_line (slice_get users.now number) why)) }
+        (E.written complaints.new) (user_line (slice_get users.now number) cause)) }
     ensures cause { HasCause (E.faults complaints.old) (E.faults complaints.new) result }
 {
     match users.get(number) {
-        Some(user) => give_journal(complaints, user.name.as_str(), DeskError::Journal(why)),
+        Some(user) => give_cause(complaints, user.name.as_str(), cause, LineText::new("")),
         None => Ok(()),
     }
 }
@@ -132,6 +140,22 @@ fn give_journal<E: Sink>(complaints: &mut E, name: &str, why: DeskError) -> Resu
     ensures cause { HasCause (E.faults complaints.old) (E.faults complaints.new) result }
 {
     let (cause, marks) = journal_cause(why);
+    give_cause(complaints, name, cause, marks)
+}
+
+/// Gives the line of a user's journal, with a cause in two parts.
+fn give_cause<E: Sink>(
+    complaints: &mut E,
+    name: &str,
+    cause: LineText,
+    more: LineText,
+) -> Result<(), Failed>
+    ensures all { E.tells → OnOk result (E.written complaints.new
+        ≡ E.written complaints.old ++ cause_line name.now (cause ++ more)) }
+    ensures part { E.tells → OnErr result (AppendsPart (E.written complaints.old)
+        (E.written complaints.new) (cause_line name.now (cause ++ more))) }
+    ensures cause { HasCause (E.faults complaints.old) (E.faults complaints.new) result }
+{
     write_parts(
         complaints,
         &[
@@ -139,7 +163,7 @@ fn give_journal<E: Sink>(complaints: &mut E, name: &str, why: DeskError) -> Resu
             name.as_bytes(),
             b" ",
             cause.bytes(),
-            marks.bytes(),
+            more.bytes(),
             b"\n",
         ],
     )
@@ -164,6 +188,7 @@ fn journal_cause(why: DeskError) -> (LineText, LineText)
             (cause, marks(stored, computed))
         }
         DeskError::NotAdmitted(_) => (LineText::new("not admitted"), nothing),
+        DeskError::Unsafe(number) => (numbered("unsafe ", number), nothing),
     }
 }
 
@@ -184,6 +209,7 @@ fn opening_cause(why: OpenError) -> LineText
 {
     match why {
         OpenError::NotAJournal => LineText::new("not a journal"),
+        OpenError::OldVersion => LineText::new("old version"),
         OpenError::OtherPolicy => LineText::new("other policy"),
         OpenError::Damaged(number) => numbered("damaged ", number),
         OpenError::DiskFault => LineText::new("disk fault"),

@@ -4,6 +4,7 @@ use batch_engine::BatchEnd;
 use case_engine::CaseEnd;
 use cqe_base::user::User;
 use init_engine::InitEnd;
+use migrate_engine::MigrateEnd;
 use policy_files::{FactsError, PolicyError};
 use selfrun_engine::SelfrunEnd;
 use serve_engine::ServeEnd;
@@ -31,6 +32,8 @@ pub enum CommandEnd<'w> {
     Selfrun(SelfrunEnd),
     /// Serving over these users' journals did.
     Serve(Vec<User>, ServeEnd),
+    /// The moving of these users' journals did.
+    Migrate(Vec<User>, MigrateEnd),
 }
 
 /// Why a policy file and a facts file weren't read: by the first of them of which that is so.

@@ -1,7 +1,8 @@
 //! The policy file and the facts file of a command, and the header that they give to journals.
-ghost use Rattle.std.specs.Prelude.{◌≡◌, ◌≤◌, ◌++◌, ◌∷◌, [], List, ℕ, false, All, Some, Ok};
+ghost use Rattle.std.specs.Prelude.{◌≡◌, ◌≤◌, ◌++◌, ◌∷◌, [], List, ℕ, false, true, All, Some, Ok};
 ghost use Rattle.std.specs.Prelude.{IfOk, IfErr, OnErr, OnOk};
-ghost use Rattle.cqe_base.specs.Schema.{has_duplicate};
+ghost use Rattle.std.specs.List.{list_all};
+ghost use Rattle.cqe_base.specs.Schema.{has_duplicate, is_schema_name};
 ghost use Rattle.cqe_base.specs.History.{profile_of};
 ghost use Rattle.cqe_base.specs.Limits.{KeepsLimits};
 ghost use Rattle.command_words.specs.Readings.{names_of_files};
@@ -48,6 +49,8 @@ pub(crate) fn read_files<'w, F: Shelf>(
         (profile_of user)) inputs.policy.users.items) }
     ensures names { IfOk result (λ inputs.
         has_duplicate (user_names inputs.policy.users.items) ≡ false) }
+    ensures proper { IfOk result (λ inputs.
+        list_all is_schema_name (user_names inputs.policy.users.items) ≡ true) }
     ensures both { F.tells → OnOk result (LooksAtBoth
         (shelf_of F.Shelf F.D.Disk shelf.old shelf.new) (names_of_files files.now)) }
     ensures refused { IfErr result (λ end. F.tells → IsWhyUnread
@@ -120,6 +123,8 @@ fn policy_of<'w>(alloc: Global, bytes: &[u8]) -> Result<Policy, FilesEnd<'w>>
     ensures limits { IfOk result (λ policy.
         All (λ user. KeepsLimits policy.schema (profile_of user)) policy.users.items) }
     ensures names { IfOk result (λ policy. has_duplicate (user_names policy.users.items) ≡ false) }
+    ensures proper { IfOk result (λ policy.
+        list_all is_schema_name (user_names policy.users.items) ≡ true) }
     ensures refused { IfErr result (RefusesPolicy (policy_in bytes.now)) }
 {
     match read_policy(alloc, bytes) {

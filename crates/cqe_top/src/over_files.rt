@@ -16,6 +16,7 @@ use command_words::Files;
 use cqe_base::user::User;
 use desk_crew::Registry;
 use init_engine::run_init;
+use migrate_engine::run_migrate;
 use outside::{Gate, Links, Shelf, Sink, Source};
 use serve_engine::{Listening, run_serve};
 use std::alloc::Global;
@@ -32,6 +33,8 @@ pub(crate) enum Task<'w> {
     Batch(u32),
     /// The user of this name is audited, as JSON or as lines.
     Audit(&'w str, bool),
+    /// The old journals of all users are moved to this directory, which is another.
+    Migrate(&'w str),
     /// Connections are served.
     Serve(Listening<'w>),
 }
@@ -59,7 +62,7 @@ pub(crate) fn run_over_files<
 where
     F::D: Send,
     requires inside { NoneOut (F.is_out shelf.old) }
-    requires bounds { KeepsBounds task }
+    requires bounds { KeepsBounds (names_of_files files) task }
     ensures command { OfReading (scene_of (shelf_of F.Shelf F.D.Disk shelf.old shelf.new)
         (input_of S.Source source.old source.new) (output_of K.Sink sink.old sink.new)
         (links_of L.Links links.old links.new))
@@ -103,6 +106,17 @@ where
             };
             let user = &inputs.policy.users[place];
             CommandEnd::Audit(name, run_audit(alloc, &registry, user, json, shelf, sink))
+        }
+        Task::Migrate(to) => {
+            let end = run_migrate(
+                alloc,
+                registry.users,
+                registry.header,
+                registry.directory,
+                to,
+                shelf,
+            );
+            CommandEnd::Migrate(inputs.policy.users, end)
         }
         Task::Serve(listening) => {
             law_openings();

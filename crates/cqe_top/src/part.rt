@@ -36,5 +36,6 @@ pub(crate) fn part_of<'w>(command: Command<'w>) -> Part<'w>
             };
             Part::OverFiles(words.files, Task::Serve(listening))
         }
+        Command::Migrate(words) => Part::OverFiles(words.files, Task::Migrate(words.to)),
     }
 }

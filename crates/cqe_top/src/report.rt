@@ -11,6 +11,7 @@ use cqe_base::text::ScriptError;
 use cqe_base::user::User;
 use init_engine::InitEnd;
 use log_journal::OpenError;
+use migrate_engine::MigrateEnd;
 use policy_files::{FactsError, PolicyError};
 use selfrun_engine::SelfrunEnd;
 use serve_engine::ServeEnd;
@@ -39,8 +40,10 @@ pub enum Report<'w> {
     ShelfFault,
     /// The journal of the user of this name is refused.
     Journal(&'w str, DeskError),
-    /// The disk of the user of this number isn't empty and isn't opened as a journal.
+    /// The disk of the user of this number isn't opened as a journal.
     JournalAt(Vec<User>, usize, OpenError),
+    /// The disk to which the journal of the user of this number would be moved isn't empty.
+    TargetAt(Vec<User>, usize),
     /// Journals of these users were refused; each has the first refusal of his, if one was.
     Journals(Vec<User>, Vec<Option<DeskError>>),
     /// A call of a disk failed, and no journal was refused.
@@ -65,6 +68,7 @@ pub(crate) fn report_of<'w>(end: CommandEnd<'w>) -> Report<'w>
         CommandEnd::Audit(name, end) => of_audit(name, end),
         CommandEnd::Selfrun(end) => of_selfrun(end),
         CommandEnd::Serve(users, end) => of_serve(users, end),
+        CommandEnd::Migrate(users, end) => of_migrate(users, end),
     }
 }
 
@@ -150,6 +154,19 @@ fn of_serve<'w>(users: Vec<User>, end: ServeEnd) -> Report<'w>
     }
 }
 
+fn of_migrate<'w>(users: Vec<User>, end: MigrateEnd) -> Report<'w>
+    ensures { result ≡ report_of (ends.Migrate users end) }
+{
+    match end {
+        MigrateEnd::Done => Report::Done,
+        MigrateEnd::Refused { user, why } => Report::JournalAt(users, user, why),
+        MigrateEnd::NotEmpty { user } => Report::TargetAt(users, user),
+        MigrateEnd::DiskFault => Report::DiskFault,
+        MigrateEnd::ShelfFault => Report::ShelfFault,
+        MigrateEnd::Memory => Report::Memory,
+    }
+}
+
 /// What is told of a batch or a serving that was answered to its end.
 fn of_answers<'w>(users: Vec<User>, refusals: Vec<Option<DeskError>>, is_broken: bool) -> Report<'w>
     ensures { result ≡ answers_report users refusals is_broken }
@@ -185,6 +202,7 @@ pub(crate) fn status_of(report: &Report<'_>) -> u8
         Report::Missing(_) => 8,
         Report::ShelfFault => 9,
         Report::Journal(..) | Report::JournalAt(..) | Report::Journals(..) => 10,
+        Report::TargetAt(..) => 10,
         Report::DiskFault => 11,
         Report::LinksFault => 12,
         Report::Memory => 13,

@@ -1,9 +1,12 @@
--- What an ask tells of a pass.
+-- What a call tells of a pass.
 use Rattle.std.proofs.Common.{◌≡◌, ℕ, ◌+◌, ◌-◌, ◌≤◌, eqb, cond, List, [], ◌∷◌, ◌++◌, refl, sym, ap, ◌∙◌, subst, inl, inr, append_assoc, arith}
 use Rattle.std.specs.Prelude.{Option, Some, None, is_some, option_to_list}
 use Rattle.std.proofs.lemmas.List.{append-nil}
 use Rattle.std.proofs.lemmas.List.Sums.{sum_by-append}
 use Rattle.cqe_base.specs.declared.user.Mark as base
+use Rattle.cqe_base.specs.declared.user.Mark.TheVariants.{Protected}
+use Rattle.cqe_base.specs.declared.user.Purpose.{Purpose}
+use Rattle.cqe_base.specs.declared.user.Purpose.TheVariants.{Protecting}
 use Rattle.cqe_base.specs.Schema.{Text}
 use Rattle.cqe_base.specs.Formula.{Formula}
 use Rattle.cqe_base.specs.History.{AnsweredQuery}
@@ -15,7 +18,8 @@ use Rattle.turnstile.specs.History.{Entries, IsPrefix, AddsAlike, AddsAtMostOne,
 use Rattle.turnstile.specs.Views.{turn_view, outside_view}
 use Rattle.turnstile.specs.Passes.{view_of, seen, mine, shares, tickets}
 use Rattle.user_log.specs.declared.reply.Reply.{Reply}
-use Rattle.user_log.specs.declared.reply.Reply.TheVariants.{Mark, Syntax, Full, Size, Closed, Sealed, Broken, Memory}
+use Rattle.user_log.specs.declared.reply.Reply.TheVariants.{Mark, Syntax, Full, Size, Closed, Sealed, Broken, Memory, Secrets, Unsafe}
+use Rattle.user_log.proofs.Keeping.{secret_means}
 use Rattle.desk_counter.specs.declared.item.TurnItem.{TurnItem}
 use Rattle.desk_counter.specs.declared.item.TurnItem.TheVariants.{Kept, Broke}
 use Rattle.desk_counter.specs.declared.item.Fixed.{Fixed}
@@ -65,44 +69,59 @@ module _ {D : Type 0} (fixed : Fixed D) where
   behind_code Sealed pairs none = refl
   behind_code Broken pairs none = refl
   behind_code Memory pairs none = refl
+  behind_code Secrets pairs none = refl
+  behind_code Unsafe pairs none = refl
 
   -- the reply of an open desk with an entry in flight
-  broke_replies : (found : Entries TurnItem) (text : Text) (ticket : ℕ) (entry : AnsweredQuery) → IsServing fixed found
-      → reply_at fixed.schema fixed.world fixed.user (state_shown fixed (found ++ (ticket, Broke entry) ∷ [])) text ≡ desk_broken
-  broke_replies found text ticket entry served =
+  broke_replies : (found : Entries TurnItem) (purpose : Purpose) (text : Text) (ticket : ℕ) (entry : AnsweredQuery) → IsServing fixed found
+      → reply_at fixed.schema fixed.world fixed.user (state_shown fixed (found ++ (ticket, Broke entry) ∷ [])) purpose text ≡ desk_broken
+  broke_replies found purpose text ticket entry served =
       let after = found ++ (ticket, Broke entry) ∷ [] in
-      ap (λ s. reply_by fixed.schema fixed.world fixed.user (history_of after) s (has_broke after) text (reading fixed.schema text)) served.0
+      ap (λ s. reply_by fixed.schema fixed.world fixed.user (history_of after) s (has_broke after) purpose text (reading fixed.schema text)) served.0
       ∙ ap (λ (o : Option AnsweredQuery).
-      reply_by fixed.schema fixed.world fixed.user (history_of after) standing_open (is_some o) text (reading fixed.schema text))
+      reply_by fixed.schema fixed.world fixed.user (history_of after) standing_open (is_some o) purpose text (reading fixed.schema text))
       (flying_broke found ticket entry served.1)
 
-  pub served_replies : (found : Entries TurnItem) (text : Text) (query : Formula) (mark : base.Mark) → IsServing fixed found
-      → AnswersWith fixed found text query mark
-      → reply_at fixed.schema fixed.world fixed.user (state_shown fixed found) text ≡ marked mark
-  served_replies found text query mark served answer =
-      ap (λ s. reply_by fixed.schema fixed.world fixed.user (history_of found) s (has_broke found) text (reading fixed.schema text)) served.0
+  pub served_replies : (found : Entries TurnItem) (purpose : Purpose) (text : Text) (query : Formula) (mark : base.Mark) → IsServing fixed found
+      → AnswersWith fixed found purpose text query mark
+      → reply_at fixed.schema fixed.world fixed.user (state_shown fixed found) purpose text ≡ marked mark
+  served_replies found purpose text query mark served answer =
+      ap (λ s. reply_by fixed.schema fixed.world fixed.user (history_of found) s (has_broke found) purpose text (reading fixed.schema text)) served.0
       ∙ ap (λ (o : Option AnsweredQuery).
-      reply_by fixed.schema fixed.world fixed.user (history_of found) standing_open (is_some o) text (reading fixed.schema text)) served.1 ∙ answer.answer
+      reply_by fixed.schema fixed.world fixed.user (history_of found) standing_open (is_some o) purpose text (reading fixed.schema text)) served.1
+      ∙ answer.answer
 
   -- the reply is that of the rule
-  pub adds_reply : {ticket : ℕ} {text : Text} {found after : Entries TurnItem} {reply : Reply} → Adds fixed ticket text found after reply
-      → IsReply fixed text after reply
-  adds_reply {ticket = ticket} {text = text} {found = found} (answered {query = query} {mark = mark} served answer added) =
-      inr (sym (ap (λ ps. reply_at fixed.schema fixed.world fixed.user (state_shown fixed ps) text) (ap (all_but_last fixed) added
+  pub adds_reply : {ticket : ℕ} {purpose : Purpose} {text : Text} {found after : Entries TurnItem} {reply : Reply}
+      → Adds fixed ticket purpose text found after reply
+      → IsReply fixed purpose text after reply
+  adds_reply {ticket = ticket} {purpose = purpose} {text = text} {found = found} (answered {query = query} {mark = mark} served answer added) =
+      inr (sym (ap (λ ps. reply_at fixed.schema fixed.world fixed.user (state_shown fixed ps) purpose text) (ap (all_but_last fixed) added
       ∙ without_last fixed found (ticket, Kept (entry_for query mark text)))
-      ∙ served_replies found text query mark served answer))
-  adds_reply {ticket = ticket} {text = text} {found = found} (broke {query = query} {mark = mark} served answer added) =
-      inr (sym (ap (λ ps. reply_at fixed.schema fixed.world fixed.user (state_shown fixed ps) text) added
-      ∙ broke_replies found text ticket (entry_for query mark text) served))
-  adds_reply {text = text} {found = found} {after = after} {reply = reply} (coded none replied same) =
-      inr (sym (ap (λ ps. reply_at fixed.schema fixed.world fixed.user (state_shown fixed ps) text) (behind_code reply after none ∙ same) ∙ replied))
+      ∙ served_replies found purpose text query mark served answer))
+  adds_reply {ticket = ticket} {purpose = purpose} {text = text} {found = found} (broke {query = query} {mark = mark} served answer added) =
+      inr (sym (ap (λ ps. reply_at fixed.schema fixed.world fixed.user (state_shown fixed ps) purpose text) added
+      ∙ broke_replies found purpose text ticket (entry_for query mark text) served))
+  adds_reply {purpose = purpose} {text = text} {found = found} {after = after} {reply = reply} (coded none replied same) =
+      inr (sym (ap (λ ps. reply_at fixed.schema fixed.world fixed.user (state_shown fixed ps) purpose text) (behind_code reply after none ∙ same) ∙ replied))
   adds_reply (wanted same) = inl refl
 
+  -- what is told of a secret that was added is its own mark
+  pub protected_mark : {ticket : ℕ} {text : Text} {found after : Entries TurnItem} {reply : Reply} → Adds fixed ticket Protecting text found after reply
+      → (mark : base.Mark) → reply ≡ Mark mark → mark ≡ Protected
+  protected_mark {text = text} {found = found} (answered {query = query} {mark = told} served answer added) mark is =
+      let same : told ≡ mark = cc in
+      sym same ∙ (secret_means fixed.schema fixed.world fixed.user (history_of found) text query told answer).4
+  protected_mark (broke served answer added) mark is = absurd cc
+  protected_mark (coded none replied same) mark is = absurd (subst (λ r. NoMark r) is none)
+  protected_mark (wanted same) mark is = absurd cc
+
   -- a mark is told with its entry
-  pub asked_tells : {old new : Pass TurnItem (Fixed D)} {text : Text} (reply : Reply) → Asked fixed old new text reply → TellsMark fixed old new text reply
-  asked_tells {old = old} {new = new} {text = text} (Mark mark) asked = of_adds asked.adds
+  pub asked_tells : {old new : Pass TurnItem (Fixed D)} {purpose : Purpose} {text : Text} (reply : Reply) → Asked fixed old new purpose text reply
+      → TellsMark fixed old new text reply
+  asked_tells {old = old} {new = new} {purpose = purpose} {text = text} (Mark mark) asked = of_adds asked.adds
     where
-      of_adds : Adds fixed asked.ticket text asked.found (seen new) (Mark mark) → TellsEntry fixed old new text mark
+      of_adds : Adds fixed asked.ticket purpose text asked.found (seen new) (Mark mark) → TellsEntry fixed old new text mark
       of_adds (answered {query = query} served answer added) = record {
         ticket = asked.ticket;
         entry = entry_for query mark text;
@@ -123,15 +142,18 @@ module _ {D : Type 0} (fixed : Fixed D) where
   asked_tells Sealed asked = tt
   asked_tells Broken asked = tt
   asked_tells Memory asked = tt
+  asked_tells Secrets asked = tt
+  asked_tells Unsafe asked = tt
 
   -- else no entry is added
-  pub asked_none : {old new : Pass TurnItem (Fixed D)} {text : Text} {reply : Reply} → Asked fixed old new text reply → NoMark reply → AddsNoEntry fixed old new
-  asked_none {old = old} {new = new} {text = text} {reply = reply} asked none = of_adds asked.adds none
+  pub asked_none : {old new : Pass TurnItem (Fixed D)} {purpose : Purpose} {text : Text} {reply : Reply} → Asked fixed old new purpose text reply
+      → NoMark reply → AddsNoEntry fixed old new
+  asked_none {old = old} {new = new} {purpose = purpose} {text = text} {reply = reply} asked none = of_adds asked.adds none
     where
       stays : seen new ≡ asked.found → AddsNoEntry fixed old new
       stays same = record { own = ap (λ ps. kept_pairs ps) (asked.own.none same); whole = λ all. ap (λ ps. kept_pairs ps) (same ∙ asked.whole all) }
 
-      of_adds : {code : Reply} → Adds fixed asked.ticket text asked.found (seen new) code → NoMark code → AddsNoEntry fixed old new
+      of_adds : {code : Reply} → Adds fixed asked.ticket purpose text asked.found (seen new) code → NoMark code → AddsNoEntry fixed old new
       of_adds (answered served answer added) none = absurd none
       of_adds (broke {query = query} {mark = mark} served answer added) none =
           let entry = entry_for query mark text in
@@ -143,11 +165,26 @@ module _ {D : Type 0} (fixed : Fixed D) where
       of_adds (wanted same) none = stays same
 
   -- the pairs that were added stand behind those that were found
-  adds_prefix : {ticket : ℕ} {text : Text} {found after : Entries TurnItem} {reply : Reply} → Adds fixed ticket text found after reply → IsPrefix found after
+  adds_prefix : {ticket : ℕ} {purpose : Purpose} {text : Text} {found after : Entries TurnItem} {reply : Reply}
+      → Adds fixed ticket purpose text found after reply → IsPrefix found after
   adds_prefix {ticket =
-      ticket} {text = text} (answered {query = query} {mark = mark} served answer added) = ((ticket, Kept (entry_for query mark text)) ∷ [], added)
+      ticket} {purpose = purpose} {text = text} (answered {query = query} {mark = mark} served answer added) = (
+        (
+          ticket,
+          Kept
+              (entry_for query mark text),
+        ) ∷ [],
+        added,
+      )
   adds_prefix {ticket =
-      ticket} {text = text} (broke {query = query} {mark = mark} served answer added) = ((ticket, Broke (entry_for query mark text)) ∷ [], added)
+      ticket} {purpose = purpose} {text = text} (broke {query = query} {mark = mark} served answer added) = (
+        (
+          ticket,
+          Broke
+              (entry_for query mark text),
+        ) ∷ [],
+        added,
+      )
   adds_prefix {found = found} (coded none replied same) = ([], same ∙ sym (append-nil found))
   adds_prefix {found = found} (wanted same) = ([], same ∙ sym (append-nil found))
 
@@ -155,19 +192,21 @@ module _ {D : Type 0} (fixed : Fixed D) where
   prefix_on first mid last one two = (one.0 ++ two.0, two.1 ∙ ap (λ ps. ps ++ two.0) one.1 ∙ append_assoc first one.0 two.0)
 
   -- what was seen before begins what was seen
-  pub asked_later : {old new : Pass TurnItem (Fixed D)} {text : Text} {reply : Reply} → Asked fixed old new text reply → IsPrefix (seen old) (seen new)
+  pub asked_later : {old new : Pass TurnItem (Fixed D)} {purpose : Purpose} {text : Text} {reply : Reply} → Asked fixed old new purpose text reply
+      → IsPrefix (seen old) (seen new)
   asked_later {old = old} {new = new} asked = prefix_on (seen old) asked.found (seen new) asked.later (adds_prefix asked.adds)
 
   -- ---- a turn
 
   -- what a turn did with a pass, behind a look in a first turn
-  pub asked_in_turn : {old mid new : Pass TurnItem (Fixed D)} {text : Text} {reply : Reply} {inside : View TurnItem (Fixed D)} (ticket : ℕ)
+  pub asked_in_turn : {old mid new : Pass TurnItem (Fixed D)} {purpose : Purpose} {text : Text} {reply : Reply} {inside : View TurnItem (Fixed D)} (ticket : ℕ)
       (found after own_before : Entries TurnItem)
       → Looked old mid → inside ≡ turn_view (view_of mid) ticket found → IsPrefix (seen mid) found → (shares mid ≡ 65 → found ≡ seen mid)
       → ((x : ℕ) → ticket ≤ x → count_of x (tickets mid) ≡ 0) → own_before ≡ mine mid
-      → view_of new ≡ outside_view inside after → AddsAlike inside.seen after own_before (mine new) → Adds fixed ticket text found after reply
-      → Asked fixed old new text reply
-  asked_in_turn {old = old} {mid = mid} {new = new} {text = text} {reply = reply} {inside = inside} ticket found after own_before looked entered later whole
+      → view_of new ≡ outside_view inside after → AddsAlike inside.seen after own_before (mine new) → Adds fixed ticket purpose text found after reply
+      → Asked fixed old new purpose text reply
+  asked_in_turn {old = old} {mid = mid} {new = new} {purpose = purpose} {text = text} {reply = reply}
+      {inside = inside} ticket found after own_before looked entered later whole
       fresh own left alike adds =
       let saw : seen new ≡ after = ap (λ (v : View TurnItem (Fixed D)). v.seen) left in
       let began : inside.seen ≡ found = ap (λ (v : View TurnItem (Fixed D)). v.seen) entered in
@@ -180,7 +219,7 @@ module _ {D : Type 0} (fixed : Fixed D) where
         later = prefix_on (seen old) (seen mid) found looked.later later;
         whole = λ all. whole (looked.same_shares ∙ all) ∙ looked.whole all;
         fresh = λ x low. none_before x (tickets old) (option_to_list looked.looked) (tickets mid) looked.drew (fresh x low);
-        adds = subst (λ ps. Adds fixed ticket text found ps reply) (sym saw) adds;
+        adds = subst (λ ps. Adds fixed ticket purpose text found ps reply) (sym saw) adds;
         own = subst (λ ps. AddsAlike found ps (mine old) (mine new)) (sym saw)
             (subst (λ ps. AddsAlike found after ps (mine new)) (own ∙ looked.own) (subst (λ ps. AddsAlike ps after own_before (mine new)) began alike));
         drew = one ∙ ap (λ ts. ts ++ ticket ∷ []) looked.drew;
@@ -225,14 +264,16 @@ module _ {D : Type 0} (fixed : Fixed D) where
   )
 
   -- what a turn adds is at most one pair with its ticket
-  pub adds_at_most_one : {ticket ticket' : ℕ} {text : Text} {found after : Entries TurnItem} {reply : Reply} (inside : View TurnItem (Fixed D))
+  pub adds_at_most_one : {ticket ticket' : ℕ} {purpose : Purpose} {text : Text} {found after : Entries TurnItem} {reply : Reply} (inside : View TurnItem
+      (Fixed D))
       (old : View TurnItem (Fixed D)) → ticket ≡ ticket' → inside ≡ turn_view old ticket' found
-      → Adds fixed ticket text found after reply → AddsAtMostOne ticket' inside.seen after
-  adds_at_most_one {ticket = ticket} {ticket' = ticket'} {text = text} {found = found} {after = after} {reply = reply} inside old same entered adds =
+      → Adds fixed ticket purpose text found after reply → AddsAtMostOne ticket' inside.seen after
+  adds_at_most_one {ticket = ticket} {ticket' = ticket'} {purpose = purpose} {text = text} {found = found} {after = after}
+      {reply = reply} inside old same entered adds =
       subst (λ ps. AddsAtMostOne ticket' ps after) (sym (ap (λ (v : View TurnItem (Fixed D)). v.seen) entered))
       (subst (λ t. AddsAtMostOne t found after) same (of_adds adds))
     where
-      of_adds : {code : Reply} → Adds fixed ticket text found after code → AddsAtMostOne ticket found after
+      of_adds : {code : Reply} → Adds fixed ticket purpose text found after code → AddsAtMostOne ticket found after
       of_adds (answered {query = query} {mark = mark} served answer added) = inr (Kept (entry_for query mark text), added)
       of_adds (broke {query = query} {mark = mark} served answer added) = inr (Broke (entry_for query mark text), added)
       of_adds (coded none replied still) = inl still

@@ -3,6 +3,7 @@ use Rattle.std.proofs.Common.{◌≡◌, ℕ, zero, suc, ◌+◌, true, false, L
 use Rattle.std.specs.Prelude.{Option, Some, None, is_some, option_to_list, replicate}
 use Rattle.std.proofs.lemmas.List.Elements.{All-nil, All-cons}
 use Rattle.cqe_base.specs.declared.user.Mark as base
+use Rattle.cqe_base.specs.declared.user.Purpose.{Purpose}
 use Rattle.cqe_base.specs.Schema.{Text}
 use Rattle.cqe_base.specs.History.{AnsweredQuery, History}
 use Rattle.cqe_base.specs.Reading.{reading}
@@ -78,39 +79,39 @@ served_of (standings.Closed admission) never = absurd (never refl)
 served_of (standings.Sealed why) never = absurd (never refl)
 
 -- a desk with an entry in flight answers so
-pub broken_adds : {D : Type 0} {g : _} (value : TicketedDesk D g) (ticket : ℕ) (text : Text) → is_broken_desk value.desk ≡ true
+pub broken_adds : {D : Type 0} {g : _} (value : TicketedDesk D g) (ticket : ℕ) (purpose : Purpose) (text : Text) → is_broken_desk value.desk ≡ true
     → (is_open (desk_standing value.desk) ≡ false → is_broken_desk value.desk ≡ false)
-    → Adds (fixed_of value.desk) ticket text (pairs_in value) (pairs_in value) Broken
-broken_adds value ticket text broken idle =
+    → Adds (fixed_of value.desk) ticket purpose text (pairs_in value) (pairs_in value) Broken
+broken_adds value ticket purpose text broken idle =
     let fixed = fixed_of value.desk in
     let pairs = pairs_in value in
     let opened : standing_of fixed.standing ≡ standing_open =
     served_of (desk_standing value.desk) (λ closed. let e : true ≡ false = sym broken ∙ idle closed in cc) in
     let flies : has_broke pairs ≡ true = ap (λ (o : Option AnsweredQuery). is_some o) (flying_in value) ∙ broken in
     asks.coded tt
-    (ap (λ s. reply_by fixed.schema fixed.world fixed.user (history_of pairs) s (has_broke pairs) text (reading fixed.schema text)) opened
-    ∙ ap (λ b. reply_by fixed.schema fixed.world fixed.user (history_of pairs) standing_open b text (reading fixed.schema text)) flies)
+    (ap (λ s. reply_by fixed.schema fixed.world fixed.user (history_of pairs) s (has_broke pairs) purpose text (reading fixed.schema text)) opened
+    ∙ ap (λ b. reply_by fixed.schema fixed.world fixed.user (history_of pairs) standing_open b purpose text (reading fixed.schema text)) flies)
     refl
 
--- a crash of an ask of such a desk leaves what a crash before it did
-pub broken_stops : {D : Type 0} {g : _} (desk : Desk D g) (text : Text) → is_broken_desk desk ≡ true
+-- a crash of a call of such a desk leaves what a crash before it did
+pub broken_stops : {D : Type 0} {g : _} (desk : Desk D g) (purpose : Purpose) (text : Text) → is_broken_desk desk ≡ true
     → (is_open (desk_standing desk) ≡ false → is_broken_desk desk ≡ false) → (c : List ℕ)
     → Holds (desk_schema desk) (desk_world desk) (desk_user desk) (desk_header desk) (state_of desk) c
     → Holds (desk_schema desk) (desk_world desk) (desk_user desk) (desk_header desk)
-    (after_event (desk_schema desk) (desk_world desk) (desk_user desk) (state_of desk) (stop text)) c
-broken_stops desk text broken idle c holds =
+    (after_event (desk_schema desk) (desk_world desk) (desk_user desk) (state_of desk) (stop purpose text)) c
+broken_stops desk purpose text broken idle c holds =
     let opened : standing_of (desk_standing desk) ≡ standing_open =
     served_of (desk_standing desk) (λ closed. let e : true ≡ false = sym broken ∙ idle closed in cc) in
-    states.stop_leaves (desk_schema desk) (desk_world desk) (desk_user desk) (desk_header desk) (state_of desk) text c
-    (states.broken_adds (desk_schema desk) (desk_world desk) (desk_user desk) (state_of desk) opened broken text) holds
+    states.stop_leaves (desk_schema desk) (desk_world desk) (desk_user desk) (desk_header desk) (state_of desk) purpose text c
+    (states.broken_adds (desk_schema desk) (desk_world desk) (desk_user desk) (state_of desk) opened broken purpose text) holds
 
 -- and so where no append failed and nothing is written
-pub whole_stops : {D : Type 0} {g : _} (desk : Desk D g) (text : Text) → is_broken_desk desk ≡ false → (c : List ℕ)
+pub whole_stops : {D : Type 0} {g : _} (desk : Desk D g) (purpose : Purpose) (text : Text) → is_broken_desk desk ≡ false → (c : List ℕ)
     → Holds (desk_schema desk) (desk_world desk) (desk_user desk) (desk_header desk) (state_of desk) c
     → Holds (desk_schema desk) (desk_world desk) (desk_user desk) (desk_header desk)
-    (after_event (desk_schema desk) (desk_world desk) (desk_user desk) (state_of desk) (stop text)) c
-whole_stops desk text whole c holds =
-    states.stop_keeps (desk_schema desk) (desk_world desk) (desk_user desk) (desk_header desk) (state_of desk) text c
+    (after_event (desk_schema desk) (desk_world desk) (desk_user desk) (state_of desk) (stop purpose text)) c
+whole_stops desk purpose text whole c holds =
+    states.stop_keeps (desk_schema desk) (desk_world desk) (desk_user desk) (desk_header desk) (state_of desk) purpose text c
     (none_flies (entry_in_flight desk) whole) holds
 
 module _ {D : Type 0} {g : _} (old new : Desk D g) where
@@ -127,24 +128,27 @@ module _ {D : Type 0} {g : _} (old new : Desk D g) where
   }
 
   -- what a settled text makes of the entries
-  pub desk_changes : (text : Text) (reply : Reply) (before now : ℕ) → IsOfSame old new
-      → ((state : UserState) → IsIn old state → Settles (desk_schema old) (desk_world old) (desk_user old) (IsIn new) state text (reply_of reply) before now)
+  pub desk_changes : (purpose : Purpose) (text : Text) (reply : Reply) (before now : ℕ) → IsOfSame old new
+      → ((state : UserState) → IsIn old state → Settles (desk_schema old) (desk_world old) (desk_user old) (IsIn new) state purpose text
+      (reply_of reply) before now)
       → (is_open (desk_standing old) ≡ false → desk_history old ≡ []) → (is_open (desk_standing new) ≡ false → desk_history new ≡ [])
       → is_broken_desk old ≡ false → (is_open (desk_standing new) ≡ false → is_broken_desk new ≡ false)
-      → Changes (desk_schema old) (desk_world old) (desk_user old) (standing_of (desk_standing old)) text (desk_history old) None (desk_history new)
+      → Changes (desk_schema old) (desk_world old) (desk_user old) (standing_of (desk_standing old)) purpose text (desk_history old) None (desk_history new)
       (entry_in_flight new) reply
-  desk_changes text reply before now same settles none_old none_new whole idle_new =
+  desk_changes purpose text reply before now same settles none_old none_new whole idle_new =
       let whole_old : entry_in_flight old ≡ None = none_flies (entry_in_flight old) whole in
       let settled = settles (shown (desk_history old) (standing_of (desk_standing old)) (entry_in_flight old))
       (in_itself (desk_standing old) (desk_history old) (entry_in_flight old)) in
       let of_new : Settles (desk_schema old) (desk_world old) (desk_user old)
       (IsState (desk_standing old) (shown (desk_history new) (standing_of (desk_standing old)) (entry_in_flight new)))
-      (shown (desk_history old) (standing_of (desk_standing old)) (entry_in_flight old)) text (reply_of reply) before now =
+      (shown (desk_history old) (standing_of (desk_standing old)) (entry_in_flight old)) purpose text (reply_of reply) before now =
       subst (λ s. Settles (desk_schema old) (desk_world old) (desk_user old) (IsState s (shown (desk_history new) (standing_of s) (entry_in_flight new)))
-      (shown (desk_history old) (standing_of (desk_standing old)) (entry_in_flight old)) text (reply_of reply) before now) same.standing settled in
-      subst (λ o. Changes (desk_schema old) (desk_world old) (desk_user old) (standing_of (desk_standing old)) text (desk_history old) o (desk_history new)
+      (shown (desk_history old) (standing_of (desk_standing old)) (entry_in_flight old)) purpose text (reply_of reply) before now) same.standing settled in
+      subst (λ o. Changes (desk_schema old) (desk_world old) (desk_user old) (standing_of (desk_standing old)) purpose text (desk_history old) o
+      (desk_history new)
       (entry_in_flight new) reply) whole_old
-      (settled_changes (desk_schema old) (desk_world old) (desk_user old) (desk_standing old) text (desk_history old) (entry_in_flight old) (desk_history new)
+      (settled_changes (desk_schema old) (desk_world old) (desk_user old) (desk_standing old) purpose text (desk_history old) (entry_in_flight old)
+      (desk_history new)
       (entry_in_flight new) reply
       (λ closed. (
         none_old closed,
@@ -153,37 +157,39 @@ module _ {D : Type 0} {g : _} (old new : Desk D g) where
         none_flies (entry_in_flight new) (idle_new (ap is_open same.standing ∙ closed)),
       )) before now of_new)
 
-  module _ (tickets : List ℕ) (broke ticket : ℕ) (text : Text) (counted : length tickets ≡ length (desk_history old)) (whole : is_broken_desk old ≡ false) where
+  module _ (tickets : List ℕ) (broke ticket : ℕ) (purpose : Purpose) (text : Text) (counted : length tickets ≡ length (desk_history old))
+      (whole : is_broken_desk old ≡ false) where
     abbrev Changed : Reply → Type 0
-    Changed reply = Changes (desk_schema old) (desk_world old) (desk_user old) (standing_of (desk_standing old)) text (desk_history old) None (desk_history new)
+    Changed reply = Changes (desk_schema old) (desk_world old) (desk_user old) (standing_of (desk_standing old)) purpose text (desk_history old) None
+        (desk_history new)
         (entry_in_flight new) reply
 
     none : entry_in_flight old ≡ None
     none = none_flies (entry_in_flight old) whole
 
     pub desk_adds_mark : {mark : base.Mark} → Changed (Mark mark)
-        → Adds (fixed_of old) ticket text (pairs_of tickets (desk_history old) broke (entry_in_flight old))
+        → Adds (fixed_of old) ticket purpose text (pairs_of tickets (desk_history old) broke (entry_in_flight old))
         (pairs_of (tickets ++ ticket ∷ []) (desk_history new) broke (entry_in_flight new)) (Mark mark)
     desk_adds_mark {mark = mark} changed =
-        subst (λ o. Adds (fixed_of old) ticket text (pairs_of tickets (desk_history old) broke o)
+        subst (λ o. Adds (fixed_of old) ticket purpose text (pairs_of tickets (desk_history old) broke o)
         (pairs_of (tickets ++ ticket ∷ []) (desk_history new) broke (entry_in_flight new)) (Mark mark)) (sym none)
-        (adds_mark (fixed_of old) text tickets (desk_history old) broke counted ticket changed)
+        (adds_mark (fixed_of old) purpose text tickets (desk_history old) broke counted ticket changed)
 
     pub desk_adds_broke : is_broken_desk new ≡ true → Changed Broken
-        → Adds (fixed_of old) ticket text (pairs_of tickets (desk_history old) broke (entry_in_flight old))
+        → Adds (fixed_of old) ticket purpose text (pairs_of tickets (desk_history old) broke (entry_in_flight old))
         (pairs_of tickets (desk_history new) ticket (entry_in_flight new)) Broken
     desk_adds_broke flies changed =
-        subst (λ o. Adds (fixed_of old) ticket text (pairs_of tickets (desk_history old) broke o)
+        subst (λ o. Adds (fixed_of old) ticket purpose text (pairs_of tickets (desk_history old) broke o)
         (pairs_of tickets (desk_history new) ticket (entry_in_flight new)) Broken) (sym none)
-        (adds_broke (fixed_of old) text tickets (desk_history old) broke counted ticket flies changed)
+        (adds_broke (fixed_of old) purpose text tickets (desk_history old) broke counted ticket flies changed)
 
     pub desk_adds_none : {reply : Reply} → NoMark reply → (reply ≡ Broken → ⊥) → Changed reply
-        → Adds (fixed_of old) ticket text (pairs_of tickets (desk_history old) broke (entry_in_flight old))
+        → Adds (fixed_of old) ticket purpose text (pairs_of tickets (desk_history old) broke (entry_in_flight old))
         (pairs_of tickets (desk_history new) broke (entry_in_flight new)) reply
     desk_adds_none {reply = reply} no_mark not_broken changed =
-        subst (λ o. Adds (fixed_of old) ticket text (pairs_of tickets (desk_history old) broke o)
+        subst (λ o. Adds (fixed_of old) ticket purpose text (pairs_of tickets (desk_history old) broke o)
         (pairs_of tickets (desk_history new) broke (entry_in_flight new)) reply) (sym none)
-        (adds_none (fixed_of old) text tickets (desk_history old) broke counted ticket no_mark not_broken changed)
+        (adds_none (fixed_of old) purpose text tickets (desk_history old) broke counted ticket no_mark not_broken changed)
 
     -- as many tickets as entries
     pub counted_mark : {mark : base.Mark} → Changed (Mark mark) → length (tickets ++ ticket ∷ []) ≡ length (desk_history new)

@@ -1,19 +1,21 @@
--- What an ask adds is an event of the run of the desk's user.
+-- What a call adds is an event of the run of the desk's user.
 use Rattle.std.proofs.Common.{◌≡◌, ℕ, true, [], ◌∷◌, ◌++◌, map, refl, sym, ap, ◌∙◌, subst}
 use Rattle.std.specs.Prelude.{Option, Some, None, option_to_list, Result, Ok, Err}
 use Rattle.std.proofs.lemmas.List.{append-nil, map-append}
 use Rattle.cqe_base.specs.declared.user.Mark as base
+use Rattle.cqe_base.specs.declared.user.Purpose.{Purpose}
 use Rattle.cqe_base.specs.Schema.{Text}
 use Rattle.cqe_base.specs.Formula.{Formula}
 use Rattle.cqe_base.specs.Reading.{Refusal, reading}
 use Rattle.cqe_base.specs.History.{AnsweredQuery, History}
 use Rattle.cqe_base.specs.Run as run
-use Rattle.cqe_base.specs.Run.{UserState, want, kept, failed, ask, after_event, after_failure, reply_at, reply_at_failure, entry_at, entry_added, standing_open}
+use Rattle.cqe_base.specs.Run.{UserState, want, kept, failed, call, after_event, after_failure, reply_at, reply_at_failure, entry_at, entry_added}
+use Rattle.cqe_base.specs.Run.{standing_open}
 use Rattle.cqe_base.specs.Run.{marked}
 use Rattle.turnstile.specs.History.{Entries}
 use Rattle.user_log.specs.Replies.{reply_of}
 use Rattle.user_log.specs.declared.reply.Reply.{Reply}
-use Rattle.user_log.specs.declared.reply.Reply.TheVariants.{Mark, Syntax, Full, Size, Closed, Sealed, Broken, Memory}
+use Rattle.user_log.specs.declared.reply.Reply.TheVariants.{Mark, Syntax, Full, Size, Closed, Sealed, Broken, Memory, Secrets, Unsafe}
 use Rattle.user_desk.specs.Standings.{standing_of}
 use Rattle.user_desk.specs.Lives.{shown, IsState}
 use Rattle.user_desk.specs.declared.standing.Standing.{Standing}
@@ -23,7 +25,7 @@ use Rattle.desk_counter.specs.declared.item.TurnItem.TheVariants.{Kept, Broke}
 use Rattle.desk_counter.specs.declared.item.Fixed.{Fixed}
 use Rattle.desk_counter.specs.Items.{history_of, kept_pairs, flying}
 use Rattle.desk_counter.specs.Desks.{state_shown}
-use Rattle.desk_counter.specs.Lives.{IsAskOf}
+use Rattle.desk_counter.specs.Lives.{IsCallOf}
 use Rattle.desk_counter.specs.Asks.{entry_for, NoMark, Adds, answered, broke, coded, wanted, IsServing, AnswersWith}
 use Rattle.desk_counter.proofs.Asking.{kept_more, kept_broke, flying_broke, served_replies}
 
@@ -50,6 +52,8 @@ code_adds_none text (Ok query) Closed none = refl
 code_adds_none text (Ok query) Sealed none = refl
 code_adds_none text (Ok query) Broken none = refl
 code_adds_none text (Ok query) Memory none = refl
+code_adds_none text (Ok query) Secrets none = refl
+code_adds_none text (Ok query) Unsafe none = refl
 
 -- a desk that serves its user is in the state that it shows, and in no other
 from_open : (standing : Standing) (desk_state state : UserState) → standing_of standing ≡ standing_open → IsState standing desk_state state → state ≡ desk_state
@@ -62,35 +66,36 @@ to_open standings.Open desk_state state opened is = is
 to_open (standings.Closed admission) desk_state state opened is = is
 to_open (standings.Sealed why) desk_state state opened is = absurd cc
 
-module _ {D : Type 0} (fixed : Fixed D) (text : Text) where
+module _ {D : Type 0} (fixed : Fixed D) (purpose : Purpose) (text : Text) where
   -- a desk's reply is that in each state in which it is
   same_reply : (standing : Standing) (entries : History) (in_flight : Option AnsweredQuery) (state : UserState)
       → IsState standing (shown entries (standing_of standing) in_flight) state
-      → reply_at fixed.schema fixed.world fixed.user state text
-      ≡ reply_at fixed.schema fixed.world fixed.user (shown entries (standing_of standing) in_flight) text
-  same_reply standings.Open entries in_flight state is = ap (λ s. reply_at fixed.schema fixed.world fixed.user s text) is
-  same_reply (standings.Closed admission) entries in_flight state is = ap (λ s. reply_at fixed.schema fixed.world fixed.user s text) is
-  same_reply (standings.Sealed why) entries in_flight state is = ap (λ s. run.reply fixed.schema fixed.world fixed.user state.entries s state.broken text) is
+      → reply_at fixed.schema fixed.world fixed.user state purpose text
+      ≡ reply_at fixed.schema fixed.world fixed.user (shown entries (standing_of standing) in_flight) purpose text
+  same_reply standings.Open entries in_flight state is = ap (λ s. reply_at fixed.schema fixed.world fixed.user s purpose text) is
+  same_reply (standings.Closed admission) entries in_flight state is = ap (λ s. reply_at fixed.schema fixed.world fixed.user s purpose text) is
+  same_reply (standings.Sealed why) entries in_flight state is = ap
+      (λ s. run.reply fixed.schema fixed.world fixed.user state.entries s state.broken purpose text) is
 
   module _ (found after : Entries TurnItem) (state : UserState) (is : IsState fixed.standing (state_shown fixed found) state) where
     abbrev IsNow : UserState → Type 0
     IsNow = IsState fixed.standing (state_shown fixed after)
 
     abbrev IsTold : Reply → Type 0
-    IsTold reply = IsAskOf fixed.schema fixed.world fixed.user IsNow state text (reply_of reply)
+    IsTold reply = IsCallOf fixed.schema fixed.world fixed.user IsNow state purpose text (reply_of reply)
 
     -- where nothing was added the state is still one of the desk's
     still : after ≡ found → IsNow state
     still same = subst (λ ps. IsState fixed.standing (state_shown fixed ps) state) (sym same) is
 
-    module _ (query : Formula) (mark : base.Mark) (served : IsServing fixed found) (answer : AnswersWith fixed found text query mark) where
+    module _ (query : Formula) (mark : base.Mark) (served : IsServing fixed found) (answer : AnswersWith fixed found purpose text query mark) where
       shows : state ≡ state_shown fixed found
       shows = from_open fixed.standing (state_shown fixed found) state served.0 is
 
-      replied : reply_at fixed.schema fixed.world fixed.user state text ≡ marked mark
-      replied = ap (λ s. reply_at fixed.schema fixed.world fixed.user s text) shows ∙ served_replies fixed found text query mark served answer
+      replied : reply_at fixed.schema fixed.world fixed.user state purpose text ≡ marked mark
+      replied = ap (λ s. reply_at fixed.schema fixed.world fixed.user s purpose text) shows ∙ served_replies fixed found purpose text query mark served answer
 
-      adds : entry_at fixed.schema fixed.world fixed.user state text ≡ Some (entry_for query mark text)
+      adds : entry_at fixed.schema fixed.world fixed.user state purpose text ≡ Some (entry_for query mark text)
       adds = ap (λ r. entry_added text (reading fixed.schema text) r) replied ∙ ap (λ r. entry_added text r (marked mark)) answer.read
 
       told_mark : (ticket : ℕ) → after ≡ found ++ (ticket, Kept (entry_for query mark text)) ∷ [] → IsTold (Mark mark)
@@ -98,7 +103,7 @@ module _ {D : Type 0} (fixed : Fixed D) (text : Text) where
           let entry = entry_for query mark text in
           record {
             ending = kept;
-            after = to_open fixed.standing (state_shown fixed after) (after_event fixed.schema fixed.world fixed.user state (ask text kept)) served.0
+            after = to_open fixed.standing (state_shown fixed after) (after_event fixed.schema fixed.world fixed.user state (call purpose text kept)) served.0
                 (ap (λ o. record state { entries = state.entries ++ option_to_list o }) adds
                 ∙ ap (λ (s : UserState). record s { entries = s.entries ++ entry ∷ [] }) shows
                 ∙ ap (λ (h : History). shown h (standing_of fixed.standing) (flying found)) (sym (history_more found ticket entry))
@@ -113,22 +118,23 @@ module _ {D : Type 0} (fixed : Fixed D) (text : Text) where
           let entry = entry_for query mark text in
           record {
             ending = failed;
-            after = to_open fixed.standing (state_shown fixed after) (after_event fixed.schema fixed.world fixed.user state (ask text failed)) served.0
+            after = to_open fixed.standing (state_shown fixed after) (after_event fixed.schema fixed.world fixed.user state (call purpose text failed)) served.0
                 (ap (after_failure fixed.schema fixed.world fixed.user state) adds
                 ∙ ap (λ (s : UserState). record s { broken = true; pending = Some entry }) shows
                 ∙ ap (λ (ps : Entries AnsweredQuery). shown (map (λ p. p.1) ps) (standing_of fixed.standing) (Some entry)) (sym (kept_broke found ticket entry))
                 ∙ ap (λ (o : Option AnsweredQuery). shown (history_of (found ++ (ticket, Broke entry) ∷ [])) (standing_of fixed.standing) o)
                 (sym (flying_broke found ticket entry served.1))
                 ∙ ap (state_shown fixed) (sym added));
-            reply = sym (ap (reply_at_failure fixed.schema fixed.world fixed.user (reply_at fixed.schema fixed.world fixed.user state text)) adds);
+            reply = sym (ap (reply_at_failure fixed.schema fixed.world fixed.user (reply_at fixed.schema fixed.world fixed.user state purpose text)) adds);
           }
 
-    told_code : (code : Reply) → NoMark code → reply_at fixed.schema fixed.world fixed.user (state_shown fixed found) text ≡ reply_of code → after ≡ found
+    told_code : (code : Reply) → NoMark code → reply_at fixed.schema fixed.world fixed.user (state_shown fixed found) purpose text ≡ reply_of code
+        → after ≡ found
         → IsTold code
     told_code code none replied same =
-        let same_told : reply_at fixed.schema fixed.world fixed.user state text ≡ reply_of code =
+        let same_told : reply_at fixed.schema fixed.world fixed.user state purpose text ≡ reply_of code =
         same_reply fixed.standing (history_of found) (flying found) state is ∙ replied in
-        let nothing : entry_at fixed.schema fixed.world fixed.user state text ≡ None =
+        let nothing : entry_at fixed.schema fixed.world fixed.user state purpose text ≡ None =
         ap (λ r. entry_added text (reading fixed.schema text) r) same_told ∙ code_adds_none text (reading fixed.schema text) code none in
         record {
           ending = kept;
@@ -138,9 +144,9 @@ module _ {D : Type 0} (fixed : Fixed D) (text : Text) where
           reply = sym same_told;
         }
 
-    -- what an ask adds is an event
-    pub adds_ask : {ticket : ℕ} (reply : Reply) → Adds fixed ticket text found after reply → IsTold reply
-    adds_ask {ticket = ticket} reply (answered {query = query} {mark = mark} served answer added) = told_mark query mark served answer ticket added
-    adds_ask {ticket = ticket} reply (broke {query = query} {mark = mark} served answer added) = told_broke query mark served answer ticket added
-    adds_ask reply (coded none replied same) = told_code reply none replied same
-    adds_ask reply (wanted same) = record { ending = want; after = still same; reply = refl }
+    -- what a call adds is an event
+    pub adds_call : {ticket : ℕ} (reply : Reply) → Adds fixed ticket purpose text found after reply → IsTold reply
+    adds_call {ticket = ticket} reply (answered {query = query} {mark = mark} served answer added) = told_mark query mark served answer ticket added
+    adds_call {ticket = ticket} reply (broke {query = query} {mark = mark} served answer added) = told_broke query mark served answer ticket added
+    adds_call reply (coded none replied same) = told_code reply none replied same
+    adds_call reply (wanted same) = record { ending = want; after = still same; reply = refl }

@@ -3,6 +3,7 @@ use Rattle.std.proofs.Common.{◌≡◌, ℕ, true, false, List, [], ◌∷◌, 
 use Rattle.std.specs.Prelude.{Option, Some, None, is_some, option_to_list}
 use Rattle.std.proofs.lemmas.List.{append-nil}
 use Rattle.cqe_base.specs.declared.user.Mark as base
+use Rattle.cqe_base.specs.declared.user.Purpose.{Purpose}
 use Rattle.cqe_base.specs.Schema.{Text}
 use Rattle.cqe_base.specs.History.{AnsweredQuery, History}
 use Rattle.cqe_base.specs.Formula.{Formula}
@@ -113,19 +114,21 @@ broke_last ((t, Broke x) ∷ []) last = refl
 broke_last ((t, Broke x) ∷ p ∷ pairs) last = let none : p ∷ pairs ≡ [] = last [] (p ∷ pairs) t x refl in absurd cc
 
 -- a desk with no entry in flight
-module _ {D : Type 0} (fixed : Fixed D) (text : Text) (tickets : List ℕ) (old : History) (mark_of_broke : ℕ) (counted : length tickets ≡ length old) where
+module _ {D : Type 0} (fixed : Fixed D) (purpose : Purpose) (text : Text) (tickets : List ℕ) (old : History) (mark_of_broke : ℕ)
+    (counted : length tickets ≡ length old) where
   abbrev found : Entries TurnItem
   found = pairs_of tickets old mark_of_broke None
 
   abbrev Changed : History → Option AnsweredQuery → Reply → Type 0
-  Changed new new_flying reply = Changes fixed.schema fixed.world fixed.user (standing_of fixed.standing) text old None new new_flying reply
+  Changed new new_flying reply = Changes fixed.schema fixed.world fixed.user (standing_of fixed.standing) purpose text old None new new_flying reply
 
   served : standing_of fixed.standing ≡ standing_open → IsServing fixed found
   served is = (is, flying_pairs tickets old mark_of_broke None)
 
-  answers : {query : Formula} {mark : base.Mark} → IsAnswer fixed.schema fixed.world fixed.user old text query mark → AnswersWith fixed found text query mark
+  answers : {query : Formula} {mark : base.Mark} → IsAnswer fixed.schema fixed.world fixed.user old purpose text query mark
+      → AnswersWith fixed found purpose text query mark
   answers {query = query} {mark = mark} is =
-      subst (λ h. IsAnswer fixed.schema fixed.world fixed.user h text query mark) (sym (history_pairs tickets old mark_of_broke None counted)) is
+      subst (λ h. IsAnswer fixed.schema fixed.world fixed.user h purpose text query mark) (sym (history_pairs tickets old mark_of_broke None counted)) is
 
   same_state : state_shown fixed found ≡ shown old (standing_of fixed.standing) None
   same_state =
@@ -134,7 +137,7 @@ module _ {D : Type 0} (fixed : Fixed D) (text : Text) (tickets : List ℕ) (old 
 
   -- a mark adds its entry
   pub adds_mark : {new : History} {new_flying : Option AnsweredQuery} {mark : base.Mark} → (ticket : ℕ) → Changed new new_flying (Mark mark)
-      → Adds fixed ticket text found (pairs_of (tickets ++ ticket ∷ []) new mark_of_broke new_flying) (Mark mark)
+      → Adds fixed ticket purpose text found (pairs_of (tickets ++ ticket ∷ []) new mark_of_broke new_flying) (Mark mark)
   adds_mark {new = new} {new_flying = new_flying} ticket (settling.added {query = query} {mark = mark} opened whole answer grown none) =
       answered (served opened) (answers answer)
       (ap (λ h. pairs_of (tickets ++ ticket ∷ []) h mark_of_broke new_flying) grown
@@ -144,7 +147,7 @@ module _ {D : Type 0} (fixed : Fixed D) (text : Text) (tickets : List ℕ) (old 
 
   -- an append that fails leaves its entry in flight
   pub adds_broke : {new : History} {new_flying : Option AnsweredQuery} → (ticket : ℕ) → is_some new_flying ≡ true → Changed new new_flying Broken
-      → Adds fixed ticket text found (pairs_of tickets new ticket new_flying) Broken
+      → Adds fixed ticket purpose text found (pairs_of tickets new ticket new_flying) Broken
   adds_broke {new_flying =
       new_flying} ticket flies (settling.flew {query = query} {mark = mark} opened whole answer same flew) = broke (served opened) (answers answer)
       (ap (λ h. pairs_of tickets h ticket new_flying) same ∙ ap (λ o. pairs_of tickets old ticket o) flew
@@ -154,11 +157,11 @@ module _ {D : Type 0} (fixed : Fixed D) (text : Text) (tickets : List ℕ) (old 
 
   -- a code and want of memory add nothing
   pub adds_none : {new : History} {new_flying : Option AnsweredQuery} {reply : Reply} → (ticket : ℕ) → NoMark reply → (reply ≡ Broken → ⊥)
-      → Changed new new_flying reply → Adds fixed ticket text found (pairs_of tickets new mark_of_broke new_flying) reply
+      → Changed new new_flying reply → Adds fixed ticket purpose text found (pairs_of tickets new mark_of_broke new_flying) reply
   adds_none ticket none whole (settling.added opened idle answer grown still) = absurd none
   adds_none ticket none whole (settling.flew opened idle answer same flew) = absurd (whole refl)
   adds_none {new_flying = new_flying} ticket none whole (settling.coded never replied same still) =
-      coded never (ap (λ s. reply_at fixed.schema fixed.world fixed.user s text) same_state ∙ replied)
+      coded never (ap (λ s. reply_at fixed.schema fixed.world fixed.user s purpose text) same_state ∙ replied)
       (ap (λ h. pairs_of tickets h mark_of_broke new_flying) same ∙ ap (λ o. pairs_of tickets old mark_of_broke o) still)
   adds_none {new_flying = new_flying} ticket none whole (settling.wanted same still) =
       wanted (ap (λ h. pairs_of tickets h mark_of_broke new_flying) same ∙ ap (λ o. pairs_of tickets old mark_of_broke o) still)

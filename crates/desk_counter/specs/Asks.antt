@@ -1,7 +1,8 @@
--- What an ask answers, and what it adds.
+-- What a call answers, and what it adds.
 use Rattle.std.specs.Prelude.{◌≡◌, ◌⊎◌, ℕ, ◌≤◌, [], ◌∷◌, ◌++◌, length, Option, None, Ok}
 use Rattle.std.specs.Prelude.{option_to_list}
 use Rattle.cqe_base.specs.declared.user.Mark as base
+use Rattle.cqe_base.specs.declared.user.Purpose.{Purpose}
 use Rattle.cqe_base.specs.Schema.{Text}
 use Rattle.cqe_base.specs.Formula.{Formula}
 use Rattle.cqe_base.specs.Reading.{reading}
@@ -23,7 +24,7 @@ use Rattle.desk_counter.specs.declared.item.Fixed.{Fixed}
 use Rattle.desk_counter.specs.Items.{history_of, kept_pairs, flying}
 use Rattle.desk_counter.specs.Desks.{state_shown}
 
--- the entry of a query that was asked by this text
+-- the item of the sentence that this text is
 abbrev pub entry_for : Formula → base.Mark → Text → AnsweredQuery
 entry_for query mark text = record { query = query; mark = mark; length = length text }
 
@@ -43,8 +44,8 @@ pub record Looked {D : Type 0} (old new : Pass TurnItem (Fixed D)) : Type 0 wher
   pub same_shares : shares new ≡ shares old
 
 module _ {D : Type 0} (fixed : Fixed D) where
-  -- a text was examined before these pairs or behind a beginning of them, and so it was for all
-  -- that begin with them
+  -- a text was examined behind a beginning of these pairs, and so it was for all that begin with
+  -- them
   abbrev pub IsExaminedBehind : Entries TurnItem → Text → Examined → Type 0
   IsExaminedBehind pairs text examined = (later : Entries TurnItem) → IsPrefix pairs later
       → IsExamined fixed.schema fixed.user (history_of later) text examined
@@ -53,41 +54,50 @@ module _ {D : Type 0} (fixed : Fixed D) where
   abbrev pub IsServing : Entries TurnItem → Type 0
   IsServing pairs = (standing_of fixed.standing ≡ standing_open) × (flying pairs ≡ None)
 
-  -- this query and this mark answer the text behind these pairs
-  abbrev pub AnswersWith : Entries TurnItem → Text → Formula → base.Mark → Type 0
-  AnswersWith pairs text query mark =
-      IsAnswer fixed.schema fixed.world fixed.user (history_of pairs) text query mark
+  -- this sentence and this mark answer the call behind these pairs
+  abbrev pub AnswersWith : Entries TurnItem → Purpose → Text → Formula → base.Mark → Type 0
+  AnswersWith pairs purpose text query mark =
+      IsAnswer fixed.schema fixed.world fixed.user (history_of pairs) purpose text query mark
 
-  -- What an ask adds to the pairs that it found: a mark adds its entry, once; an append that fails
-  -- adds that entry as one in flight; a code and want of memory add nothing.
-  pub data Adds (ticket : ℕ) (text : Text) (found after : Entries TurnItem) : Reply → Type 0 where
+  -- What a call adds to the pairs that it found: a mark adds its item, once; an append that fails
+  -- adds that item as one in flight; a code and want of memory add nothing.
+  pub data Adds (ticket : ℕ) (purpose : Purpose) (text : Text) (found after : Entries TurnItem) :
+      Reply → Type 0 where
     answered : {query : Formula} {mark : base.Mark} → IsServing found
-        → AnswersWith found text query mark
+        → AnswersWith found purpose text query mark
         → after ≡ found ++ (ticket, Kept (entry_for query mark text)) ∷ []
-        → Adds ticket text found after (Mark mark)
+        → Adds ticket purpose text found after (Mark mark)
     broke : {query : Formula} {mark : base.Mark} → IsServing found
-        → AnswersWith found text query mark
+        → AnswersWith found purpose text query mark
         → after ≡ found ++ (ticket, Broke (entry_for query mark text)) ∷ []
-        → Adds ticket text found after Broken
+        → Adds ticket purpose text found after Broken
     coded : {code : Reply} → NoMark code
-        → reply_at fixed.schema fixed.world fixed.user (state_shown fixed found) text
-        ≡ reply_of code → after ≡ found → Adds ticket text found after code
-    wanted : after ≡ found → Adds ticket text found after Memory
+        → reply_at fixed.schema fixed.world fixed.user (state_shown fixed found) purpose text
+        ≡ reply_of code → after ≡ found → Adds ticket purpose text found after code
+    wanted : after ≡ found → Adds ticket purpose text found after Memory
 
-  -- What an ask does with a pass: it found pairs that begin with all that the pass had seen, and
+  -- What a call does with a pass: it found pairs that begin with all that the pass had seen, and
   -- are all of that where the pass has all shares; what it added, with a ticket that is new to the
   -- pass, was then seen, and is the pass's own. It may have drawn a ticket more before, for a turn
   -- that added nothing.
-  pub record Asked (old new : Pass TurnItem (Fixed D)) (text : Text) (reply : Reply) : Type 0 where
+  pub record Asked (old new : Pass TurnItem (Fixed D)) (purpose : Purpose) (text : Text)
+      (reply : Reply) : Type 0 where
     pub ticket : ℕ
     pub looked : Option ℕ
     pub found : Entries TurnItem
     pub later : IsPrefix (seen old) found
     pub whole : shares old ≡ 65 → found ≡ seen old
     pub fresh : (x : ℕ) → ticket ≤ x → count_of x (tickets old) ≡ 0
-    pub adds : Adds ticket text found (seen new) reply
+    pub adds : Adds ticket purpose text found (seen new) reply
     pub own : AddsAlike found (seen new) (mine old) (mine new)
     pub drew : tickets new ≡ tickets old ++ option_to_list looked ++ ticket ∷ []
+
+  -- What a call does with a pass in the turn that settles it: whatever it did with the pass before,
+  -- if it only looked, the whole is what a call does.
+  abbrev pub AskedBehind : Pass TurnItem (Fixed D) → Pass TurnItem (Fixed D) → Purpose → Text
+      → Reply → Type 0
+  AskedBehind mid new purpose text reply = (old : Pass TurnItem (Fixed D)) → Looked old mid
+      → Asked old new purpose text reply
 
   -- the pairs without the last one
   abbrev pub all_but_last : Entries TurnItem → Entries TurnItem
@@ -100,14 +110,14 @@ module _ {D : Type 0} (fixed : Fixed D) where
   pairs_behind (Mark mark) pairs = all_but_last pairs
   pairs_behind _ pairs = pairs
 
-  -- the reply is that of the rule for these pairs, or want of memory
-  abbrev pub IsReply : Text → Entries TurnItem → Reply → Type 0
-  IsReply text pairs reply = (reply ≡ Memory)
+  -- the reply is that to a call behind these pairs, or want of memory
+  abbrev pub IsReply : Purpose → Text → Entries TurnItem → Reply → Type 0
+  IsReply purpose text pairs reply = (reply ≡ Memory)
       ⊎ (reply_of reply
       ≡ reply_at fixed.schema fixed.world fixed.user
-      (state_shown fixed (pairs_behind reply pairs)) text)
+      (state_shown fixed (pairs_behind reply pairs)) purpose text)
 
-  -- A mark was told: its entry, with its text's query and length, is the last pair that was seen
+  -- A mark was told: its item, with its text's sentence and length, is the last pair that was seen
   -- and the one that the pass has more of its own.
   pub record TellsEntry (old new : Pass TurnItem (Fixed D)) (text : Text) (mark : base.Mark) :
       Type 0 where

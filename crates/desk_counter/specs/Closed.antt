@@ -5,6 +5,7 @@ use Rattle.outside.specs.Disk.{Elapses}
 use Rattle.outside.specs.Faults.{Rose}
 use Rattle.outside.specs.declared.disk.Disk.{Ghosts as DiskGhosts}
 use Rattle.cqe_base.specs.Censor.{IsLegal}
+use Rattle.cqe_base.specs.Limits.{KeepsSizes}
 use Rattle.turnstile.specs.History.{Entries}
 use Rattle.user_desk.specs.Causes.{OpensWithin}
 use Rattle.user_desk.specs.Entries.{IsNoLonger}
@@ -17,17 +18,18 @@ use Rattle.desk_counter.specs.Items.{history_of, flying, has_broke, items_of, it
 use Rattle.desk_counter.specs.Sole.{IsAsOpened}
 
 -- A desk, of which no turn changed what is kept, leaves this disk, once all pairs are these: unless
--- its journal was refused, each image holds the state that they show, whose history is legal; they
--- are those that it was put under the counter with and then the pass's own, with one entry in
--- flight at most; only of a user who is served are there any; the count rose where an append
--- failed; where none did, the disk has grown for the entries alone; and where nothing was appended
--- it is as it was at the opening. Since the opening each image opens a desk with a beginning of the
--- history, with the entry in flight, that has all entries at the opening.
+-- its journal was refused, each image holds the state that they show, whose history is legal and
+-- within the limits; they are those that it was put under the counter with and then the pass's own,
+-- with one entry in flight at most; only of a user who is served are there any; the count rose
+-- where an append failed; where none did, the disk has grown for the entries alone; and where
+-- nothing was appended it is as it was at the opening. Since the opening each image opens a desk
+-- with a beginning of the history, with the entry in flight, that has all entries at the opening.
 pub record IsClosed {D : Type 0} (Disk : DiskGhosts D) (kept : Fixed D)
     (first own pairs : Entries TurnItem) (disk : D) : Type 0 where
   pub holds : Disk.tells → is_sealed kept.standing ≡ false → (c : List ℕ) → Disk.image disk c
       → Holds kept.schema kept.world kept.user kept.header (state_shown kept pairs) c
   pub legal : IsLegal kept.schema kept.world kept.user (history_of pairs)
+  pub sizes : KeepsSizes kept.schema kept.user (history_of pairs)
   pub added : pairs ≡ first ++ own
   pub items : items_of pairs ≡ items_with (history_of pairs) (flying pairs)
   pub idle : is_open kept.standing ≡ false → (history_of pairs ≡ []) × (flying pairs ≡ None)

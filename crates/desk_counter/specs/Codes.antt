@@ -1,9 +1,9 @@
--- Codes of entries and of users, by which equal ones are known.
+-- Codes of items and of users, by which equal ones are known.
 use Rattle.std.specs.Prelude.{◌≡◌, ℕ, zero, suc, List, refl}
 use Rattle.std.specs.Coded.{Coded, code_by, coded_ℕ, coded_list, coded×}
 use Rattle.std.proofs.Common.{ap}
 use Rattle.cqe_base.specs.declared.user.Mark.{Mark}
-use Rattle.cqe_base.specs.declared.user.Mark.TheVariants.{Yes, No, Refused, Undecided}
+use Rattle.cqe_base.specs.declared.user.Mark.TheVariants.{Yes, No, Refused, Undecided, Protected}
 use Rattle.cqe_base.specs.declared.user.Method.{Method}
 use Rattle.cqe_base.specs.declared.user.Method.TheVariants.{Lying, Refusal, Combined}
 use Rattle.cqe_base.specs.Formula.{Formula}
@@ -16,13 +16,15 @@ mark_stored Yes = 0
 mark_stored No = 1
 mark_stored Refused = 2
 mark_stored Undecided = 3
+mark_stored Protected = 4
 
 -- the mark of a number
 abbrev mark_found : ℕ → Mark
 mark_found zero = Yes
 mark_found (suc zero) = No
 mark_found (suc (suc zero)) = Refused
-mark_found _ = Undecided
+mark_found (suc (suc (suc zero))) = Undecided
+mark_found _ = Protected
 
 -- a mark comes back from its number
 pub mark_found-stored : (mark : Mark) → mark_found (mark_stored mark) ≡ mark
@@ -30,6 +32,7 @@ mark_found-stored Yes = refl
 mark_found-stored No = refl
 mark_found-stored Refused = refl
 mark_found-stored Undecided = refl
+mark_found-stored Protected = refl
 
 -- a method as a number
 abbrev method_stored : Method → ℕ

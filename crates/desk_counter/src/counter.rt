@@ -9,9 +9,8 @@ ghost use Rattle.desk_counter.specs.Codes.{profile_code};
 use crate::crowd::Crowd;
 use crate::item::{Fixed, TurnItem};
 use crate::ticketed_desk::{Owned, TicketedDesk};
-use censors::LentViews;
-use cqe_base::laws::law_logs;
-use cqe_base::user::User;
+use cqe_base::schema::Schema;
+use cqe_base::user::{Purpose, User};
 use entailment::GroundSentence;
 use outside::{Disk, Gate, Point};
 use std::alloc::Global;
@@ -19,7 +18,7 @@ use std::sync::Wait;
 use std::thread::Threads;
 use turnstile::{Pass, PassError, Turnstile};
 use user_desk::Desk;
-use user_log::{Examined, Examiner, Reply};
+use user_log::{Examined, Examiner, Lent, Reply};
 
 /// A turnstile has so many shares.
 const ALL_SHARES: u64 = 65;
@@ -51,6 +50,9 @@ impl<'w, D: Disk> CounterOf<'w, TicketedDesk<'w, D>> {
     ghost use Rattle.cqe_base.specs.Limits.{KeepsSizes};
     ghost use Rattle.entailment.specs.GroundSentences.{sentence_of};
     ghost use Rattle.user_log.specs.Examining.{IsLent};
+    ghost use Rattle.cqe_base.specs.declared.user.Mark.{Mark};
+    ghost use Rattle.cqe_base.specs.declared.user.Mark.TheVariants.{Protected};
+    ghost use Rattle.cqe_base.specs.declared.user.Purpose.TheVariants.{Asking, Protecting};
     ghost use Rattle.turnstile.specs.declared.pass.PassError.TheVariants.{TooMany};
     ghost use Rattle.turnstile.specs.History.{IsPrefix, IsOpening, Interleaves, IsRising};
     ghost use Rattle.turnstile.specs.History.{entries_with, turn_entries, count_of};
@@ -64,7 +66,7 @@ impl<'w, D: Disk> CounterOf<'w, TicketedDesk<'w, D>> {
     ghost use Rattle.desk_counter.specs.Items.{is_broke_last};
     ghost use Rattle.desk_counter.specs.Desks.{fixed_of};
     ghost use Rattle.desk_counter.specs.Asks.{NoMark, Asked, IsReply, TellsMark, AddsNoEntry};
-    ghost use Rattle.desk_counter.specs.Asks.{Looked, IsExaminedBehind};
+    ghost use Rattle.desk_counter.specs.Asks.{Looked, IsExaminedBehind, AskedBehind};
     ghost use Rattle.desk_counter.specs.Counters.{kept_by, first_pairs, IsPassOf};
     ghost use Rattle.desk_counter.specs.Closed.{IsClosed};
 
@@ -110,6 +112,13 @@ impl<'w, D: Disk> CounterOf<'w, TicketedDesk<'w, D>> {
         self.examiner.user()
     }
 
+    /// The schema of its texts.
+    pub fn schema(&self) -> &'w Schema
+        ensures { result.now ≡ (kept_by self.now).schema }
+    {
+        self.examiner.schema()
+    }
+
     /// Splits off a pass with one share and 2^57 turns, which has seen as much. It takes no memory.
     pub fn split(&self, pass: &mut DeskPass<D>) -> Result<DeskPass<D>, PassError>
         requires pass { IsPassOf pass.old self.now }
@@ -151,8 +160,8 @@ impl<'w, D: Disk> CounterOf<'w, TicketedDesk<'w, D>> {
 
     /// Asks a text, in two turns. In the first one it takes views of the log. Between both it
     /// examines the text after these, by as many threads as there are views. In the second one it
-    /// settles the text by the entries of all asks before, with what was found where the log is
-    /// still the same, and else with what it finds then. A pass that has all shares makes the
+    /// settles the text by the items of all calls before, with what was found where these are as
+    /// many as they were, and else with what it finds then. A pass that has all shares makes the
     /// second turn alone, and so does an ask of which nothing is to be examined, or beside which
     /// two others are under way. The gate is passed between both turns and after the second.
     pub fn ask<R: Threads + Wait + Sync, G: Gate>(
@@ -170,11 +179,11 @@ impl<'w, D: Disk> CounterOf<'w, TicketedDesk<'w, D>> {
         ensures used { (shares pass.new ≡ shares pass.old) × (turns pass.old ≤ turns pass.new + 2) }
 
         // What the ask found, what it added, and what it answered.
-        ensures asked { Asked (kept_by self.now) pass.old pass.new text.now result }
+        ensures asked { Asked (kept_by self.now) pass.old pass.new Asking text.now result }
 
         // The reply is that of the rule for what was seen, without the last pair where it is a
         // mark; Broken is answered exactly where an append failed.
-        ensures reply { IsReply (kept_by self.now) text.now (seen pass.new) result }
+        ensures reply { IsReply (kept_by self.now) Asking text.now (seen pass.new) result }
         ensures broken { (result ≡ Reply.Broken) ↔ IsTrue (has_broke (seen pass.new)) }
 
         // A mark's entry is the last that was seen and the one that the pass has more of its own;
@@ -194,13 +203,86 @@ impl<'w, D: Disk> CounterOf<'w, TicketedDesk<'w, D>> {
         self.crowd.enter();
         let examined = self.examined(rt, alloc, pass, text);
         gate.pass(self.user().name.as_str(), Point::Examined);
-        let mut turn = self.turnstile.enter(rt, pass);
-        let ticket = turn.ticket();
-        let reply = turn.value.settle(alloc, ticket, text, examined);
-        turn.value.known();
-        self.turnstile.leave(pass, turn);
+        let reply = self.settle(rt, alloc, pass, Purpose::Asking, text, examined);
         self.crowd.leave();
         gate.pass(self.user().name.as_str(), Point::Settled);
+        reply
+    }
+
+    /// Adds a text to the user's secrets, all in one turn, where the items of all calls before are
+    /// still safe with it. The mark of a secret that was added is `Protected`; what an ask beside
+    /// it found before isn't used any more.
+    pub fn protect<R: Wait>(
+        &self,
+        rt: &R,
+        alloc: Global,
+        pass: &mut DeskPass<D>,
+        text: &str,
+    ) -> Reply
+        requires pass { IsPassOf pass.old self.now }
+        requires turns { 1 ≤ turns pass.old }
+        requires short { length text.now ≤ 4096 }
+        ensures pass { IsPassOf pass.new self.now }
+        ensures used { (shares pass.new ≡ shares pass.old) × (turns pass.old ≤ turns pass.new + 1) }
+
+        // What the call found, what it added, and what it answered.
+        ensures asked { Asked (kept_by self.now) pass.old pass.new Protecting text.now result }
+
+        // The reply is that of the definitions for what was seen, without the last pair where a
+        // secret was added; no world is looked at. Broken is answered exactly where an append
+        // failed.
+        ensures reply { IsReply (kept_by self.now) Protecting text.now (seen pass.new) result }
+        ensures broken { (result ≡ Reply.Broken) ↔ IsTrue (has_broke (seen pass.new)) }
+
+        // A mark is that of an added secret, whose item is the last that was seen and the one that
+        // the pass has more of its own; without a mark there is none.
+        ensures protected { (mark : Mark) → result ≡ Reply.Mark mark → mark ≡ Protected }
+        ensures mark { TellsMark (kept_by self.now) pass.old pass.new text.now result }
+        ensures none { NoMark result → AddsNoEntry (kept_by self.now) pass.old pass.new }
+        ensures later { IsPrefix (seen pass.old) (seen pass.new) }
+
+        // The history is legal and within the limits, and an entry in flight stands last.
+        ensures legal { IsLegal (kept_by self.now).schema (kept_by self.now).world
+            (kept_by self.now).user
+            (history_of (seen pass.new)) }
+        ensures sizes { KeepsSizes (kept_by self.now).schema (kept_by self.now).user
+            (history_of (seen pass.new)) }
+        ensures last { BrokeIsLast (seen pass.new) }
+    {
+        self.settle(rt, alloc, pass, Purpose::Protecting, text, None)
+    }
+
+    /// The turn that settles a call, with what was found of a query before, if that was done.
+    fn settle<R: Wait>(
+        &self,
+        rt: &R,
+        alloc: Global,
+        pass: &mut DeskPass<D>,
+        purpose: Purpose,
+        text: &str,
+        examined: Option<Examined<'w>>,
+    ) -> Reply
+        requires pass { IsPassOf pass.old self.now }
+        requires turns { 1 ≤ turns pass.old }
+        requires short { length text.now ≤ 4096 }
+        requires examined { IfSome examined
+            (IsExaminedBehind (kept_by self.now) (seen pass.old) text.now) }
+        ensures pass { IsPassOf pass.new self.now }
+        ensures used { (shares pass.new ≡ shares pass.old) × (turns pass.old ≤ turns pass.new + 1) }
+        ensures asked { AskedBehind (kept_by self.now) pass.old pass.new purpose text.now result }
+        ensures broken { (result ≡ Reply.Broken) ↔ IsTrue (has_broke (seen pass.new)) }
+        ensures legal { IsLegal (kept_by self.now).schema (kept_by self.now).world
+            (kept_by self.now).user
+            (history_of (seen pass.new)) }
+        ensures sizes { KeepsSizes (kept_by self.now).schema (kept_by self.now).user
+            (history_of (seen pass.new)) }
+        ensures last { BrokeIsLast (seen pass.new) }
+    {
+        let mut turn = self.turnstile.enter(rt, pass);
+        let ticket = turn.ticket();
+        let reply = turn.value.settle(alloc, ticket, purpose, text, examined);
+        turn.value.known();
+        self.turnstile.leave(pass, turn);
         reply
     }
 
@@ -223,7 +305,6 @@ impl<'w, D: Disk> CounterOf<'w, TicketedDesk<'w, D>> {
         ensures examined { IfSome result
             (IsExaminedBehind (kept_by self.now) (seen pass.new) text.now) }
     {
-        law_logs();
         if pass.shares() == ALL_SHARES {
             return None;
         }
@@ -243,7 +324,7 @@ impl<'w, D: Disk> CounterOf<'w, TicketedDesk<'w, D>> {
         pass: &mut DeskPass<D>,
         text: &str,
         query: &GroundSentence,
-    ) -> Option<LentViews<'w>>
+    ) -> Option<Lent<'w>>
         requires pass { IsPassOf pass.old self.now }
         requires turns { 1 ≤ turns pass.old }
         requires short { length text.now ≤ 4096 }
@@ -277,8 +358,6 @@ impl<'w, D: Disk> CounterOf<'w, TicketedDesk<'w, D>> {
         ensures closed { IsClosed D.Disk (kept_by self.entry) (first_pairs self.entry) (mine pass)
             (seen pass) (desk_disk result) }
         ensures drew { DrewEachOnce (view_of pass) }
-        ensures sizes { KeepsSizes (kept_by self.entry).schema (kept_by self.entry).user
-            (history_of (seen pass)) }
 
         // Where no append failed, each crash leaves just that history.
         ensures whole { D.tells → is_sealed (kept_by self.entry).standing ≡ false

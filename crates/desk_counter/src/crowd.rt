@@ -2,8 +2,8 @@
 use std::sync::atomic::AtomicU64;
 use std::sync::atomic::Ordering::SeqCst;
 
-/// So many asks of one user are examined side by side. Each mark makes the log longer, and what was
-/// found after a shorter one isn't used: of more asks most would be examined twice.
+/// So many asks of one user are examined side by side. Each mark adds an item, and what was found
+/// after fewer items isn't used: of more asks most would be examined twice.
 const SIDE_BY_SIDE: u64 = 2;
 
 /// How many asks are under way.

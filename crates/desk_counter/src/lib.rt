@@ -1,12 +1,12 @@
 //! One user's desk for any number of threads.
 //!
-//! A `Counter` has a desk under a turnstile. Each thread asks with a pass of its own, and every ask
-//! is one turn: it finds the entries of all asks before it, is answered by them, and adds at most
-//! one entry. Contracts see what a pass has seen as pairs of a ticket and an item, an entry of the
-//! journal or the one entry whose append failed.
+//! A `Counter` has a desk under a turnstile. Each thread calls with a pass of its own, and every
+//! call is settled in one turn: it finds the entries of all calls before it, is answered by them,
+//! and adds at most one entry. Contracts see what a pass has seen as pairs of a ticket and an item,
+//! an entry of the journal or the one entry whose append failed.
 //!
 //! `Counter::ask` promises the reply of the rule for what the pass has seen, a mark's entry once,
-//! and a legal history;
+//! and a legal history; so does `Counter::protect`, which adds a text to the user's secrets;
 //! `Counter::close` gives the desk with just the entries that the passes have seen, and tells what
 //! each crash leaves of them. `SoleCounter` is a counter with the pass that has all shares, for one
 //! thread.

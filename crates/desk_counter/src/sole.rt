@@ -12,8 +12,8 @@ use turnstile::Pass;
 use user_desk::Desk;
 use user_log::Reply;
 
-/// So many asks are made at most; with a nanosecond each they take a hundred years.
-const MOST_ASKS: u64 = 1 << 62;
+/// So many calls are made at most; with a nanosecond each they take a hundred years.
+const MOST_CALLS: u64 = 1 << 62;
 
 /// A desk under a counter, with the pass that has all shares: one thread asks by it as many threads
 /// ask at a counter.
@@ -21,12 +21,12 @@ const MOST_ASKS: u64 = 1 << 62;
 pub struct SoleOf<'w, V: Owned> {
     counter: CounterOf<'w, V>,
     pass: Pass<V::Item, V::Fixed>,
-    asks_left: u64,
+    calls_left: u64,
     ghost place: { IsOf pass counter.turnstile },
     ghost ready: { IsReady pass },
     ghost kept: { fixed pass ≡ Some (V.kept (first_value counter.turnstile)) },
     ghost all: { shares pass ≡ 65 },
-    ghost room: { 2 * asks_left ≤ turns pass },
+    ghost room: { 2 * calls_left ≤ turns pass },
 }
 
 /// A user's desk under a counter, with the pass that has all shares.
@@ -35,11 +35,12 @@ pub type SoleCounter<'w, D> = SoleOf<'w, TicketedDesk<'w, D>>;
 impl<'w, D: Disk> SoleOf<'w, TicketedDesk<'w, D>> {
     ghost use Rattle.std.specs.Prelude.{◌^◌, []};
     ghost use Rattle.cqe_base.specs.Run.{UserState};
+    ghost use Rattle.cqe_base.specs.declared.user.Purpose.TheVariants.{Asking, Protecting};
     ghost use Rattle.user_log.specs.Replies.{reply_of};
     ghost use Rattle.user_desk.specs.Desks.{desk_history, desk_disk, entry_in_flight};
     ghost use Rattle.desk_counter.specs.Items.{history_of, flying};
     ghost use Rattle.desk_counter.specs.Desks.{fixed_of};
-    ghost use Rattle.desk_counter.specs.Lives.{IsAskOf};
+    ghost use Rattle.desk_counter.specs.Lives.{IsCallOf};
     ghost use Rattle.desk_counter.specs.Closed.{IsClosed};
     ghost use Rattle.desk_counter.specs.Counters.{first_pairs, IsPassOf};
     ghost use Rattle.desk_counter.specs.Sole.{counter_in, pass_in, kept_in, pairs_of_sole};
@@ -61,7 +62,7 @@ impl<'w, D: Disk> SoleOf<'w, TicketedDesk<'w, D>> {
         Ok(SoleOf {
             counter,
             pass,
-            asks_left: MOST_ASKS,
+            calls_left: MOST_CALLS,
         })
     }
 
@@ -75,16 +76,33 @@ impl<'w, D: Disk> SoleOf<'w, TicketedDesk<'w, D>> {
     ) -> Reply
         requires { length text.now ≤ 4096 }
         ensures kept { kept_in self.new ≡ kept_in self.old }
-        // It is an ask of the run, with its reply and its ending.
+        // It is a call of the run, with its reply and its ending.
         ensures settled { (state : UserState) → IsSoleIn self.old state
-            → IsAskOf (kept_in self.old).schema (kept_in self.old).world (kept_in self.old).user
-            (IsSoleIn self.new) state text.now (reply_of result) }
+            → IsCallOf (kept_in self.old).schema (kept_in self.old).world (kept_in self.old).user
+            (IsSoleIn self.new) state Asking text.now (reply_of result) }
     {
-        if self.asks_left == 0 {
+        if self.calls_left == 0 {
             return Reply::Memory;
         }
         let reply = self.counter.ask(rt, alloc, &mut self.pass, text, gate);
-        self.asks_left -= 1;
+        self.calls_left -= 1;
+        reply
+    }
+
+    /// Adds a text to the user's secrets, as `Counter::protect` does.
+    pub fn protect<R: Wait>(&mut self, rt: &R, alloc: Global, text: &str) -> Reply
+        requires { length text.now ≤ 4096 }
+        ensures kept { kept_in self.new ≡ kept_in self.old }
+        // It is a call of the run, with its reply and its ending.
+        ensures settled { (state : UserState) → IsSoleIn self.old state
+            → IsCallOf (kept_in self.old).schema (kept_in self.old).world (kept_in self.old).user
+            (IsSoleIn self.new) state Protecting text.now (reply_of result) }
+    {
+        if self.calls_left == 0 {
+            return Reply::Memory;
+        }
+        let reply = self.counter.protect(rt, alloc, &mut self.pass, text);
+        self.calls_left -= 1;
         reply
     }
 
@@ -98,12 +116,12 @@ impl<'w, D: Disk> SoleOf<'w, TicketedDesk<'w, D>> {
         let SoleOf {
             counter,
             pass,
-            asks_left: _,
+            calls_left: _,
         } = self;
         (counter, pass)
     }
 
-    /// Puts a counter and the pass that has all shares together, to be closed: no ask is left to
+    /// Puts a counter and the pass that has all shares together, to be closed: no call is left to
     /// it.
     pub fn from_parts(counter: Counter<'w, D>, pass: DeskPass<D>) -> SoleCounter<'w, D>
         requires place { IsPassOf pass counter }
@@ -114,7 +132,7 @@ impl<'w, D: Disk> SoleOf<'w, TicketedDesk<'w, D>> {
         SoleOf {
             counter,
             pass,
-            asks_left: 0,
+            calls_left: 0,
         }
     }
 

@@ -7,13 +7,13 @@ ghost use Rattle.desk_counter.specs.Items.{pairs_of};
 ghost use Rattle.desk_counter.specs.Desks.{fixed_of};
 
 use crate::item::{Fixed, TurnItem};
-use censors::LentViews;
+use cqe_base::user::Purpose;
 use entailment::GroundSentence;
 use outside::Disk;
 use std::alloc::{AllocError, Global};
 use turnstile::Recorded;
 use user_desk::Desk;
-use user_log::{Examined, Examiner, Reply};
+use user_log::{Examined, Examiner, Lent, Reply};
 
 /// A value under a turnstile that belongs to a user.
 pub trait Owned: Recorded {
@@ -123,13 +123,14 @@ impl<'w, D: Disk> TicketedDesk<'w, D> {
     }
 
     /// Views of the log, after which the query of a text can be examined outside of a turn. There
-    /// are none where a code answers the text, or memory is wanting.
+    /// are none where a code answers the text, where a secret was added, or where memory is
+    /// wanting.
     pub(crate) fn lend(
         &mut self,
         alloc: Global,
         text: &str,
         query: &GroundSentence,
-    ) -> Option<LentViews<'w>>
+    ) -> Option<Lent<'w>>
         requires { length text.now ≤ 4096 }
         ensures fixed { fixed_in self.new ≡ fixed_in self.old }
         ensures pairs { pairs_in self.new ≡ pairs_in self.old }
@@ -141,13 +142,14 @@ impl<'w, D: Disk> TicketedDesk<'w, D> {
         self.desk.lend(alloc, text, query)
     }
 
-    /// Settles a text in the turn of this ticket, with what was found of it before, if that was
-    /// done. The disk stays as it is where nothing is to be written, and where an append had failed
-    /// before; at every moment of the turn a crash leaves what it may leave of this ask.
+    /// Settles a text in the turn of this ticket, with what was found of a query before, if that
+    /// was done. The disk stays as it is where nothing is to be written, and where an append had
+    /// failed before; at every moment of the turn a crash leaves what it may leave of this call.
     pub(crate) fn settle(
         &mut self,
         alloc: Global,
         ticket: u64,
+        purpose: Purpose,
         text: &str,
         examined: Option<Examined<'w>>,
     ) -> Reply
@@ -156,7 +158,7 @@ impl<'w, D: Disk> TicketedDesk<'w, D> {
             (IsExamined (fixed_in self.old).schema (fixed_in self.old).user
             (history_of (pairs_in self.old)) text.now) }
         ensures fixed { fixed_in self.new ≡ fixed_in self.old }
-        ensures adds { Adds (fixed_in self.old) ticket text.now (pairs_in self.old)
+        ensures adds { Adds (fixed_in self.old) ticket purpose text.now (pairs_in self.old)
             (pairs_in self.new) result }
         ensures broken { (result ≡ Reply.Broken) ↔ IsTrue (has_broke (pairs_in self.new)) }
         ensures untouched { HasNoWrite result
@@ -170,7 +172,8 @@ impl<'w, D: Disk> TicketedDesk<'w, D> {
             → Holds (desk_schema (desk_of self.old)) (desk_world (desk_of self.old))
             (desk_user (desk_of self.old)) (desk_header (desk_of self.old))
             (after_event (desk_schema (desk_of self.old)) (desk_world (desk_of self.old))
-            (desk_user (desk_of self.old)) (state_of (desk_of self.old)) (stop text.now)) c }
+            (desk_user (desk_of self.old)) (state_of (desk_of self.old))
+            (stop purpose text.now)) c }
     {
         self.desk.known();
         if self.desk.broken() {
@@ -179,7 +182,7 @@ impl<'w, D: Disk> TicketedDesk<'w, D> {
         if self.tickets.reserve(1).is_err() {
             return Reply::Memory;
         }
-        let reply = self.desk.settle(alloc, text, examined);
+        let reply = self.desk.settle(alloc, purpose, text, examined);
         self.desk.known();
         match reply {
             Reply::Mark(_) => self.tickets.push_reserved(ticket),

@@ -6,6 +6,7 @@ use Rattle.cqe_base.specs.Schema.{DatabaseSchema}
 use Rattle.cqe_base.specs.Facts.{FactSet}
 use Rattle.cqe_base.specs.History.{AnsweredQuery, History, profile_of}
 use Rattle.cqe_base.specs.Censor.{IsLegal}
+use Rattle.cqe_base.specs.Limits.{KeepsSizes}
 use Rattle.cqe_base.specs.Run.{UserState}
 use Rattle.user_desk.specs.Causes.{IsStanding}
 use Rattle.user_desk.specs.Standings.{is_sealed, standing_of}
@@ -53,8 +54,9 @@ module _ {D : Type 0} {g h : _} (schema : DatabaseSchema) (world : FactSet) (hea
       → (Disk.tells → is_sealed (desk_standing desk) ≡ false → (c : List ℕ) → Disk.image (desk_disk desk) c
       → Holds (desk_schema desk) (desk_world desk) (desk_user desk) (desk_header desk) (state_of desk) c)
       → IsLegal (desk_schema desk) (desk_world desk) (desk_user desk) (desk_history desk)
+      → KeepsSizes (desk_schema desk) (desk_user desk) (desk_history desk)
       → IsOpenedFrom schema world header Disk disk before seat
-  opened_seat disk before schema_is world_is user_is header_is admission_is standing restarted whole opening opened refusal images legal =
+  opened_seat disk before schema_is world_is user_is header_is admission_is standing restarted whole opening opened refusal images legal sizes =
       let disk_is : seat_disk seat ≡ desk_disk desk = ap (λ (f : Fixed D). f.disk) kept ∙ opened in
       record {
         served = record {
@@ -94,6 +96,9 @@ module _ {D : Type 0} {g h : _} (schema : DatabaseSchema) (world : FactSet) (hea
             (subst (λ w. IsLegal (desk_schema desk) w (profile_of (seat_user seat)) (seat_history seat)) world_is
             (subst (λ p. IsLegal (desk_schema desk) (desk_world desk) p (seat_history seat)) user_is
             (subst (λ (e : History). IsLegal (desk_schema desk) (desk_world desk) (desk_user desk) e) (sym entries) legal)));
+        sizes = subst (λ s. KeepsSizes s (profile_of (seat_user seat)) (seat_history seat)) schema_is
+            (subst (λ p. KeepsSizes (desk_schema desk) p (seat_history seat)) user_is
+            (subst (λ (e : History). KeepsSizes (desk_schema desk) (desk_user desk) e) (sym entries) sizes));
         first_is = first;
         mine_is = none_own;
         turns_are = all_turns;

@@ -1,8 +1,9 @@
--- Users at their desks, and what an ask, a close and an opening make of a desk and of its disk.
+-- Users at their desks, and what a call, a close and an opening make of a desk and of its disk.
 use Rattle.std.specs.Prelude.{◌≡◌, ℕ, ◌≤◌, ◌*◌, ◌^◌, Bool, true, false, List, [], ◌∷◌}
 use Rattle.std.specs.Prelude.{bytes_eq, Option, Some, None, Result, Ok, Err, string_bytes}
 use Rattle.outside.specs.Disk.{Elapses}
 use Rattle.outside.specs.declared.disk.Disk.{Ghosts as DiskGhosts}
+use Rattle.cqe_base.specs.declared.user.Purpose.{Purpose}
 use Rattle.cqe_base.specs.Schema.{Text, DatabaseSchema}
 use Rattle.cqe_base.specs.Facts.{FactSet}
 use Rattle.cqe_base.specs.History.{History, profile_of}
@@ -12,13 +13,14 @@ use Rattle.cqe_base.specs.declared.user.User.{User}
 use Rattle.censors.specs.Admitting.{admission_of}
 use Rattle.user_desk.specs.Causes.{IsStanding}
 use Rattle.cqe_base.specs.Censor.{IsLegal}
+use Rattle.cqe_base.specs.Limits.{KeepsSizes}
 use Rattle.user_desk.specs.Standings.{is_sealed}
 use Rattle.user_desk.specs.Lives.{Holds, Restarts}
 use Rattle.user_desk.specs.declared.standing.DeskError.{DeskError}
 use Rattle.user_desk.specs.declared.standing.Standing.{Standing}
 use Rattle.user_desk.specs.declared.standing.Standing.TheVariants.{Open, Closed, Sealed}
 use Rattle.desk_counter.specs.declared.item.Fixed.{Fixed}
-use Rattle.desk_counter.specs.Lives.{IsAskOf}
+use Rattle.desk_counter.specs.Lives.{IsCallOf}
 use Rattle.desk_counter.specs.Items.{history_of, has_broke}
 use Rattle.turnstile.specs.Passes.{mine, turns}
 use Rattle.desk_counter.specs.Closed as counter
@@ -58,7 +60,7 @@ seat_name seat = string_bytes seat.user.now.name
 abbrev pub seat_journal : {D : Type 0} {g h : _} → DeskSeat D g h → Text
 seat_journal seat = string_bytes seat.journal
 
--- what no ask changes of its desk
+-- what no call changes of its desk
 abbrev pub seat_kept : {D : Type 0} {g h : _} → DeskSeat D g h → Fixed D
 seat_kept seat = kept_in seat.desk
 
@@ -130,8 +132,8 @@ pub record IsLeftBy {D : Type 0} {g h : _} (Disk : DiskGhosts D)
   pub left : IsLeft Disk closed now
 
 module _ (schema : DatabaseSchema) (world : FactSet) where
-  -- a seat's user got this reply to a text, and all but his desk's state is as it was
-  pub record IsToldAt {D : Type 0} {g h : _} (text : Text) (told_reply : Reply)
+  -- a seat's user got this reply to a call, and all but his desk's state is as it was
+  pub record IsToldAt {D : Type 0} {g h : _} (purpose : Purpose) (text : Text) (told_reply : Reply)
       (old new : DeskSeat D g h) : Type 0 where
     pub user_is : seat_user new ≡ seat_user old
     pub admission_is : new.admission ≡ old.admission
@@ -139,20 +141,21 @@ module _ (schema : DatabaseSchema) (world : FactSet) where
     pub refusal_is : new.refusal ≡ old.refusal
     pub kept_is : seat_kept new ≡ seat_kept old
     pub settled : (state : UserState) → IsSeatIn old state
-        → IsAskOf schema world (profile_of (seat_user old)) (IsSeatIn new) state text told_reply
+        → IsCallOf schema world (profile_of (seat_user old)) (IsSeatIn new) state purpose text
+        told_reply
 
-  -- an ask of a name goes to the first seat of that name, and to no other; without such a seat
+  -- a call for a name goes to the first seat of that name, and to no other; without such a seat
   -- there is no reply
-  pub data Tells {D : Type 0} {g h : _} (name text : Text) : List (DeskSeat D g h)
-      → List (DeskSeat D g h) → Option Reply → Type 0 where
-    nobody : Tells name text [] [] None
+  pub data Tells {D : Type 0} {g h : _} (name : Text) (purpose : Purpose) (text : Text)
+      : List (DeskSeat D g h) → List (DeskSeat D g h) → Option Reply → Type 0 where
+    nobody : Tells name purpose text [] [] None
     here : {old new : DeskSeat D g h} {others : List (DeskSeat D g h)} {told_reply : Reply}
-        → is_named name old ≡ true → IsToldAt text told_reply old new
-        → Tells name text (old ∷ others) (new ∷ others) (Some told_reply)
+        → is_named name old ≡ true → IsToldAt purpose text told_reply old new
+        → Tells name purpose text (old ∷ others) (new ∷ others) (Some told_reply)
     further : {seat : DeskSeat D g h} {others after : List (DeskSeat D g h)}
         {told_reply : Option Reply}
-        → is_named name seat ≡ false → Tells name text others after told_reply
-        → Tells name text (seat ∷ others) (seat ∷ after) told_reply
+        → is_named name seat ≡ false → Tells name purpose text others after told_reply
+        → Tells name purpose text (seat ∷ others) (seat ∷ after) told_reply
 
 module _ (schema : DatabaseSchema) (world : FactSet) (header : List ℕ) where
   -- a seat's desk is of this schema, this world, this header, and of its user, whose admission the
@@ -182,6 +185,7 @@ module _ (schema : DatabaseSchema) (world : FactSet) (header : List ℕ) where
       pub fresh : IsSeatAsOpened seat
       pub opening_is : (seat_kept seat).opening ≡ seat_history seat
       pub legal : IsLegal schema world (profile_of (seat_user seat)) (seat_history seat)
+      pub sizes : KeepsSizes schema (profile_of (seat_user seat)) (seat_history seat)
       -- what was put under its counter is what its pass has seen, which has all turns and nothing
       -- of its own
       pub first_is : first_pairs (counter_in seat.desk) ≡ pairs_of_sole seat.desk

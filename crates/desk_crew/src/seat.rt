@@ -14,7 +14,7 @@ ghost use Rattle.desk_crew.specs.Crew.{IsToldAt, IsOpenedFrom};
 
 use crate::registry::Registry;
 use censors::Admission;
-use cqe_base::user::User;
+use cqe_base::user::{Purpose, User};
 use desk_counter::{Owned, SoleCounter, SoleOf, TicketedDesk};
 use outside::{Disk, Gate};
 use std::alloc::Global;
@@ -111,20 +111,24 @@ pub(crate) fn seat_at<'w, D: Disk>(
     }
 }
 
-/// The reply to a text of the user of a seat.
-pub fn ask_at<R: Threads + Wait + Sync, G: Gate, D: Disk>(
+/// The reply to a call for the user of a seat. Only an ask passes the gate.
+pub fn call_at<R: Threads + Wait + Sync, G: Gate, D: Disk>(
     rt: &R,
     alloc: Global,
     seat: &mut DeskSeat<'_, D>,
+    purpose: Purpose,
     text: &str,
     gate: &G,
 ) -> Reply
     requires short { length text.now ≤ 4096 }
     requires user { (seat_kept seat.old).user ≡ profile_of (seat_user seat.old) }
-    ensures { IsToldAt (seat_kept seat.old).schema (seat_kept seat.old).world text.now
+    ensures { IsToldAt (seat_kept seat.old).schema (seat_kept seat.old).world purpose text.now
         (reply_of result) seat.old seat.new }
 {
-    seat.desk.ask(rt, alloc, text, gate)
+    match purpose {
+        Purpose::Asking => seat.desk.ask(rt, alloc, text, gate),
+        Purpose::Protecting => seat.desk.protect(rt, alloc, text),
+    }
 }
 
 /// Closes a desk: its disk, and whether an append to it failed.

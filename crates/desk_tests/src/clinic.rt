@@ -9,7 +9,7 @@ ghost use Rattle.desk_counter.specs.Counters.{kept_by, IsPassOf};
 ghost use Rattle.session_core.specs.Members.{HasSeenLegal};
 
 use censors::admit;
-use cqe_base::laws::law_views_without_entries;
+use cqe_base::laws::{law_sizes, law_views_without_entries};
 use cqe_base::schema::Schema;
 use cqe_base::sentence::{Sentence, nodes};
 use cqe_base::user::{Method, User};
@@ -141,6 +141,7 @@ pub fn counter_of<'w>(
         panic!(rt; "no memory for a desk");
     };
     clinic.schema.known();
+    law_sizes();
     desk.known();
     match Counter::new(alloc, desk) {
         Ok(counter) => Ok(counter),

@@ -5,7 +5,7 @@ ghost use Rattle.cqe_base.specs.Limits.{KeepsLimits};
 
 use crate::clinic::{Clinic, HEADER, RULE, make_clinic, make_user};
 use censors::{Admission, admit};
-use cqe_base::user::{Mark, Method, User};
+use cqe_base::user::{Mark, Method, Purpose, User};
 use log_journal::{OpenError, format};
 use outside::{MemoryDisk, Plan};
 use std::alloc::Global;
@@ -50,7 +50,7 @@ fn ward_knowing(alloc: Global, known: &str) -> Result<Ward, Fail>
 /// The bytes of a journal with this behind its header.
 fn with_header(alloc: Global, behind: &[u8]) -> Result<Vec<u8>, Fail> {
     let mut bytes = Vec::new(alloc);
-    bytes.extend_from_slice(b"CQEJRNL1")?;
+    bytes.extend_from_slice(b"CQEJRNL2")?;
     bytes.extend_from_slice(&[7; 32])?;
     bytes.extend_from_slice(&[9; 32])?;
     bytes.extend_from_slice(behind)?;
@@ -108,13 +108,13 @@ fn one_ask_writes_its_bytes(rt: HostRuntime) -> Result<(), Fail> {
     let mut desk = desk_on(&rt, alloc, &ward, disk)?;
     assert_eq!(rt; *desk.standing(), Standing::Open);
     assert_eq!(rt;
-        desk.settle(alloc, "drug(ann)", None),
+        desk.settle(alloc, Purpose::Asking, "drug(ann)", None),
         Reply::Mark(Mark::No)
     );
     assert_eq!(rt; desk.entries().len(), 1);
     assert!(rt; !desk.broken());
     // The empty text isn't a sentence: kind 2 at its end. A code writes nothing.
-    let reply = desk.settle(alloc, "", None);
+    let reply = desk.settle(alloc, Purpose::Asking, "", None);
     assert!(rt; matches!(reply, Reply::Syntax(error) if error.kind == 2 && error.place == 0));
     let disk = desk.close();
     assert_eq!(rt; disk.bytes().len(), 86);
@@ -155,11 +155,19 @@ fn a_changed_byte_is_refused_by_name(rt: HostRuntime) -> Result<(), Fail> {
             0,
         ),
         (
+            7,
+            49,
+            Standing::Sealed(DeskError::Journal(OpenError::OldVersion)),
+            0,
+        ),
+        (
             8,
             0,
             Standing::Sealed(DeskError::Journal(OpenError::OtherPolicy)),
             0,
         ),
+        // A secret that was added.
+        (73, 5, Standing::Open, 1),
         // `drug(anx)`, and a byte that is no text.
         (83, 120, Standing::Sealed(DeskError::Stale(0)), 0),
         (83, 200, Standing::Sealed(DeskError::Stale(0)), 0),
@@ -231,7 +239,10 @@ fn a_user_who_is_not_admitted_has_no_entry(rt: HostRuntime) -> Result<(), Fail> 
     let disk = MemoryDisk::new(alloc, with_header(alloc, &[0])?)?;
     let mut desk = desk_on(&rt, alloc, &ward, disk)?;
     assert_eq!(rt; *desk.standing(), Standing::Closed(implied));
-    assert_eq!(rt; desk.settle(alloc, "drug(ann)", None), Reply::Closed);
+    assert_eq!(rt;
+        desk.settle(alloc, Purpose::Asking, "drug(ann)", None),
+        Reply::Closed
+    );
     let disk = desk.close();
     assert_eq!(rt; disk.bytes().len(), 73);
     Ok(())
@@ -248,7 +259,10 @@ fn a_fault_at_the_opening_seals_the_desk(rt: HostRuntime) -> Result<(), Fail> {
         let mut desk = desk_on(&rt, alloc, &ward, disk)?;
         let fault = DeskError::Journal(OpenError::DiskFault);
         assert_eq!(rt; *desk.standing(), Standing::Sealed(fault));
-        assert_eq!(rt; desk.settle(alloc, "drug(ann)", None), Reply::Sealed);
+        assert_eq!(rt;
+            desk.settle(alloc, Purpose::Asking, "drug(ann)", None),
+            Reply::Sealed
+        );
         assert!(rt; !desk.broken());
         let desk = desk_on(&rt, alloc, &ward, desk.close())?;
         assert_eq!(rt; *desk.standing(), Standing::Open);
@@ -272,8 +286,8 @@ fn two_lives(
     let bytes = with_header(alloc, &[0])?;
     let disk = MemoryDisk::with_plan(alloc, bytes, Plan::From(stop))?;
     let mut desk = desk_on(rt, alloc, ward, disk)?;
-    let first = desk.settle(alloc, "drug(ann)", None);
-    let second = desk.settle(alloc, "hiv(bob)", None);
+    let first = desk.settle(alloc, Purpose::Asking, "drug(ann)", None);
+    let second = desk.settle(alloc, Purpose::Asking, "hiv(bob)", None);
     let image = desk.close().crash_image(alloc, picture)?;
     let (standing, count) = opened(rt, alloc, ward, image)?;
     assert_eq!(rt; standing, Standing::Open);

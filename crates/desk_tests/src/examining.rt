@@ -118,6 +118,7 @@ fn agree_on_query<R: Threads + Sync>(
     requires small { nodes clinic.now.schema (sentence_of query.now) ≤ 1000 }
     requires grounded { IsGroundOver clinic.now.schema query.now }
 {
+    law_limits();
     let guards = Guards::new(alloc, &clinic.schema, user)?;
     let same = agree_over(rt, alloc, clinic, user, &guards, query)?;
     Ok(same)

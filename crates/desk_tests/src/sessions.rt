@@ -153,3 +153,29 @@ fn an_end_may_fail_at_any_call(rt: HostRuntime) -> Result<(), Fail> {
     }
     Ok(())
 }
+
+// Ann's line and Bob's go in three pieces each, then comes the end. Where the client has gone away,
+// what he has is a beginning of the reply.
+#[test]
+fn a_list_may_fail_at_any_call(rt: HostRuntime) -> Result<(), Fail> {
+    let alloc = rt.alloc();
+    let input = "login eve abc\nlist 1 exists x: person . hiv(x)\n";
+    let table = [
+        "",
+        "welcome\n",
+        "welcome\nann",
+        "welcome\nann ",
+        "welcome\nann no\n",
+        "welcome\nann no\nbob",
+        "welcome\nann no\nbob ",
+        "welcome\nann no\nbob no\n",
+    ];
+    for (call, want) in table.iter().enumerate() {
+        let source = MemorySource::new(bytes_of(alloc, input)?);
+        let sink = MemorySink::with_plan(alloc, Pieces::Whole, Plan::From(call as u64));
+        let (ended, sink, _faults) = talk(&rt, alloc, source, sink)?;
+        assert_eq!(rt; sink.bytes(), want.as_bytes(), "write {call}");
+        assert_eq!(rt; ended, Ended::WriteFault, "write {call}");
+    }
+    Ok(())
+}

@@ -1,6 +1,8 @@
 ghost use Rattle.std.specs.Prelude.{◌≤◌};
 
-use log_journal::{AppendError, Header, Journal, OpenError, format, journal_name, open};
+use log_journal::{
+    AppendError, Header, Journal, OpenError, Record, create, format, journal_name, open, open_old,
+};
 use outside::{MemoryDisk, Operation, Plan};
 use std::alloc::Global;
 use std::test::Fail;
@@ -25,8 +27,13 @@ const VALUES: u32 = 256;
 
 // The bytes of a journal with this behind its header.
 fn with_header(alloc: Global, behind: &[u8]) -> Result<Vec<u8>, Fail> {
+    with_first(alloc, b"CQEJRNL2", behind)
+}
+
+// The same with these first bytes.
+fn with_first(alloc: Global, first: &[u8; 8], behind: &[u8]) -> Result<Vec<u8>, Fail> {
     let mut bytes = Vec::new(alloc);
-    bytes.extend_from_slice(b"CQEJRNL1")?;
+    bytes.extend_from_slice(first)?;
     bytes.extend_from_slice(&[7; 32])?;
     bytes.extend_from_slice(&[9; 32])?;
     bytes.extend_from_slice(behind)?;
@@ -37,14 +44,25 @@ fn with_header(alloc: Global, behind: &[u8]) -> Result<Vec<u8>, Fail> {
 fn opened(alloc: Global, bytes: Vec<u8>) -> Result<Result<(usize, u8), OpenError>, Fail> {
     let disk = MemoryDisk::new(alloc, bytes)?;
     match open(alloc, disk, &HEADER) {
-        Ok((_, records)) => {
-            let kind = match records.last() {
-                Some(record) => record.kind,
-                None => 0,
-            };
-            Ok(Ok((records.len(), kind)))
-        }
+        Ok((_, records)) => Ok(Ok(counted(&records))),
         Err(refused) => Ok(Err(refused.why)),
+    }
+}
+
+// The same by who reads version 1.
+fn opened_old(alloc: Global, bytes: Vec<u8>) -> Result<Result<(usize, u8), OpenError>, Fail> {
+    let disk = MemoryDisk::new(alloc, bytes)?;
+    match open_old(alloc, disk, &HEADER) {
+        Ok((_, records)) => Ok(Ok(counted(&records))),
+        Err(refused) => Ok(Err(refused.why)),
+    }
+}
+
+// The number of records, and the kind of the last.
+fn counted(records: &[Record]) -> (usize, u8) {
+    match records.last() {
+        Some(record) => (records.len(), record.kind),
+        None => (0, 0),
     }
 }
 
@@ -58,7 +76,7 @@ fn journal_of(alloc: Global, disk: MemoryDisk) -> Result<Journal<MemoryDisk>, Op
 // Appends, and answers whether the record is acknowledged.
 fn is_appended(journal: &mut Journal<MemoryDisk>, kind: u8, text: &[u8; 9]) -> Result<bool, Fail>
     requires low { 1 ≤ kind }
-    requires high { kind ≤ 4 }
+    requires high { kind ≤ 5 }
 {
     journal.reserve(9)?;
     Ok(journal.append(kind, text).is_ok())
@@ -94,6 +112,65 @@ fn one_append_writes_its_bytes(rt: HostRuntime) -> Result<(), Fail> {
     Ok(())
 }
 
+// Two calls of `format`, four of `append`.
+#[test]
+fn a_journal_that_is_made_takes_a_record(rt: HostRuntime) -> Result<(), Fail> {
+    let alloc = rt.alloc();
+    let disk = MemoryDisk::new(alloc, Vec::new(alloc))?;
+    match create(alloc, disk, &HEADER) {
+        Ok(mut journal) => {
+            assert!(rt; is_appended(&mut journal, 2, b"drug(ann)")?);
+            let disk = journal.close();
+            let want = with_header(alloc, &FROM_THE_GATE)?;
+            assert_eq!(rt; disk.bytes(), want.as_slice());
+            assert_eq!(rt; disk.calls().len(), 6);
+        }
+        Err(_) => assert!(rt; false),
+    }
+    Ok(())
+}
+
+// The first eight bytes of each version and of a third, what stands behind the header, and what who
+// reads version 2 and who reads version 1 find.
+#[test]
+fn each_version_is_read_as_itself(rt: HostRuntime) -> Result<(), Fail> {
+    let alloc = rt.alloc();
+    let none = OpenError::NotAJournal;
+    let old = OpenError::OldVersion;
+    let cases: [(
+        &[u8; 8],
+        &[u8],
+        Result<(usize, u8), OpenError>,
+        Result<(usize, u8), OpenError>,
+    ); 8] = [
+        (b"CQEJRNL2", &[0], Ok((0, 0)), Err(none)),
+        (b"CQEJRNL2", &[1, 5, 0, 0, 0], Ok((1, 5)), Err(none)),
+        (b"CQEJRNL1", &[], Err(none), Err(none)),
+        (b"CQEJRNL1", &[0], Err(old), Ok((0, 0))),
+        (b"CQEJRNL1", &[1, 4, 0, 0, 0], Err(old), Ok((1, 4))),
+        (
+            b"CQEJRNL1",
+            &[1, 5, 0, 0, 0],
+            Err(old),
+            Err(OpenError::Damaged(0)),
+        ),
+        (b"CQEJRNL1", &[1], Err(old), Err(OpenError::Damaged(0))),
+        (b"CQEJRNL3", &[0], Err(none), Err(none)),
+    ];
+    for (first, behind, want, want_old) in cases {
+        let bytes = with_first(alloc, first, behind)?;
+        assert_eq!(rt; opened(alloc, bytes.clone()?)?, want, "{behind:?}");
+        assert_eq!(rt; opened_old(alloc, bytes)?, want_old, "{behind:?}");
+    }
+    let mut bytes = with_first(alloc, b"CQEJRNL1", &[0])?;
+    if let Some(changed) = bytes.get_mut(8) {
+        *changed = 0;
+    }
+    assert_eq!(rt; opened(alloc, bytes.clone()?)?, Err(old));
+    assert_eq!(rt; opened_old(alloc, bytes)?, Err(OpenError::OtherPolicy));
+    Ok(())
+}
+
 // Behind the header stands what each case names: a gate, and then records with their next gates.
 // The function is long by its table.
 #[test]
@@ -113,7 +190,7 @@ fn any_bytes_are_opened_or_refused(rt: HostRuntime) -> Result<(), Fail> {
         (&[1, 1, 0, 2, 120, 120, 0], Ok((1, 1))),
         (&[1, 1, 1, 0, 120, 0], Err(OpenError::Damaged(0))),
         (&[1, 0, 0, 0, 0], Err(OpenError::Damaged(0))),
-        (&[1, 5, 0, 0, 0], Err(OpenError::Damaged(0))),
+        (&[1, 5, 0, 0, 0], Ok((1, 5))),
         (&[1, 9, 0, 0, 0], Err(OpenError::Damaged(0))),
         (&[1, 255, 0, 0, 0], Err(OpenError::Damaged(0))),
         (&[1, 4, 0, 0, 1], Err(OpenError::Damaged(1))),
@@ -158,7 +235,7 @@ fn any_bytes_are_opened_or_refused(rt: HostRuntime) -> Result<(), Fail> {
 
 // Each value of the first gate, and each of the kind behind an open one.
 #[test]
-fn one_gate_is_open_and_four_kinds_are_records(rt: HostRuntime) -> Result<(), Fail> {
+fn one_gate_is_open_and_five_kinds_are_records(rt: HostRuntime) -> Result<(), Fail> {
     let alloc = rt.alloc();
     for value in 0..VALUES {
         let byte = value as u8;
@@ -166,7 +243,7 @@ fn one_gate_is_open_and_four_kinds_are_records(rt: HostRuntime) -> Result<(), Fa
         let count = if value == 1 { (1, 2) } else { (0, 0) };
         assert_eq!(rt; gate, Ok(count), "gate {value}");
         let kind = opened(alloc, with_header(alloc, &[1, byte, 0, 1, 120, 0])?)?;
-        if value >= 1 && value <= 4 {
+        if value >= 1 && value <= 5 {
             assert_eq!(rt; kind, Ok((1, byte)), "kind {value}");
         } else {
             assert_eq!(rt; kind, Err(OpenError::Damaged(0)), "kind {value}");
@@ -200,7 +277,8 @@ fn a_changed_byte_is_refused_or_read(rt: HostRuntime) -> Result<(), Fail> {
     let alloc = rt.alloc();
     let cases = [
         (0, 99, Err(OpenError::NotAJournal)),
-        (7, 50, Err(OpenError::NotAJournal)),
+        (7, 51, Err(OpenError::NotAJournal)),
+        (7, 49, Err(OpenError::OldVersion)),
         (8, 0, Err(OpenError::OtherPolicy)),
         (39, 0, Err(OpenError::OtherPolicy)),
         (40, 0, Err(OpenError::OtherPolicy)),

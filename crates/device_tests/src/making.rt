@@ -53,7 +53,7 @@ fn init(alloc: Global, shelf: &mut MemoryShelf, header: &Header) -> Result<InitE
 // The bytes of a journal with this behind its header.
 fn with_header(alloc: Global, behind: &[u8]) -> Result<Vec<u8>, AllocError> {
     let mut bytes = Vec::new(alloc);
-    bytes.extend_from_slice(b"CQEJRNL1")?;
+    bytes.extend_from_slice(b"CQEJRNL2")?;
     bytes.extend_from_slice(&[7; 32])?;
     bytes.extend_from_slice(&[9; 32])?;
     bytes.extend_from_slice(behind)?;

@@ -5,7 +5,7 @@ use Rattle.std.specs.List.{list_all, list_any, before_first, after_first}
 use Rattle.cqe_base.specs.Schema.{Text, is_schema_name}
 use Rattle.cqe_base.specs.Tokens.{is_blank}
 use Rattle.line_protocol.specs.Words.{is_printable}
-use Rattle.line_protocol.specs.Requests.{LineRequest, login_as, other_line, is_login, login_of, lone, worded, spoken, request_of}
+use Rattle.line_protocol.specs.Requests.{LineRequest, login_as, other_line, is_login, login_of, counted, list_of, lone, worded, spoken, request_of}
 use Rattle.line_protocol.proofs.Blanks.{after_none}
 
 and_false : (a : Bool) → (a && false) ≡ false
@@ -37,6 +37,22 @@ pub no_login : (text : Text) → list_any is_blank text ≡ false → other_line
 no_login text none =
     let refused : is_login (before_first is_blank text) [] ≡ false = and_false (is_schema_name (before_first is_blank text)) in
     login_fails text (before_first is_blank text) [] refl (sym (after_none is_blank text none)) refused
+
+-- what a text with a blank and one without ask to be listed
+listing : Text → Bool → LineRequest
+listing text test = if test then counted (before_first is_blank text) (after_first is_blank text) else other_line
+
+pub list_counted : (text word rest : Text) → list_any is_blank text ≡ true → word ≡ before_first is_blank text → rest ≡ after_first is_blank text
+    → counted word rest ≡ list_of text
+unfolding list_of listing
+list_counted text word rest blank front behind =
+    ap (λ (w : Text). counted w rest) front
+    ∙ ap (λ (t : Text). counted (before_first is_blank text) t) behind
+    ∙ ap (listing text) (sym blank)
+
+pub no_list : (text : Text) → list_any is_blank text ≡ false → other_line ≡ list_of text
+unfolding list_of listing
+no_list text none = ap (listing text) (sym none)
 
 -- what printable bytes and others ask for
 chosen : Text → Bool → LineRequest

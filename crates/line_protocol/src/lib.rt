@@ -19,5 +19,5 @@ pub mod words;
 pub use line_text::LineText;
 pub use lines::{LineBuffer, LineOutcome, read_line};
 pub use login::login_ok;
-pub use reply::{Reply, text_of, write_reply};
+pub use reply::{Reply, text_of, write_name, write_reply};
 pub use request::{Request, read_request};

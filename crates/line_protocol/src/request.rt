@@ -3,7 +3,7 @@ ghost use Rattle.std.specs.Prelude.{◌≡◌, true};
 ghost use Rattle.std.specs.List.{list_all};
 ghost use Rattle.line_protocol.specs.Words.{is_printable};
 ghost use Rattle.line_protocol.specs.Requests.{is_login, login_of, lone, meaning_of, request_of};
-ghost use Rattle.line_protocol.specs.Requests.{worded};
+ghost use Rattle.line_protocol.specs.Requests.{worded, list_of, counted};
 
 use crate::words::{are_printable, printable_text, split_at_blank};
 use cqe_base::declarations::is_schema_name;
@@ -16,6 +16,9 @@ pub enum Request<'a> {
     Login { user: &'a str, phrase: &'a str },
     /// `ask TEXT`, or `ask` alone, which asks the empty text.
     Ask(&'a str),
+    /// `list K TEXT`: a sentence, of which the first K quantifiers are to be opened, K being one
+    /// digit from 1 to 4. The text may be empty, but the blank before it has to stand.
+    List { count: u32, text: &'a str },
     /// `quit`.
     Quit,
     /// Any other line, also one with a byte that is neither a tab nor printable ASCII.
@@ -43,6 +46,7 @@ fn worded<'a>(word: &str, text: &'a [u8]) -> Request<'a>
     match word {
         "ask" => Request::Ask(printable_text(text)),
         "login" => login(text),
+        "list" => list(text),
         _ => Request::Other,
     }
 }
@@ -69,6 +73,31 @@ fn login(text: &[u8]) -> Request<'_>
         Request::Login { user, phrase }
     } else {
         Request::Other
+    }
+}
+
+fn list(text: &[u8]) -> Request<'_>
+    requires { list_all is_printable text.now ≡ true }
+    ensures { meaning_of result ≡ list_of text.now }
+{
+    match split_at_blank(text) {
+        Some((count, text)) => {
+            let (count, text) = (printable_text(count), printable_text(text));
+            counted(count, text)
+        }
+        None => Request::Other,
+    }
+}
+
+fn counted<'a>(count: &str, text: &'a str) -> Request<'a>
+    ensures { meaning_of result ≡ counted count.now text.now }
+{
+    match count {
+        "1" => Request::List { count: 1, text },
+        "2" => Request::List { count: 2, text },
+        "3" => Request::List { count: 3, text },
+        "4" => Request::List { count: 4, text },
+        _ => Request::Other,
     }
 }
 

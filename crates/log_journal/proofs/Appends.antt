@@ -43,13 +43,13 @@ module _ (bytes : List ℕ) (gate : ℕ) (ends : EndsAt bytes gate) where
       ∙ append_assoc (take gate bytes) (get_or bytes gate 1 ∷ []) (drop (gate + 1) c)
       ∙ ap (λ (l : List ℕ). l ++ get_or bytes gate 1 ∷ drop (gate + 1) c) before_gate)
 
-  module _ (kind : ℕ) (text : List ℕ) (low_kind : 1 ≤ kind) (high_kind : kind ≤ 4) (short : length text ≤ 4096) where
+  module _ (kind : ℕ) (text : List ℕ) (low_kind : 1 ≤ kind) (high_kind : kind ≤ 5) (short : length text ≤ 4096) where
     abbrev pub piece : List ℕ
     piece = piece_of kind text
 
-    new_front : IsFront (front ++ 1 ∷ record_bytes kind text) (records bytes ++ (kind, text) ∷ [])
-    new_front = front_append front (1 ∷ record_bytes kind text) (records bytes) ((kind, text) ∷ []) ends.front
-        (front_one kind (length text / 256) (length text % 256) text (omega arith) (omega arith) low_kind high_kind short)
+    new_front : IsFront 5 (front ++ 1 ∷ record_bytes kind text) (records bytes ++ (kind, text) ∷ [])
+    new_front = front_append 5 front (1 ∷ record_bytes kind text) (records bytes) ((kind, text) ∷ []) ends.front
+        (front_one 5 kind (length text / 256) (length text % 256) text (omega arith) (omega arith) low_kind high_kind short)
 
     shut_gate : (byte : ℕ) (rest c : List ℕ) → byte ≢ 1 → c ≡ take gate bytes ++ byte ∷ piece ++ rest → IsJournal (take 72 bytes) (records bytes) c
     shut_gate byte rest c shut is = journal_of (take 72 bytes) front (records bytes) byte (piece ++ rest) c header_size ends.front shut

@@ -11,7 +11,7 @@ use Rattle.log_journal.proofs.Fronts.{opened_skip, damaged_skip, opened_closed, 
 -- bytes are these records, a closed gate and a rest
 pub record IsSplit (all : List Recorded) (bytes : List ℕ) : Type 0 where
   pub front : List ℕ
-  pub is_front : IsFront front all
+  pub is_front : IsFront 5 front all
   pub gate : ℕ
   pub rest : List ℕ
   pub closed : gate ≢ 1
@@ -20,21 +20,21 @@ pub record IsSplit (all : List Recorded) (bytes : List ℕ) : Type 0 where
 -- what a whole record shows
 pub record IsWhole (kind high low : ℕ) (rest : List ℕ) : Type 0 where
   pub low_kind : 1 ≤ kind
-  pub high_kind : kind ≤ 4
+  pub high_kind : kind ≤ 5
   pub low_byte : low < 256
   pub short : length_of high low ≤ 4096
   pub long : length_of high low < length rest
 
-whole_shows : (kind high low : ℕ) (rest : List ℕ) → is_whole kind high low rest ≡ true → IsWhole kind high low rest
+whole_shows : (kind high low : ℕ) (rest : List ℕ) → is_whole 5 kind high low rest ≡ true → IsWhole kind high low rest
 whole_shows kind high low rest is =
-    let parts = and_parts ((nat_le 1 kind && nat_le kind 4) && nat_lt low 256) (nat_le (length_of high low) 4096
+    let parts = and_parts ((nat_le 1 kind && nat_le kind 5) && nat_lt low 256) (nat_le (length_of high low) 4096
     && nat_lt (length_of high low) (length rest)) is in
-    let front = and_parts (nat_le 1 kind && nat_le kind 4) (nat_lt low 256) parts.0 in
-    let kinds = and_parts (nat_le 1 kind) (nat_le kind 4) front.0 in
+    let front = and_parts (nat_le 1 kind && nat_le kind 5) (nat_lt low 256) parts.0 in
+    let kinds = and_parts (nat_le 1 kind) (nat_le kind 5) front.0 in
     let sizes = and_parts (nat_le (length_of high low) 4096) (nat_lt (length_of high low) (length rest)) parts.1 in
     record {
       low_kind = most 1 kind kinds.0;
-      high_kind = most kind 4 kinds.1;
+      high_kind = most kind 5 kinds.1;
       low_byte = less low 256 front.1;
       short = most (length_of high low) 4096 sizes.0;
       long = less (length_of high low) (length rest) sizes.1;
@@ -50,7 +50,7 @@ whole_shows kind high low rest is =
 closes : (gate : ℕ) (rest : List ℕ) → gate ≢ 1 → IsSplit (opened 0 (gate ∷ rest)) (gate ∷ rest)
 closes gate rest shut = subst (λ (l : List Recorded). IsSplit l (gate ∷ rest)) (sym (opened_closed gate rest shut)) (record {
   front = [];
-  is_front = front_none;
+  is_front = front_none 5;
   gate = gate;
   rest = rest;
   closed = shut;
@@ -79,8 +79,8 @@ module _ (kind high low : ℕ) (rest : List ℕ) where
       ap (λ (l : List ℕ). opened size l) parts_of ∙ opened_skip size text (drop size rest) (text_size whole.long) in
       subst (λ (l : List Recorded). IsSplit ((kind, text) ∷ l) (1 ∷ kind ∷ high ∷ low ∷ rest)) (sym behind) (record {
         front = (1 ∷ kind ∷ high ∷ low ∷ text) ++ split.front;
-        is_front = front_append (1 ∷ kind ∷ high ∷ low ∷ text) split.front ((kind, text) ∷ []) (opened 0 (drop size rest))
-            (front_one kind high low text (text_size whole.long) whole.low_byte whole.low_kind whole.high_kind
+        is_front = front_append 5 (1 ∷ kind ∷ high ∷ low ∷ text) split.front ((kind, text) ∷ []) (opened 0 (drop size rest))
+            (front_one 5 kind high low text (text_size whole.long) whole.low_byte whole.low_kind whole.high_kind
             (omega (arith, text_size whole.long, whole.short))) split.is_front;
         gate = split.gate;
         rest = split.rest;
@@ -91,18 +91,18 @@ module _ (kind high low : ℕ) (rest : List ℕ) where
 
   -- at a gate
   gate_split : (gate number : ℕ)
-      → (IsWhole kind high low rest → damaged (number + 1) 0 (drop size rest) ≡ None → IsSplit (opened 0 (drop size rest)) (drop size rest))
-      → damaged number 0 (gate ∷ kind ∷ high ∷ low ∷ rest) ≡ None → IsSplit (opened 0 (gate ∷ kind ∷ high ∷ low ∷ rest)) (gate ∷ kind ∷ high ∷ low ∷ rest)
+      → (IsWhole kind high low rest → damaged 5 (number + 1) 0 (drop size rest) ≡ None → IsSplit (opened 0 (drop size rest)) (drop size rest))
+      → damaged 5 number 0 (gate ∷ kind ∷ high ∷ low ∷ rest) ≡ None → IsSplit (opened 0 (gate ∷ kind ∷ high ∷ low ∷ rest)) (gate ∷ kind ∷ high ∷ low ∷ rest)
   gate_split gate number further none = by_gate (gate == 1) refl
     where
-      by_whole : gate ≡ 1 → (t : Bool) → is_whole kind high low rest ≡ t → (if t then damaged (number + 1) size rest else Some number) ≡ None
+      by_whole : gate ≡ 1 → (t : Bool) → is_whole 5 kind high low rest ≡ t → (if t then damaged 5 (number + 1) size rest else Some number) ≡ None
           → IsSplit ((kind, take size rest) ∷ opened size rest) (gate ∷ kind ∷ high ∷ low ∷ rest)
       by_whole one false is none = absurd cc
       by_whole one true is none =
           let whole = whole_shows kind high low rest is in
-          let rest_none : damaged (number + 1) 0 (drop size rest) ≡ None =
-          sym (damaged_skip (number + 1) size (take size rest) (drop size rest) (text_size whole.long))
-          ∙ ap (λ (l : List ℕ). damaged (number + 1) size l) (sym parts_of) ∙ none in
+          let rest_none : damaged 5 (number + 1) 0 (drop size rest) ≡ None =
+          sym (damaged_skip 5 (number + 1) size (take size rest) (drop size rest) (text_size whole.long))
+          ∙ ap (λ (l : List ℕ). damaged 5 (number + 1) size l) (sym parts_of) ∙ none in
           subst (λ g. IsSplit ((kind, take size rest) ∷ opened size rest) (g ∷ kind ∷ high ∷ low ∷ rest)) (sym one) (next_split whole (further whole rest_none))
 
       by_gate : (t : Bool) → (gate == 1) ≡ t → IsSplit (opened 0 (gate ∷ kind ∷ high ∷ low ∷ rest)) (gate ∷ kind ∷ high ∷ low ∷ rest)
@@ -115,11 +115,11 @@ module _ (kind high low : ℕ) (rest : List ℕ) where
           let opens : opened 0 (gate ∷ kind ∷ high ∷ low ∷ rest) ≡ (kind, take size rest) ∷ opened size rest =
           ap (λ (b : Bool). if b then (kind, take size rest) ∷ opened size rest else []) is in
           let left =
-          sym (ap (λ (b : Bool). if b then (if is_whole kind high low rest then damaged (number + 1) size rest else Some number) else None) is) ∙ none in
-          subst (λ (l : List Recorded). IsSplit l (gate ∷ kind ∷ high ∷ low ∷ rest)) (sym opens) (by_whole one (is_whole kind high low rest) refl left)
+          sym (ap (λ (b : Bool). if b then (if is_whole 5 kind high low rest then damaged 5 (number + 1) size rest else Some number) else None) is) ∙ none in
+          subst (λ (l : List Recorded). IsSplit l (gate ∷ kind ∷ high ∷ low ∷ rest)) (sym opens) (by_whole one (is_whole 5 kind high low rest) refl left)
 
 -- from a gate on
-split_at : (fuel number : ℕ) (bytes : List ℕ) → length bytes < fuel → 0 < length bytes → damaged number 0 bytes ≡ None → IsSplit (opened 0 bytes) bytes
+split_at : (fuel number : ℕ) (bytes : List ℕ) → length bytes < fuel → 0 < length bytes → damaged 5 number 0 bytes ≡ None → IsSplit (opened 0 bytes) bytes
 split_at zero number bytes few more none = absurd (omega (arith, few))
 split_at (suc fuel) number [] few more none = absurd (omega (arith, more))
 split_at (suc fuel) number (gate ∷ []) few more none = closes gate [] (not_open gate number none)
@@ -136,7 +136,7 @@ unwalked header all bytes walk =
     let split = split_at (length bytes + 1) 0 (drop 72 bytes) (omega (arith, length-drop 72 bytes, walk.long))
     (omega (arith, length-drop 72 bytes, walk.long)) walk.whole in
     journal_of header split.front all split.gate split.rest bytes (omega (arith, ap length walk.begins, length-take 72 bytes, walk.long))
-    (subst (λ (l : List Recorded). IsFront split.front l) walk.are split.is_front) split.closed
+    (subst (λ (l : List Recorded). IsFront 5 split.front l) walk.are split.is_front) split.closed
     (sym (take-append-drop 72 bytes) ∙ (λ i. walk.begins i ++ split.is i) ∙ sym (append_assoc header split.front (split.gate ∷ split.rest)))
 
 pub journals_are_walked : JournalsAreWalked

@@ -5,16 +5,16 @@ use Rattle.std.specs.List.{list_all}
 use Rattle.log_journal.specs.Records.{Recorded, record_bytes, is_record, written}
 use Rattle.log_journal.specs.Walk.{records}
 
--- These bytes are these records, each behind its open gate.
-pub record IsFront (front : List ℕ) (all : List Recorded) : Type 0 where
+-- These bytes are these records of so many kinds, each behind its open gate.
+pub record IsFront (kinds : ℕ) (front : List ℕ) (all : List Recorded) : Type 0 where
   pub is : front ≡ written all
-  pub each : list_all is_record all ≡ true
+  pub each : list_all (is_record kinds) all ≡ true
 
 -- The closed gate behind the header and whole records is at this place.
 pub record EndsAt (bytes : List ℕ) (gate : ℕ) : Type 0 where
   pub behind : 72 ≤ gate
   pub within : gate < length bytes
-  pub front : IsFront (drop 72 (take gate bytes)) (records bytes)
+  pub front : IsFront 5 (drop 72 (take gate bytes)) (records bytes)
   pub closed : get_or bytes gate 1 ≢ 1
   pub fits : length bytes < 2 ^ 64
 

@@ -31,7 +31,7 @@ IsJournal-prop header all bytes one other =
     let rests : one.rest ≡ other.rest = ap (λ (l : List ℕ). drop 1 l) left in
     λ i. record {
       size = same_number (length header) 72 one.size other.size i;
-      each = same_test (list_all is_record all) true one.each other.each i;
+      each = same_test (list_all (is_record 5) all) true one.each other.each i;
       gate = gates i;
       rest = rests i;
       closed = is_prop→PathP (λ j. gates j ≢ 1) (λ j. other_number (gates j) 1) one.closed

@@ -11,20 +11,20 @@ Recorded = ℕ × List ℕ
 abbrev pub record_bytes : ℕ → List ℕ → List ℕ
 record_bytes kind text = kind ∷ length text / 256 ∷ length text % 256 ∷ text
 
--- its kind is from 1 to 4, and its text has at most 4,096 bytes
-abbrev pub is_record : Recorded → Bool
-is_record one = (nat_le 1 one.0 && nat_le one.0 4) && nat_le (length one.1) 4096
+-- its kind is one of so many, numbered from 1, and its text has at most 4,096 bytes
+abbrev pub is_record : ℕ → Recorded → Bool
+is_record kinds one = (nat_le 1 one.0 && nat_le one.0 kinds) && nat_le (length one.1) 4096
 
 -- records one behind the other, each behind an open gate, a byte 1
 abbrev pub written : List Recorded → List ℕ
 written [] = []
 written (one ∷ more) = 1 ∷ record_bytes one.0 one.1 ++ written more
 
--- The bytes are a journal with this header of 72 bytes and these records: the header, the records,
--- the closed gate, which is any byte but 1, and any rest, which says nothing.
+-- The bytes are a journal with this header of 72 bytes and these records of five kinds: the header,
+-- the records, the closed gate, which is any byte but 1, and any rest, which says nothing.
 pub record IsJournal (header : List ℕ) (all : List Recorded) (bytes : List ℕ) : Type 0 where
   pub size : length header ≡ 72
-  pub each : list_all is_record all ≡ true
+  pub each : list_all (is_record 5) all ≡ true
   pub gate : ℕ
   pub rest : List ℕ
   pub closed : gate ≢ 1

@@ -21,29 +21,30 @@ opened skipped rest = []
 abbrev pub records : List ℕ → List Recorded
 records bytes = opened 0 (drop 72 bytes)
 
--- a kind from 1 to 4 and a length of at most 4,096, whose lower byte is a byte, and the text lies
+-- one of so many kinds and a length of at most 4,096, whose lower byte is a byte, and the text lies
 -- there with the next gate
-abbrev pub is_whole : ℕ → ℕ → ℕ → List ℕ → Bool
-is_whole kind high low rest =
-    ((nat_le 1 kind && nat_le kind 4) && nat_lt low 256)
+abbrev pub is_whole : ℕ → ℕ → ℕ → ℕ → List ℕ → Bool
+is_whole kinds kind high low rest =
+    ((nat_le 1 kind && nat_le kind kinds) && nat_lt low 256)
     && (nat_le (length_of high low) 4096 && nat_lt (length_of high low) (length rest))
 
--- the number of the first opened record that isn't whole, the next record having this number
-abbrev pub damaged : ℕ → ℕ → List ℕ → Option ℕ
-damaged number (suc n) (byte ∷ rest) = damaged number n rest
-damaged number zero (gate ∷ kind ∷ high ∷ low ∷ rest) =
+-- the number of the first opened record that isn't whole, where records are of so many kinds and
+-- the next has this number
+abbrev pub damaged : ℕ → ℕ → ℕ → List ℕ → Option ℕ
+damaged kinds number (suc n) (byte ∷ rest) = damaged kinds number n rest
+damaged kinds number zero (gate ∷ kind ∷ high ∷ low ∷ rest) =
     if gate == 1 then
-    (if is_whole kind high low rest then damaged (number + 1) (length_of high low) rest
+    (if is_whole kinds kind high low rest then damaged kinds (number + 1) (length_of high low) rest
     else Some number)
     else None
-damaged number zero (gate ∷ rest) = if gate == 1 then Some number else None
-damaged number skipped rest = None
+damaged kinds number zero (gate ∷ rest) = if gate == 1 then Some number else None
+damaged kinds number skipped rest = None
 
--- the walk finds this header, no damage, and these records
+-- the walk finds this header, no damage, and these records of five kinds
 pub record IsWalked (header : List ℕ) (all : List Recorded) (bytes : List ℕ) : Type 0 where
   pub long : 73 ≤ length bytes
   pub begins : take 72 bytes ≡ header
-  pub whole : damaged 0 0 (drop 72 bytes) ≡ None
+  pub whole : damaged 5 0 0 (drop 72 bytes) ≡ None
   pub are : records bytes ≡ all
 
 -- bytes are a journal exactly where the walk finds its header, no damage, and its records

@@ -66,7 +66,7 @@ impl<D: Disk> Journal<D> {
     pub fn append(&mut self, kind: u8, text: &[u8]) -> Result<(), AppendError>
         requires reserved { HasRoom self.old (length text.now) }
         requires low { 1 ≤ kind }
-        requires high { kind ≤ 4 }
+        requires high { kind ≤ 5 }
         requires short { length text.now ≤ 4096 }
 
         // After Ok the disk, and each image, has this record behind the records before it.
@@ -132,7 +132,7 @@ fn put_record<D: Disk>(
 ) -> Result<(), Failed>
     requires size { length text.now + 4 ≤ length room.old.items }
     requires low { 1 ≤ kind }
-    requires high { kind ≤ 4 }
+    requires high { kind ≤ 5 }
     requires short { length text.now ≤ 4096 }
     requires ends { D.tells → EndsAt (D.reads disk.old) gate }
     requires durable { Only (D.reads disk.old) (D.image disk.old) }

@@ -32,6 +32,10 @@ pub fn words_text(alloc: Global, line: &str) -> Result<String, AllocError> {
             let (workers, sessions) = (serve.workers, serve.sessions);
             format!(in alloc; "{front} <{}> {workers} {sessions}", serve.listen)
         }
+        Some(Command::Migrate(migrate)) => {
+            let front = files_text(alloc, "migrate", &migrate.files)?;
+            format!(in alloc; "{front} <{}>", migrate.to)
+        }
         None => String::from_str(alloc, "none"),
     }
 }
@@ -47,6 +51,7 @@ pub fn request_text(alloc: Global, line: &str) -> Result<String, AllocError> {
     match read_request(line.as_bytes()) {
         Request::Login { user, phrase } => format!(in alloc; "login <{user}> <{phrase}>"),
         Request::Ask(text) => format!(in alloc; "ask <{text}>"),
+        Request::List { count, text } => format!(in alloc; "list {count} <{text}>"),
         Request::Quit => String::from_str(alloc, "quit"),
         Request::Other => String::from_str(alloc, "other"),
     }

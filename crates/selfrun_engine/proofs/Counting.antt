@@ -7,10 +7,11 @@ use Rattle.std.proofs.Math.Nat.{mod-lt}
 use Rattle.std.proofs.lemmas.Bool.{and_parts, not-true}
 use Rattle.std.proofs.lemmas.List.Folds.{list_all-append}
 use Rattle.std.proofs.lemmas.List.Sums.{fold-append}
-use Rattle.cqe_base.specs.declared.user.Mark.TheVariants.{Yes, No, Refused, Undecided}
+use Rattle.cqe_base.specs.declared.user.Mark.TheVariants.{Yes, No, Refused, Undecided, Protected}
 use Rattle.cqe_base.specs.Schema.{Text}
 use Rattle.cqe_base.specs.Run.{Reply, marked, no_sentence, history_full, too_large, user_closed, desk_sealed, desk_broken, no_memory}
-use Rattle.cqe_base.specs.Transcript.{Line, reply_line, restart_line, line_text, reply_text}
+use Rattle.cqe_base.specs.Run.{secrets_full, unsafe_secret, is_answer}
+use Rattle.cqe_base.specs.Transcript.{Caller, by_session, by_operator, caller_text, Line, reply_line, restart_line, line_text, reply_text}
 use Rattle.batch_engine.specs.Batch.{line_bytes}
 use Rattle.selfrun_engine.specs.Counting.{no_reply, with_first, after_byte, tally_in}
 use Rattle.selfrun_engine.specs.Tallies.{with_reply, with_line, tally_of}
@@ -26,9 +27,10 @@ is_inside b = not (b == 10) && not (b == 32)
 abbrev is_other : ℕ → Bool
 is_other b = not (b == 10)
 
--- a line's name is one word
+-- a line's name is one word, and its reply is one to a text that is asked
 abbrev pub IsPlain : Line → Type 0
-IsPlain (reply_line name session told) = list_all is_inside name ≡ true
+IsPlain (reply_line name caller (Some told)) = (list_all is_inside name ≡ true) × (is_answer told ≡ true)
+IsPlain (reply_line name caller None) = list_all is_inside name ≡ true
 IsPlain restart_line = Unit {0}
 
 -- ---- digits
@@ -53,6 +55,10 @@ digits_inside (suc k) n behind all =
 pub decimal_inside : (n : ℕ) → list_all is_inside (decimal n) ≡ true
 unfolding digits
 decimal_inside n = digits_inside 64 n [] refl
+
+caller_inside : (caller : Caller) → list_all is_inside (caller_text caller) ≡ true
+caller_inside (by_session number) = decimal_inside number
+caller_inside by_operator = refl
 
 all_other : (bytes : List ℕ) → list_all is_inside bytes ≡ true → list_all is_other bytes ≡ true
 all_other [] all = refl
@@ -102,43 +108,47 @@ behind_reply tally (b ∷ bytes) all =
 -- ---- a line
 
 -- from the first byte of its reply on
-reply_counted : (tally : Tally) (told : Reply) → fold after_byte (at 2 tally) (reply_text told ++ 10 ∷ []) ≡ at 0 (with_reply tally (Some told))
-reply_counted tally (marked Yes) = refl
-reply_counted tally (marked No) = refl
-reply_counted tally (marked Refused) = refl
-reply_counted tally (marked Undecided) = refl
-reply_counted tally (no_sentence kind place) =
+reply_counted : (tally : Tally) (told : Reply) → is_answer told ≡ true
+    → fold after_byte (at 2 tally) (reply_text told ++ 10 ∷ []) ≡ at 0 (with_reply tally (Some told))
+reply_counted tally (marked Yes) asked = refl
+reply_counted tally (marked No) asked = refl
+reply_counted tally (marked Refused) asked = refl
+reply_counted tally (marked Undecided) asked = refl
+reply_counted tally (no_sentence kind place) asked =
     behind_reply (with_first tally 101) (codes "rror 20 " ++ decimal kind ++ codes " " ++ decimal place)
     (list_all-append is_other (decimal kind ++ codes " ") (decimal place)
     ∙ (λ i. (list_all-append is_other (decimal kind) (codes " ") ∙ (λ j. decimal_other kind j && true)) i && decimal_other place i))
-reply_counted tally history_full = refl
-reply_counted tally too_large = refl
-reply_counted tally user_closed = refl
-reply_counted tally desk_sealed = refl
-reply_counted tally desk_broken = refl
-reply_counted tally no_memory = refl
+reply_counted tally history_full asked = refl
+reply_counted tally too_large asked = refl
+reply_counted tally user_closed asked = refl
+reply_counted tally desk_sealed asked = refl
+reply_counted tally desk_broken asked = refl
+reply_counted tally no_memory asked = refl
+reply_counted tally secrets_full asked = absurd cc
+reply_counted tally unsafe_secret asked = absurd cc
+reply_counted tally (marked Protected) asked = absurd cc
 
--- a name, a session, and what stands behind them
-words_counted : (tally : Tally) (name : Text) (session : ℕ) (rest : List ℕ) → list_all is_inside name ≡ true
-    → fold after_byte (at 0 tally) (name ++ codes " " ++ decimal session ++ codes " " ++ rest) ≡ fold after_byte (at 2 tally) rest
-words_counted tally name session rest plain =
-    fold-append after_byte (at 0 tally) (name ++ codes " " ++ decimal session ++ codes " ") rest
+-- a name, a caller, and what stands behind them
+words_counted : (tally : Tally) (name : Text) (caller : Caller) (rest : List ℕ) → list_all is_inside name ≡ true
+    → fold after_byte (at 0 tally) (name ++ codes " " ++ caller_text caller ++ codes " " ++ rest) ≡ fold after_byte (at 2 tally) rest
+words_counted tally name caller rest plain =
+    fold-append after_byte (at 0 tally) (name ++ codes " " ++ caller_text caller ++ codes " ") rest
     ∙ ap (λ c. fold after_byte c rest) (
-    fold-append after_byte (at 0 tally) (name ++ codes " " ++ decimal session) (codes " ")
+    fold-append after_byte (at 0 tally) (name ++ codes " " ++ caller_text caller) (codes " ")
     ∙ ap (λ c. fold after_byte c (codes " ")) (
-    fold-append after_byte (at 0 tally) (name ++ codes " ") (decimal session)
-    ∙ ap (λ c. fold after_byte c (decimal session)) (fold-append after_byte (at 0 tally) name (codes " ")
+    fold-append after_byte (at 0 tally) (name ++ codes " ") (caller_text caller)
+    ∙ ap (λ c. fold after_byte c (caller_text caller)) (fold-append after_byte (at 0 tally) name (codes " ")
     ∙ ap (λ c. fold after_byte c (codes " ")) (inside_first tally name plain))
-    ∙ inside_second tally (decimal session) (decimal_inside session)))
+    ∙ inside_second tally (caller_text caller) (caller_inside caller)))
 
 line_counted : (tally : Tally) (line : Line) → IsPlain line → fold after_byte (at 0 tally) (line_text line ++ 10 ∷ []) ≡ at 0 (with_line tally line)
-line_counted tally (reply_line name session (Some told)) plain =
-    ap (fold after_byte (at 0 tally)) (append_assoc (name ++ codes " " ++ decimal session ++ codes " ") (reply_text told) (10 ∷ []))
-    ∙ words_counted tally name session (reply_text told ++ 10 ∷ []) plain ∙ reply_counted tally told
-line_counted tally (reply_line name session None) plain =
-    ap (fold after_byte (at 0 tally)) (append_assoc (name ++ codes " " ++ decimal session) (codes " error 23") (10 ∷ [])
-    ∙ sym (append_assoc (name ++ codes " " ++ decimal session) (codes " ") (codes "error 23\n")))
-    ∙ words_counted tally name session (codes "error 23\n") plain
+line_counted tally (reply_line name caller (Some told)) plain =
+    ap (fold after_byte (at 0 tally)) (append_assoc (name ++ codes " " ++ caller_text caller ++ codes " ") (reply_text told) (10 ∷ []))
+    ∙ words_counted tally name caller (reply_text told ++ 10 ∷ []) plain.0 ∙ reply_counted tally told plain.1
+line_counted tally (reply_line name caller None) plain =
+    ap (fold after_byte (at 0 tally)) (append_assoc (name ++ codes " " ++ caller_text caller) (codes " error 23") (10 ∷ [])
+    ∙ sym (append_assoc (name ++ codes " " ++ caller_text caller) (codes " ") (codes "error 23\n")))
+    ∙ words_counted tally name caller (codes "error 23\n") plain
 line_counted tally restart_line plain = refl
 
 lines_counted : (lines : List Line) (tally : Tally) → AllByRecursion IsPlain lines

@@ -9,9 +9,10 @@ use Rattle.cqe_base.specs.declared.text.ScriptError.{ScriptError}
 use Rattle.cqe_base.specs.Schema.{Text, DatabaseSchema}
 use Rattle.cqe_base.specs.Facts.{FactSet}
 use Rattle.cqe_base.specs.History.{UserProfile, History, AnsweredQuery}
-use Rattle.cqe_base.specs.Run.{Reply, desk_broken, Event, ask, restart, want, kept, failed, UserState, entry_at, reply_at, reply_at_failure, after_event}
+use Rattle.cqe_base.specs.Run.{Reply, desk_broken, Event, call, restart, want, kept, failed, UserState, entry_at, reply_at, reply_at_failure, after_event}
 use Rattle.cqe_base.specs.Run.{after_events, opening}
-use Rattle.cqe_base.specs.Transcript.{NamedUser, ScriptEvent, script_ask, script_stop, script_restart, script_opening, reply_line, own_event, own_events}
+use Rattle.cqe_base.specs.Transcript.{NamedUser, Caller, purpose_of, ScriptEvent, script_call, script_stop, script_restart, script_opening, reply_line}
+use Rattle.cqe_base.specs.Transcript.{own_event, own_events}
 use Rattle.cqe_base.specs.Transcript.{state_after, told_after, lines_after, transcript}
 use Rattle.cqe_base.proofs.Lists.{one_found}
 use Rattle.log_journal.specs.Walk.{records}
@@ -76,51 +77,53 @@ module _ (schema : DatabaseSchema) (world : FactSet) where
   broken_told user told (Some entry) some = refl
 
   module _ (users : List NamedUser) where
-    ask_kept : (earlier events : List ScriptEvent) (name : Text) (session : ℕ) (text : Text) (ending : _) (user : NamedUser)
+    ask_kept : (earlier events : List ScriptEvent) (name : Text) (caller : Caller) (text : Text) (ending : _) (user : NamedUser)
         → find (λ u. bytes_eq u.name name) users ≡ Some user
-        → AllByRecursion (IsCausedFrom earlier (script_ask name session text ending ∷ events)) users
-        → is_broken_line (reply_line name session (told_after schema world earlier text ending (find (λ u. bytes_eq u.name name) users))) ≡ false
-        → IsNoFailedAsk (script_ask name session text ending)
-    ask_kept earlier events name session text want user found all whole = tt
-    ask_kept earlier events name session text kept user found all whole = tt
-    ask_kept earlier events name session text failed user found all whole =
-        let one = one_found (IsCausedFrom earlier (script_ask name session text failed ∷ events)) (λ u. bytes_eq u.name name) users user all found in
+        → AllByRecursion (IsCausedFrom earlier (script_call name caller text ending ∷ events)) users
+        → is_broken_line (reply_line name caller (told_after schema world earlier (purpose_of caller) text ending (find
+        (λ u. bytes_eq u.name name) users))) ≡ false
+        → IsNoFailedAsk (script_call name caller text ending)
+    ask_kept earlier events name caller text want user found all whole = tt
+    ask_kept earlier events name caller text kept user found all whole = tt
+    ask_kept earlier events name caller text failed user found all whole =
+        let one = one_found (IsCausedFrom earlier (script_call name caller text failed ∷ events)) (λ u. bytes_eq u.name name) users user all found in
         let named : user.name ≡ name = (bytes_eq-Decides user.name name).0 one.1 in
         let own : bytes_eq name user.name ≡ true = (bytes_eq-Decides name user.name).1 (sym named) in
         let caused : AreCaused schema world user.profile (state_after schema world user earlier)
-        ((if bytes_eq name user.name then ask text failed ∷ [] else []) ++ own_events user.name events) = one.0 in
+        ((if bytes_eq name user.name then call (purpose_of caller) text failed ∷ [] else []) ++ own_events user.name events) = one.0 in
         let first = subst (λ (t : Bool).
         AreCaused schema world user.profile (state_after schema world user earlier)
-        ((if t then ask text failed ∷ [] else []) ++ own_events user.name events)) own caused in
-        let told = broken_told user.profile (reply_at schema world user.profile (state_after schema world user earlier) text)
-        (entry_at schema world user.profile (state_after schema world user earlier) text) first.0 in
-        let said : is_broken_line (reply_line name session (told_after schema world earlier text failed (Some user))) ≡ true =
-        ap (λ r. is_broken_line (reply_line name session (Some r))) told in
+        ((if t then call (purpose_of caller) text failed ∷ [] else []) ++ own_events user.name events)) own caused in
+        let told = broken_told user.profile (reply_at schema world user.profile (state_after schema world user earlier) (purpose_of caller) text)
+        (entry_at schema world user.profile (state_after schema world user earlier) (purpose_of caller) text) first.0 in
+        let said : is_broken_line (reply_line name caller (told_after schema world earlier (purpose_of caller) text failed (Some user))) ≡ true =
+        ap (λ r. is_broken_line (reply_line name caller (Some r))) told in
         let clash : true ≡ false =
-        sym said ∙ ap (λ u. is_broken_line (reply_line name session (told_after schema world earlier text failed u))) (sym found) ∙ whole in absurd cc
+        sym said ∙ ap (λ u. is_broken_line (reply_line name caller (told_after schema world earlier (purpose_of caller) text failed u))) (sym found)
+        ∙ whole in absurd cc
 
     pub kept_from : (earlier events : List ScriptEvent) (items : List BatchItem) → AreEventsOf items events → AllByRecursion (IsOfUser users) items
         → AllByRecursion (IsCausedFrom earlier events) users
         → list_any is_broken_line (lines_after schema world users earlier events) ≡ false → AllByRecursion IsNoFailedAsk events
     kept_from earlier [] items of named all whole = tt
     kept_from earlier (event ∷ events) [] of named all whole = absurd of
-    kept_from earlier (script_ask name session text ending ∷ events) (asked one ∷ items) of named all whole =
+    kept_from earlier (script_call name caller text ending ∷ events) (asked one ∷ items) of named all whole =
         let parts = or_parts _ _ whole in
         let found : find (λ u. bytes_eq u.name name) users ≡ Some named.0.0 = ap (λ n. find (λ u. bytes_eq u.name n) users) of.0.0 ∙ named.0.1 in (
-          ask_kept earlier events name session text ending named.0.0 found all parts.0,
-          kept_from (earlier ++ script_ask name session text ending ∷ []) events items of.1 named.1
-              (all_later earlier events (script_ask name session text ending) users all) parts.1,
+          ask_kept earlier events name caller text ending named.0.0 found all parts.0,
+          kept_from (earlier ++ script_call name caller text ending ∷ []) events items of.1 named.1
+              (all_later earlier events (script_call name caller text ending) users all) parts.1,
         )
     kept_from earlier (script_restart found opened ∷ events) (restarted ∷ items) of named all whole = (
       tt,
       kept_from (earlier ++ script_restart found opened ∷ []) events items of.1 named.1
           (all_later earlier events (script_restart found opened) users all) whole,
     )
-    kept_from earlier (script_stop name text ∷ events) (asked one ∷ items) of named all whole = absurd of.0
+    kept_from earlier (script_stop name purpose text ∷ events) (asked one ∷ items) of named all whole = absurd of.0
     kept_from earlier (script_restart found opened ∷ events) (asked one ∷ items) of named all whole = absurd of.0
     kept_from earlier (script_opening found opened ∷ events) (asked one ∷ items) of named all whole = absurd of.0
-    kept_from earlier (script_ask name session text ending ∷ events) (restarted ∷ items) of named all whole = absurd of.0
-    kept_from earlier (script_stop name text ∷ events) (restarted ∷ items) of named all whole = absurd of.0
+    kept_from earlier (script_call name caller text ending ∷ events) (restarted ∷ items) of named all whole = absurd of.0
+    kept_from earlier (script_stop name purpose text ∷ events) (restarted ∷ items) of named all whole = absurd of.0
     kept_from earlier (script_opening found opened ∷ events) (restarted ∷ items) of named all whole = absurd of.0
 
 -- ---- openings

@@ -9,10 +9,15 @@ use Rattle.std.proofs.lemmas.Slice.Eq.{bytes_eq-Decides}
 use Rattle.std.proofs.lemmas.List.Folds.{flat_map-map}
 use Rattle.outside.specs.Shelf.{bytes_on}
 use Rattle.outside.specs.declared.disk.Disk.{Ghosts as DiskGhosts}
+use Rattle.cqe_base.specs.declared.user.Purpose.TheVariants.{Asking}
 use Rattle.cqe_base.specs.Schema.{Text, DatabaseSchema, has_duplicate}
 use Rattle.cqe_base.specs.Facts.{FactSet}
-use Rattle.cqe_base.specs.Transcript.{NamedUser, ScriptEvent, script_ask, script_stop, script_restart, script_opening, lines_after, transcript}
+use Rattle.cqe_base.specs.History.{UserProfile, AnsweredQuery}
+use Rattle.cqe_base.specs.Run.{is_answer, Ending, want, kept, failed, UserState, reply_at, entry_at, reply_at_failure, reply_to_call}
+use Rattle.cqe_base.specs.Transcript.{NamedUser, Caller, purpose_of, ScriptEvent, script_call, script_stop, script_restart, script_opening, reply_line}
+use Rattle.cqe_base.specs.Transcript.{state_after, told_after, lines_after, transcript}
 use Rattle.cqe_base.specs.declared.user.User.{User}
+use Rattle.cqe_base.proofs.Runs.{asks_are_answered}
 use Rattle.log_journal.specs.Walk.{records}
 use Rattle.log_journal.proofs.Walks.{journals_are_walked}
 use Rattle.log_journal.specs.Names.{journal_name}
@@ -51,7 +56,7 @@ batch_names_are (user ∷ users) = ap (λ names. string_bytes user.name ∷ name
 
 -- they differ
 pub names_differ : (policy : Policy) → IsKeptPolicy (policy_value_of policy) → has_duplicate (user_names policy.users.items) ≡ false
-names_differ policy kept = ap has_duplicate (names_are policy.users.items) ∙ kept.differ
+names_differ policy is = ap has_duplicate (names_are policy.users.items) ∙ is.differ
 
 -- ---- journals that were made
 
@@ -106,29 +111,53 @@ of_users seed users some [] = tt
 of_users seed users some (t ∷ numbers) =
     (has_user seed (t % users) 0 users (omega arith) (let less = mod-lt t {m = users} some in omega (arith, less)), of_users seed users some numbers)
 
--- the name of an ask is one word
+-- an ask is a session's, and its name is one word
 abbrev IsPlainItem : BatchItem → Type 0
-IsPlainItem (asked ask) = list_all is_inside ask.name ≡ true
+IsPlainItem (asked ask) = (list_all is_inside ask.name ≡ true) × (purpose_of ask.caller ≡ Asking)
 IsPlainItem restarted = Unit {0}
 
 plain_asks : (seed users : ℕ) (numbers : List ℕ) → AllByRecursion IsPlainItem (map (workload_ask seed users) numbers)
 plain_asks seed users [] = tt
-plain_asks seed users (t ∷ numbers) = (decimal_inside (t % users), plain_asks seed users numbers)
+plain_asks seed users (t ∷ numbers) = ((decimal_inside (t % users), refl), plain_asks seed users numbers)
+
+-- what a session is told is the answer to an ask
+answer_told : (schema : DatabaseSchema) (world : FactSet) (user : UserProfile) (state : UserState) (text : Text) (ending : Ending)
+    → is_answer (reply_to_call schema world user state Asking text ending) ≡ true
+answer_told schema world user state text want = refl
+answer_told schema world user state text kept = asks_are_answered schema world user state.entries state.standing state.broken text
+answer_told schema world user state text failed = by (entry_at schema world user state Asking text)
+  where
+    by : (added : Option AnsweredQuery) → is_answer (reply_at_failure schema world user (reply_at schema world user state Asking text) added) ≡ true
+    by None = asks_are_answered schema world user state.entries state.standing state.broken text
+    by (Some item) = refl
+
+plain_told : (schema : DatabaseSchema) (world : FactSet) (name : Text) (caller : Caller) (earlier : List ScriptEvent) (text : Text) (ending : Ending)
+    (asker : Option NamedUser) → list_all is_inside name ≡ true → purpose_of caller ≡ Asking
+    → IsPlain (reply_line name caller (told_after schema world earlier (purpose_of caller) text ending asker))
+plain_told schema world name caller earlier text ending None plain asks = plain
+plain_told schema world name caller earlier text ending (Some user) plain asks = (
+  plain,
+  ap (λ p. is_answer (reply_to_call schema world user.profile (state_after schema world user earlier) p text ending)) asks
+      ∙ answer_told schema world user.profile (state_after schema world user earlier) text ending,
+)
 
 plain_lines : (schema : DatabaseSchema) (world : FactSet) (users : List NamedUser) (earlier events : List ScriptEvent) (items : List BatchItem)
     → AreEventsOf items events → AllByRecursion IsPlainItem items
     → AllByRecursion IsPlain (lines_after schema world users earlier events)
 plain_lines schema world users earlier [] items of plain = tt
 plain_lines schema world users earlier (event ∷ events) [] of plain = absurd of
-plain_lines schema world users earlier (script_ask name session text ending ∷ events) (asked one ∷ items) of plain =
-    (ap (list_all is_inside) of.0.0 ∙ plain.0, plain_lines schema world users (earlier ++ script_ask name session text ending ∷ []) events items of.1 plain.1)
+plain_lines schema world users earlier (script_call name caller text ending ∷ events) (asked one ∷ items) of plain = (
+  plain_told schema world name caller earlier text ending (find (λ u. bytes_eq u.name name) users) (ap (list_all is_inside) of.0.0 ∙ plain.0.0)
+      (ap purpose_of of.0.1 ∙ plain.0.1),
+  plain_lines schema world users (earlier ++ script_call name caller text ending ∷ []) events items of.1 plain.1,
+)
 plain_lines schema world users earlier (script_restart found opened ∷ events) (restarted ∷ items) of plain =
     (tt, plain_lines schema world users (earlier ++ script_restart found opened ∷ []) events items of.1 plain.1)
-plain_lines schema world users earlier (script_stop name text ∷ events) (asked one ∷ items) of plain = absurd of.0
+plain_lines schema world users earlier (script_stop name purpose text ∷ events) (asked one ∷ items) of plain = absurd of.0
 plain_lines schema world users earlier (script_restart found opened ∷ events) (asked one ∷ items) of plain = absurd of.0
 plain_lines schema world users earlier (script_opening found opened ∷ events) (asked one ∷ items) of plain = absurd of.0
-plain_lines schema world users earlier (script_ask name session text ending ∷ events) (restarted ∷ items) of plain = absurd of.0
-plain_lines schema world users earlier (script_stop name text ∷ events) (restarted ∷ items) of plain = absurd of.0
+plain_lines schema world users earlier (script_call name caller text ending ∷ events) (restarted ∷ items) of plain = absurd of.0
+plain_lines schema world users earlier (script_stop name purpose text ∷ events) (restarted ∷ items) of plain = absurd of.0
 plain_lines schema world users earlier (script_opening found opened ∷ events) (restarted ∷ items) of plain = absurd of.0
 
 -- ---- the tally

@@ -4,17 +4,17 @@ use Rattle.std.specs.List.{AllByRecursion}
 use Rattle.cqe_base.specs.Schema.{Text, DatabaseSchema}
 use Rattle.cqe_base.specs.Facts.{FactSet}
 use Rattle.cqe_base.specs.Run.{want, kept, failed}
-use Rattle.cqe_base.specs.Transcript.{NamedUser, ScriptEvent, script_ask, script_stop}
+use Rattle.cqe_base.specs.Transcript.{NamedUser, ScriptEvent, script_call, script_stop}
 use Rattle.cqe_base.specs.Transcript.{script_restart, script_opening, transcript}
 use Rattle.batch_engine.specs.BatchLines.{BatchItem, asked, restarted}
 use Rattle.batch_engine.specs.Batch.{AreEventsOf, line_bytes, with_opening}
 
--- an ask whose entry was kept, or for which memory was wanting; no append failed
+-- a call whose item was kept, or for which memory was wanting; no append failed
 abbrev pub IsNoFailedAsk : ScriptEvent → Type 0
-IsNoFailedAsk (script_ask name session text want) = Unit {0}
-IsNoFailedAsk (script_ask name session text kept) = Unit {0}
-IsNoFailedAsk (script_ask name session text failed) = ⊥
-IsNoFailedAsk (script_stop name text) = Unit {0}
+IsNoFailedAsk (script_call name caller text want) = Unit {0}
+IsNoFailedAsk (script_call name caller text kept) = Unit {0}
+IsNoFailedAsk (script_call name caller text failed) = ⊥
+IsNoFailedAsk (script_stop name purpose text) = Unit {0}
 IsNoFailedAsk (script_restart found opened) = Unit {0}
 IsNoFailedAsk (script_opening found opened) = Unit {0}
 

@@ -18,7 +18,7 @@ with_reply tally told = record tally { errors = tally.errors + 1 }
 
 -- the reply of one line more
 abbrev pub with_line : Tally → Line → Tally
-with_line tally (reply_line name session told) = with_reply tally told
+with_line tally (reply_line name caller told) = with_reply tally told
 with_line tally restart_line = tally
 
 -- how often each mark stands in lines, and every other reply

@@ -9,7 +9,7 @@
 //! Grammar, reading and table are definitions of cqe_base: its specs Tokens, Grammar, Reading,
 //! Refusals and Canonical.
 //!
-//! `stated_fact` gives the fact that a text states.
+//! `stated_fact` gives the fact that a text states, and `constant_name` the name of a constant.
 //!
 //! Read `lexer` first, then `reader`, which sees one token ahead, `parser`, a method for each line
 //! of the grammar, `printer` and `fact`.
@@ -29,6 +29,7 @@ mod token;
 pub use error::ReadError;
 pub use fact::stated_fact;
 pub use lexer::{TokenIter, symbol_of, tokens};
+pub use names::constant_name;
 pub use parser::read_sentence;
 pub use printer::print_sentence;
 pub use token::Token;

@@ -65,10 +65,12 @@ module _ (schema : DatabaseSchema) (world : FactSet) where
     lines = served.lines;
     asks = served.asks;
     texts = served.texts;
+    to_end = served.to_end;
     talks = served.talks;
     replied = to_later marks.who served.asks marks.entries marks.in_flight before after all served.replied;
     heard = served.heard;
     all_heard = served.all_heard;
     wrote = served.wrote;
     all_written = served.all_written;
+    whole = served.whole;
   }

@@ -15,18 +15,19 @@ use Rattle.outside.specs.Visits.{Visit, one_if_any}
 use Rattle.outside.specs.declared.links.Door.{Ghosts as DoorGhosts}
 use Rattle.cqe_base.specs.Schema.{Text, DatabaseSchema, is_valid_schema}
 use Rattle.cqe_base.specs.Facts.{FactSet}
-use Rattle.cqe_base.specs.History.{UserProfile, AnsweredQuery, History, is_user_of, profile_of}
+use Rattle.cqe_base.specs.History.{UserProfile, AnsweredQuery, History, is_user_of, is_history_of, profile_of}
 use Rattle.cqe_base.specs.Censor.{IsLegal, admitted}
 use Rattle.cqe_base.specs.Hiding.{LegalHistoriesHide}
 use Rattle.cqe_base.specs.Limits.{KeepsLimits}
 use Rattle.cqe_base.specs.declared.user.User.{User}
+use Rattle.cqe_base.proofs.Limits.{sizes_are_of_schema}
 use Rattle.log_journal.specs.Names.{journal_name}
 use Rattle.log_journal.specs.declared.header.OpenError.TheVariants as journal_error
 use Rattle.user_desk.specs.Causes.{IsStanding, IsSealedBy, OpensWithin}
 use Rattle.user_desk.specs.Lives.{Holds}
 use Rattle.user_desk.specs.Standings.{is_open, is_sealed}
 use Rattle.user_desk.specs.declared.standing.DeskError.{DeskError}
-use Rattle.user_desk.specs.declared.standing.DeskError.TheVariants.{Journal, Stale, Unlawful, Size, NotAdmitted}
+use Rattle.user_desk.specs.declared.standing.DeskError.TheVariants.{Journal, Stale, Unlawful, Size, NotAdmitted, Unsafe}
 use Rattle.user_desk.specs.declared.standing.Standing.{Standing}
 use Rattle.user_desk.specs.declared.standing.Standing.TheVariants.{Open, Closed, Sealed}
 use Rattle.desk_counter.specs.declared.item.Fixed.{Fixed}
@@ -67,9 +68,11 @@ module _ (schema : DatabaseSchema) (world : FactSet) (user : UserProfile) (heade
   sealed_wide first before now last a b (Journal journal_error.NotAJournal) is = λ u. is t
   sealed_wide first before now last a b (Journal journal_error.OtherPolicy) is = λ u. is t
   sealed_wide first before now last a b (Journal (journal_error.Damaged number)) is = λ u. is t
+  sealed_wide first before now last a b (Journal journal_error.OldVersion) is = λ u. is t
   sealed_wide first before now last a b (Stale number) is = λ u. is t
   sealed_wide first before now last a b (Unlawful number stored computed) is = λ u. is t
   sealed_wide first before now last a b (Size number) is = λ u. is t
+  sealed_wide first before now last a b (Unsafe number) is = λ u. is t
   sealed_wide first before now last a b (NotAdmitted admission) is = λ u. is t
 
   standing_wide : (entries : History) (first before now last : ℕ) → first ≤ before → now ≤ last → (standing : Standing)
@@ -220,7 +223,9 @@ module _ (schema : DatabaseSchema) (world : FactSet) (header directory : List �
           legal = legal;
           hides = λ admits.
               hide schema world (seat_kept new).user (seat_history new) valid
-              (subst (λ (p : UserProfile). is_user_of schema p ≡ true) (sym user_is) limits.sentences) admits legal;
+              (subst (λ (p : UserProfile). is_user_of schema p ≡ true) (sym user_is) limits.sentences)
+              (ap (λ d. is_history_of d (seat_history new)) (sym schema_is)
+              ∙ sizes_are_of_schema (seat_kept new).schema (seat_kept new).user (seat_history new) closed.sizes) admits legal;
           reads = λ served.
               subst (λ o. Holds schema world (seat_kept new).user header (seat_state new) (bytes_on Disk.reads o)) (sym held)
               (holds served (Disk.reads back.now) (left.images (Disk.reads back.now) (read_is_image back.now t)));
@@ -523,6 +528,8 @@ module _ {D : Type 0} {g h : _} (told : Type 0) (Disk : DiskGhosts D) (schema : 
           legal = subst (λ s. IsLegal s kept.world kept.user (seat_history seat)) (sym served.schema_is)
               (subst (λ w. IsLegal schema w kept.user (seat_history seat)) (sym served.world_is)
               (subst (λ p. IsLegal schema world p (seat_history seat)) (sym served.user_is) is.opened.legal));
+          sentences = ap (λ s. is_history_of s (seat_history seat)) served.schema_is
+              ∙ sizes_are_of_schema schema (profile_of (seat_user seat)) (seat_history seat) is.opened.sizes;
           last = last_none (seen (seat_pass seat)) is.opened.fresh.none;
         }
 

@@ -35,7 +35,7 @@ least_falls a b m n first second =
     omega (arith, first, second, left, right)
 
 -- where turns were used for as many asks as a session has, there is room for one session less
-room_falls : (old new asks : ℕ) → asks ≤ 100000 → old ≤ new + 2 * asks → old / 2 ^ 26 ≤ new / 2 ^ 26 + 1
+room_falls : (old new asks : ℕ) → asks ≤ 25600000 → old ≤ new + 2 * asks → old / 2 ^ 26 ≤ new / 2 ^ 26 + 1
 room_falls old new asks few used = omega (arith, few, used)
 
 module _ {D : Type 0} where
@@ -48,7 +48,7 @@ module _ {D : Type 0} where
       let this : 1 ≤ turns p / 2 ^ 26 = omega (arith, room, left) in
       (omega (arith, this), turns_enough passes (omega (arith, room, right)))
 
-  at_room : {place : ℕ} {fixeds : List (Fixed D)} {old new : List (Pass TurnItem (Fixed D))} {asks : List (Text × Reply)} → length asks ≤ 100000
+  at_room : {place : ℕ} {fixeds : List (Fixed D)} {old new : List (Pass TurnItem (Fixed D))} {asks : List (Text × Reply)} → length asks ≤ 25600000
       → AsksAt place fixeds old new asks → room_in old ≤ room_in new + 1
   at_room few (desks.here {old = p} {new = q} {rest = rest} {asks = asks} is) =
       least_falls (turns p / 2 ^ 26) (turns q / 2 ^ 26) (room_in rest) (room_in rest) (room_falls (turns p) (turns q) (length asks) few is.used) (omega arith)
@@ -61,7 +61,7 @@ module _ {D : Type 0} where
   room_enough (p ∷ passes) all = let this : 2 ^ 31 ≤ turns p / 2 ^ 26 = omega (arith, all.0) in le-min this (room_enough passes all.1)
 
   -- behind a session there is room for one less at most
-  pub of_room : (who : Option ℕ) (fixeds : List (Fixed D)) (old new : List (Pass TurnItem (Fixed D))) (asks : List (Text × Reply)) → length asks ≤ 100000
+  pub of_room : (who : Option ℕ) (fixeds : List (Fixed D)) (old new : List (Pass TurnItem (Fixed D))) (asks : List (Text × Reply)) → length asks ≤ 25600000
       → AsksOf who fixeds old new asks → room_in old ≤ room_in new + 1
   of_room None fixeds old new asks few is = let same = ap room_in is.0 in omega (arith, same)
   of_room (Some place) fixeds old new asks few is = at_room few is

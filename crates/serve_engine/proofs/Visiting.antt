@@ -1,6 +1,6 @@
 -- A session over ends that were untouched is a connection that was served.
-use Rattle.std.proofs.Common.{◌≡◌, ◌⊎◌, inl, inr, ℕ, true, List, [], ◌++◌, refl, sym, ◌∙◌, subst, arith}
-use Rattle.std.specs.Prelude.{◌==◌}
+use Rattle.std.proofs.Common.{◌≡◌, ◌⊎◌, inl, inr, ℕ, true, List, [], ◌∷◌, ◌++◌, map, length, refl, sym, ap, ◌∙◌, subst, arith}
+use Rattle.std.specs.Prelude.{◌==◌, None}
 use Rattle.std.proofs.lemmas.Bool.{eqb-true}
 use Rattle.std.proofs.lemmas.List.{append-nil}
 use Rattle.outside.specs.Faults.{Rose}
@@ -12,10 +12,12 @@ use Rattle.turnstile.specs.declared.pass.Pass.{Pass}
 use Rattle.desk_counter.specs.declared.item.TurnItem.{TurnItem}
 use Rattle.desk_counter.specs.declared.item.Fixed.{Fixed}
 use Rattle.session_core.specs.Heard.{HeardLine, session_lines}
-use Rattle.session_core.specs.Talks.{written_lines, IsCut}
+use Rattle.session_core.specs.Talks.{Talks, written_lines, IsCut}
+use Rattle.session_core.specs.Desks.{schemas_of}
 use Rattle.session_core.specs.Sessions.{Session, Hears, Writes}
 use Rattle.session_core.specs.declared.session.Ended.{Ended}
 use Rattle.session_core.specs.declared.session.Ended.TheVariants.{Quit, InputEnd, TooLong, TooMany, ReadFault, WriteFault}
+use Rattle.session_core.proofs.Legality.{desks_counted}
 use Rattle.worker_pool.specs.Jobs.{AreUntouchedEnds}
 use Rattle.serve_engine.specs.Served.{Served}
 use Rattle.serve_engine.specs.Members.{members_of, AreIn, HaveSeenOpenings}
@@ -65,6 +67,16 @@ all_written TooMany after texts no_write writes = writes
 all_written ReadFault after texts no_write writes = writes
 all_written WriteFault after texts no_write writes = absurd (no_write refl)
 
+-- the desks of the users are all of one schema
+schemas_same : {D : Type 0} (schema : DatabaseSchema) (world : FactSet) (users : List User) (fixeds : List (Fixed D)) → length users ≡ length fixeds
+    → AreIn schema world fixeds → schemas_of fixeds ≡ map (λ (user : User). schema) users
+schemas_same schema world [] [] many within = refl
+schemas_same schema world (u ∷ users) (f ∷ fixeds) many within =
+    ap (λ (s : DatabaseSchema). s ∷ schemas_of fixeds) within.0.0
+    ∙ ap (λ (ss : List DatabaseSchema). schema ∷ ss) (schemas_same schema world users fixeds (omega (arith, many)) within.1)
+schemas_same schema world [] (f ∷ fixeds) many within = absurd (omega (arith, many))
+schemas_same schema world (u ∷ users) [] many within = absurd (omega (arith, many))
+
 -- A session over ends that were untouched is a connection that was served by the users as their passes are then.
 pub session_served : {D : Type 0} (S K : Type 0) (users : List User) (fixeds : List (Fixed D)) (ended : Ended) (held held' left : List ℕ)
     (old new : List (Pass TurnItem (Fixed D))) (before after : List ℕ) (sources sinks sources' sinks' : ℕ)
@@ -81,11 +93,14 @@ session_served {D} S K users fixeds ended held held' left old new before after s
       lines = session.lines;
       asks = session.asks;
       texts = session.texts;
-      talks = session.talks;
+      to_end = session.to_end;
+      talks = subst (λ schemas. Talks users schemas None session.lines session.who session.asks session.texts session.to_end)
+          (schemas_same schema world users fixeds (desks_counted users fixeds session.own) within) session.talks;
       replied = of_replied schema world session.who fixeds old new session.asks within openings session.desks;
       heard = first_lines ended held' session.lines hears;
       all_heard = λ source sink.
           all_lines ended held' session.lines (λ e. not_risen sources sources' source (read_cause e)) (λ e. not_risen sinks sinks' sink (write_cause e)) hears;
       wrote = first_written ended after session.texts writes;
       all_written = λ sink. all_written ended after session.texts (λ e. not_risen sinks sinks' sink (write_cause e)) writes;
+      whole = λ sink. session.whole (λ e. not_risen sinks sinks' sink (write_cause e));
     }

@@ -1,6 +1,6 @@
 -- What a finished connection is to the users who are served.
 use Rattle.std.specs.Prelude.{◌≡◌, ◌⊎◌, ℕ, zero, suc, ◌==◌, Bool, true, false, List, [], ◌∷◌, ◌++◌}
-use Rattle.std.specs.Prelude.{length, sum_by, Option, Some, None, is_some, option_to_list}
+use Rattle.std.specs.Prelude.{length, map, sum_by, Option, Some, None, is_some, option_to_list}
 use Rattle.std.specs.Prelude.{if◌then◌else◌}
 use Rattle.std.specs.List.{AllZip}
 use Rattle.outside.specs.Visits.{Visit}
@@ -97,20 +97,22 @@ module _ (schema : DatabaseSchema) (world : FactSet) where
   -- A finished connection is served, and comes to these marks: its lines were answered one after
   -- the other, and what was asked was replied to by the one history of the user who logged in. The
   -- lines are those that a session hears of all bytes that came in; where an end failed, the first
-  -- of these. What was written is a line for each answer; where the sink failed, maybe of the last
-  -- one only a part.
+  -- of these. What was written are the lines of the answers; where the sink failed, maybe of the
+  -- last one only a part, and behind it nothing was asked, also where that is within a list.
   pub record Served (users : List User) (members : List Member) (visit : Visit)
       (marks : SessionMarks) : Type 0 where
     pub lines : List HeardLine
     pub asks : List (Text × Reply)
     pub texts : List Text
-    pub talks : Talks users None lines marks.who asks texts
+    pub to_end : Bool
+    pub talks : Talks users (map (λ user. schema) users) None lines marks.who asks texts to_end
     pub replied : RepliedTo marks.who members asks marks.entries marks.in_flight
     pub heard : (rest : List HeardLine) × (session_lines visit.held ≡ lines ++ rest)
     pub all_heard : visit.source_whole ≡ true → visit.sink_whole ≡ true
         → lines ≡ session_lines visit.held
     pub wrote : (visit.written ≡ written_lines texts) ⊎ IsCut texts visit.written
     pub all_written : visit.sink_whole ≡ true → visit.written ≡ written_lines texts
+    pub whole : visit.sink_whole ≡ true → to_end ≡ true
 
 -- A connection that was served stays so where each user is the same later.
 abbrev pub ServedStay : Type 0

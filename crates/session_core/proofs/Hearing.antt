@@ -6,7 +6,7 @@ use Rattle.std.specs.List.{list_all}
 use Rattle.std.proofs.lemmas.List.{append-nil, length-append, take_all, take_at}
 use Rattle.cqe_base.specs.Lines.{TextLine, text_lines, content}
 use Rattle.line_protocol.specs.Reads.{TakesLine, BeginsTooLong}
-use Rattle.line_protocol.specs.Requests.{LineRequest, login_as, ask_for, quit_session, other_line, request_of}
+use Rattle.line_protocol.specs.Requests.{LineRequest, login_as, ask_for, list_for, quit_session, other_line, request_of}
 use Rattle.session_core.specs.Heard.{HeardLine, heard, overlong, is_quit, goes_on, heard_as, heard_lines, session_lines}
 use Rattle.session_core.specs.Sessions.{Hears}
 use Rattle.session_core.specs.declared.session.Ended.TheVariants.{Quit, InputEnd, TooLong, TooMany, ReadFault, WriteFault}
@@ -24,6 +24,7 @@ heard_none bytes = record { whole = refl; on = refl }
 quits : (request : LineRequest) → is_quit request ≡ true → request ≡ quit_session
 quits (login_as user phrase) is = absurd cc
 quits (ask_for text) is = absurd cc
+quits (list_for count text) is = absurd cc
 quits quit_session is = refl
 quits other_line is = absurd cc
 

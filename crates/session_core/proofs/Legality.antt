@@ -2,7 +2,7 @@
 use Rattle.std.proofs.Common.{◌≡◌, ℕ, zero, suc, ◌<◌, Bool, true, false, List, [], ◌∷◌, map, length, get_or, refl, sym, ap, ◌∙◌, subst, arith}
 use Rattle.std.specs.Prelude.{slice_set, leb, cond}
 use Rattle.std.proofs.lemmas.List.{length-map}
-use Rattle.cqe_base.specs.History.{UserProfile, profile_of}
+use Rattle.cqe_base.specs.History.{UserProfile, profile_of, is_history_of}
 use Rattle.cqe_base.specs.Censor.{IsLegal}
 use Rattle.cqe_base.specs.Hiding.{LegalHistoriesHide}
 use Rattle.cqe_base.specs.declared.user.User.{User}
@@ -33,6 +33,7 @@ module _ {D : Type 0} where
     user_of = legal.user_of;
     admits = legal.admits;
     legal = subst (λ ps. IsLegal fixed.schema fixed.world fixed.user (history_of ps)) (sym same) legal.legal;
+    sentences = ap (λ ps. is_history_of fixed.schema (history_of ps)) same ∙ legal.sentences;
     last = ap is_broke_last same ∙ legal.last;
   }
 
@@ -50,7 +51,7 @@ module _ {D : Type 0} where
       → EachHides fixeds passes
   all_hide hide [] [] legal = tt
   all_hide hide (f ∷ fixeds) (p ∷ passes) legal = (
-    λ admits. hide f.schema f.world f.user (history_of (seen p)) legal.0.valid legal.0.user_of admits legal.0.legal,
+    λ admits. hide f.schema f.world f.user (history_of (seen p)) legal.0.valid legal.0.user_of legal.0.sentences admits legal.0.legal,
     all_hide hide fixeds passes legal.1,
   )
   all_hide hide [] (p ∷ passes) legal = absurd legal
@@ -68,15 +69,16 @@ module _ {D : Type 0} {g h : _} where
       (new : Pass TurnItem (Fixed D)) (c : CounterOf (TicketedDesk D g) TurnItem (Fixed D) h) → place < length counters
       → HaveSeenLegal (map kept_by counters) passes
       → IsLegal (kept_by (get_or counters place c)).schema (kept_by (get_or counters place c)).world (kept_by (get_or counters place c)).user
-      (history_of (seen new)) → is_broke_last (seen new) ≡ true
+      (history_of (seen new))
+      → is_history_of (kept_by (get_or counters place c)).schema (history_of (seen new)) ≡ true → is_broke_last (seen new) ≡ true
       → HaveSeenLegal (map kept_by counters) (slice_set passes place new)
-  legal_set [] [] place new c low legal is last = absurd (omega (arith, low))
-  legal_set (d ∷ counters) (p ∷ passes) zero new c low legal is last =
-      (record { valid = legal.0.valid; user_of = legal.0.user_of; admits = legal.0.admits; legal = is; last = last }, legal.1)
-  legal_set (d ∷ counters) (p ∷ passes) (suc place) new c low legal is last =
-      (legal.0, legal_set counters passes place new c (omega (arith, low)) legal.1 is last)
-  legal_set [] (p ∷ passes) place new c low legal is last = absurd legal
-  legal_set (d ∷ counters) [] place new c low legal is last = absurd legal
+  legal_set [] [] place new c low legal is all last = absurd (omega (arith, low))
+  legal_set (d ∷ counters) (p ∷ passes) zero new c low legal is all last =
+      (record { valid = legal.0.valid; user_of = legal.0.user_of; admits = legal.0.admits; legal = is; sentences = all; last = last }, legal.1)
+  legal_set (d ∷ counters) (p ∷ passes) (suc place) new c low legal is all last =
+      (legal.0, legal_set counters passes place new c (omega (arith, low)) legal.1 is all last)
+  legal_set [] (p ∷ passes) place new c low legal is all last = absurd legal
+  legal_set (d ∷ counters) [] place new c low legal is all last = absurd legal
 
   -- Passes are at these counters, and have seen what is legal.
   pub record AreLegal (passes : List (Pass TurnItem (Fixed D))) (counters : List (CounterOf (TicketedDesk D g) TurnItem (Fixed D) h)) : Type 0 where

@@ -4,5 +4,6 @@ pub mod Passing
 pub mod Talking
 pub mod Hearing
 pub mod Serving
+pub mod Listing
 pub mod Meeting
 pub mod Legality

@@ -1,9 +1,9 @@
 -- The passes at all counters, of which one is used.
 use Rattle.std.proofs.Common.{◌≡◌, ℕ, zero, suc, ◌≤◌, ◌<◌, ◌+◌, ◌*◌, List, [], ◌∷◌, ◌++◌, map, length, get_or, refl, sym, ap, ◌∙◌, subst, arith}
-use Rattle.std.specs.Prelude.{Option, Some, None, slice_set, IfSome}
+use Rattle.std.specs.Prelude.{Bool, Option, Some, None, slice_set, IfSome}
 use Rattle.std.specs.List.{AllByRecursion}
 use Rattle.std.proofs.lemmas.List.{append-nil}
-use Rattle.cqe_base.specs.Schema.{Text}
+use Rattle.cqe_base.specs.Schema.{DatabaseSchema, Text}
 use Rattle.cqe_base.specs.Run
 use Rattle.cqe_base.specs.declared.user.User.{User}
 use Rattle.turnstile.specs.declared.pass.Pass.{Pass}
@@ -15,7 +15,7 @@ use Rattle.desk_counter.specs.declared.counter.CounterOf.{CounterOf}
 use Rattle.desk_counter.specs.Counters.{kept_by, IsPassOf}
 use Rattle.cqe_base.specs.Transcript.{reply_text}
 use Rattle.line_protocol.specs.Requests.{LineRequest, ask_for}
-use Rattle.session_core.specs.Talks.{Says, welcome, no_login, logged_in, not_yet, replied, bye, unknown, LogsIn}
+use Rattle.session_core.specs.Talks.{Says, welcome, no_login, logged_in, not_yet, replied, not_listed, bye, unknown, LogsIn, Answers, one_line, listed}
 use Rattle.session_core.specs.Talks as talks
 use Rattle.session_core.specs.Desks.{Asks, AsksAt, here, further, AsksOf}
 use Rattle.session_core.specs.Members.{ArePasses}
@@ -49,7 +49,7 @@ module _ {D : Type 0} where
   at_length (here asks) = refl
   at_length (further rest) = ap suc (at_length rest)
 
-  fewer : (many few : ℕ) (passes : List (Pass TurnItem (Fixed D))) → few ≤ many → AllByRecursion (λ pass. many ≤ turns pass) passes
+  pub fewer : (many few : ℕ) (passes : List (Pass TurnItem (Fixed D))) → few ≤ many → AllByRecursion (λ pass. many ≤ turns pass) passes
       → AllByRecursion (λ pass. few ≤ turns pass) passes
   fewer many few [] low all = tt
   fewer many few (p ∷ passes) low all = (omega (arith, low, all.0), fewer many few passes low all.1)
@@ -88,10 +88,19 @@ module _ {D : Type 0} where
   of_then users fixeds old mid new xs many as_many asks logged_in more = at_then asks more
   of_then users fixeds old mid new xs many as_many asks not_yet more = (more.0 ∙ asks.0, append-nil xs ∙ asks.1)
   of_then users fixeds old mid new xs many as_many asks replied more = at_then asks more
+  of_then users fixeds old mid new xs many as_many asks not_listed more = (more.0 ∙ asks.0, append-nil xs ∙ asks.1)
   of_then users fixeds old mid new xs {who = None} many as_many asks bye more = (more.0 ∙ asks.0, append-nil xs ∙ asks.1)
   of_then users fixeds old mid new xs {who = Some place} many as_many asks bye more = at_then asks more
   of_then users fixeds old mid new xs {who = None} many as_many asks unknown more = (more.0 ∙ asks.0, append-nil xs ∙ asks.1)
   of_then users fixeds old mid new xs {who = Some place} many as_many asks unknown more = at_then asks more
+
+  -- the same of a request that is answered by any lines
+  pub answers_then : (users : List User) (schemas : List DatabaseSchema) (fixeds : List (Fixed D)) (old mid new : List (Pass TurnItem (Fixed D)))
+      (xs : List (Text × Run.Reply)) {who next : Option ℕ} {request : LineRequest} {said : List Text} {to_end : Bool} {ys : List (Text × Run.Reply)}
+      → length users ≡ length fixeds → length mid ≡ length fixeds → AsksOf who fixeds old mid xs
+      → Answers users schemas who request next ys said to_end → AsksOf who fixeds mid new ys → AsksOf next fixeds old new (xs ++ ys)
+  answers_then users schemas fixeds old mid new xs many as_many asks (one_line says) more = of_then users fixeds old mid new xs many as_many asks says more
+  answers_then users schemas fixeds old mid new xs many as_many asks (listed at says) more = at_then asks more
 
   -- no asks of who is logged in
   pub of_nothing : (who : Option ℕ) (fixeds : List (Fixed D)) (passes : List (Pass TurnItem (Fixed D))) → IfSome who (λ place. place < length fixeds)

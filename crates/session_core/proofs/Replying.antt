@@ -3,6 +3,7 @@ use Rattle.std.proofs.Common.{◌≡◌, ℕ, ◌≤◌, ◌+◌, Bool, true, fa
 use Rattle.std.specs.Prelude.{Option, Some, None, is_some, option_to_list}
 use Rattle.std.specs.Option.{option_or}
 use Rattle.std.proofs.lemmas.List.{append-nil, length-append, map-append}
+use Rattle.cqe_base.specs.declared.user.Purpose.TheVariants.{Asking}
 use Rattle.cqe_base.specs.Schema.{DatabaseSchema, Text}
 use Rattle.cqe_base.specs.Facts.{FactSet}
 use Rattle.cqe_base.specs.History.{UserProfile, AnsweredQuery, History}
@@ -13,7 +14,7 @@ use Rattle.turnstile.specs.History.{Entries, IsPrefix}
 use Rattle.turnstile.specs.Passes.{seen, mine, shares, turns}
 use Rattle.user_log.specs.Replies.{reply_of}
 use Rattle.user_log.specs.declared.reply.Reply.{Reply}
-use Rattle.user_log.specs.declared.reply.Reply.TheVariants.{Mark, Syntax, Full, Size, Closed, Sealed, Broken, Memory}
+use Rattle.user_log.specs.declared.reply.Reply.TheVariants.{Mark, Syntax, Full, Size, Closed, Sealed, Broken, Memory, Secrets, Unsafe}
 use Rattle.user_desk.specs.Standings.{standing_of}
 use Rattle.desk_counter.specs.declared.item.TurnItem.{TurnItem}
 use Rattle.desk_counter.specs.declared.item.TurnItem.TheVariants.{Kept, Broke}
@@ -71,7 +72,7 @@ module _ (schema : DatabaseSchema) (world : FactSet) (user : UserProfile) (stand
   replied_then first more broke broke' {least = least'} on still (append_failed {text = text} entry least read size answer broken rest) last =
       let same : first ≡ first ++ more = sym (ap (λ (h : History). first ++ h) (still broken) ∙ append-nil first) in
       append_failed entry (subst (λ (h : History). least' ≤ length h) same least) read size
-      (subst (λ (h : History). reply schema world user h standing false text ≡ Run.marked entry.mark) same answer) (on broken)
+      (subst (λ (h : History). reply schema world user h standing false Asking text ≡ Run.marked entry.mark) same answer) (on broken)
       (from_earlier (first ++ more) broke' (let e = ap length (sym same) in omega (arith, e)) (λ f. f)
       (replied_then first more broke broke' on still rest last))
   replied_then first more broke broke' on still (wanted rest) last = wanted (replied_then first more broke broke' on still rest last)
@@ -195,9 +196,11 @@ module _ {D : Type 0} (fixed : Fixed D) where
   code_told Sealed none = tt
   code_told Broken none = tt
   code_told Memory none = tt
+  code_told Secrets none = tt
+  code_told Unsafe none = tt
 
   -- one ask at a counter
-  pub asks_once : (old new : Pass TurnItem (Fixed D)) (text : Text) (said : Reply) → Asked fixed old new text said → shares new ≡ shares old
+  pub asks_once : (old new : Pass TurnItem (Fixed D)) (text : Text) (said : Reply) → Asked fixed old new Asking text said → shares new ≡ shares old
       → turns old ≤ turns new + 2 → BrokeIsLast (seen new)
       → Asks fixed old new ((text, reply_of said) ∷ [])
   asks_once old new text said asked same_shares used last = of_adds asked.adds
@@ -235,7 +238,7 @@ module _ {D : Type 0} (fixed : Fixed D) where
       never : flying asked.found ≡ None → has_broke (seen old) ≡ true → false ≡ true
       never none b = sym (ap (λ o. is_some o) none) ∙ failed_before b
 
-      of_adds : {code : Reply} → Adds fixed asked.ticket text asked.found (seen new) code → Asks fixed old new ((text, reply_of code) ∷ [])
+      of_adds : {code : Reply} → Adds fixed asked.ticket Asking text asked.found (seen new) code → Asks fixed old new ((text, reply_of code) ∷ [])
       of_adds (adds_answered {query = query} {mark = mark} served answer added) =
           let entry = entry_for query mark text in
           let grown : history_of (seen new) ≡ history_of asked.found ++ entry ∷ [] =
@@ -244,7 +247,7 @@ module _ {D : Type 0} (fixed : Fixed D) where
           made (Mark mark) (entry ∷ []) None
           (from_earlier fixed.schema fixed.world fixed.user (standing_of fixed.standing) (history_of (seen new)) (has_broke (seen new)) begun (never served.1)
           (answered (history_of asked.found) [] entry (omega arith) grown answer.read refl
-          (ap (λ s. reply fixed.schema fixed.world fixed.user (history_of asked.found) s false text) served.0
+          (ap (λ s. reply fixed.schema fixed.world fixed.user (history_of asked.found) s false Asking text) served.0
           ∙ answer.answer) (nothing (omega (arith, more)) (λ f. absurd cc))))
           (ap items_of (asked.own.one (asked.ticket, Kept entry) added) ∙ items_all (mine old) ((asked.ticket, Kept entry) ∷ []))
           ((asked.ticket, Kept entry) ∷ [], added)
@@ -258,8 +261,8 @@ module _ {D : Type 0} (fixed : Fixed D) where
           made Broken [] (Some entry)
           (from_earlier fixed.schema fixed.world fixed.user (standing_of fixed.standing) (history_of (seen new)) (has_broke (seen new)) within (never served.1)
           (append_failed entry (omega arith) answer.read refl
-          (ap (λ (h : History). reply fixed.schema fixed.world fixed.user h (standing_of fixed.standing) false text) same
-          ∙ ap (λ s. reply fixed.schema fixed.world fixed.user (history_of asked.found) s false text) served.0 ∙ answer.answer) broken
+          (ap (λ (h : History). reply fixed.schema fixed.world fixed.user h (standing_of fixed.standing) false Asking text) same
+          ∙ ap (λ s. reply fixed.schema fixed.world fixed.user (history_of asked.found) s false Asking text) served.0 ∙ answer.answer) broken
           (nothing (omega arith) (λ f. broken))))
           (ap items_of (asked.own.one (asked.ticket, Broke entry) added) ∙ items_all (mine old) ((asked.ticket, Broke entry) ∷ []))
           ((asked.ticket, Broke entry) ∷ [], added)

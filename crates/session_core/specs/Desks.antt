@@ -1,7 +1,7 @@
 -- What a session does with the passes.
 use Rattle.std.specs.Prelude.{◌≡◌, ℕ, zero, suc, ◌≤◌, ◌+◌, ◌*◌, true, List, [], ◌∷◌, ◌++◌, length}
-use Rattle.std.specs.Prelude.{Option, Some, None}
-use Rattle.cqe_base.specs.Schema.{Text}
+use Rattle.std.specs.Prelude.{Option, Some, None, map}
+use Rattle.cqe_base.specs.Schema.{DatabaseSchema, Text}
 use Rattle.cqe_base.specs.History.{AnsweredQuery, History}
 use Rattle.cqe_base.specs.Run.{Reply}
 use Rattle.turnstile.specs.declared.pass.Pass.{Pass}
@@ -14,6 +14,10 @@ use Rattle.desk_counter.specs.Items.{history_of, has_broke, items_of, items_with
 use Rattle.session_core.specs.Replied.{Replied}
 
 module _ {D : Type 0} where
+  -- the schema of each desk, in order
+  abbrev pub schemas_of : List (Fixed D) → List DatabaseSchema
+  schemas_of fixeds = map (λ fixed. fixed.schema) fixeds
+
   -- the replies to these asks are by what the pass has seen after them, in the order of the asks
   abbrev pub AreReplied : Fixed D → Pass TurnItem (Fixed D) → Pass TurnItem (Fixed D)
       → List (Text × Reply) → History → Option AnsweredQuery → Type 0

@@ -2,8 +2,8 @@
 use Rattle.std.specs.Prelude.{ℕ, Bool, true, false, not, List, [], ◌∷◌, take, if◌then◌else◌}
 use Rattle.cqe_base.specs.Schema.{Text}
 use Rattle.cqe_base.specs.Lines.{TextLine, text_lines, content, is_too_long}
-use Rattle.line_protocol.specs.Requests.{LineRequest, login_as, ask_for, quit_session, other_line}
-use Rattle.line_protocol.specs.Requests.{request_of}
+use Rattle.line_protocol.specs.Requests.{LineRequest, login_as, ask_for, list_for, quit_session}
+use Rattle.line_protocol.specs.Requests.{other_line, request_of}
 
 -- a line: of at most 4,096 bytes, with its content, or longer
 pub data HeardLine : Type 0 where
@@ -19,6 +19,7 @@ request_in overlong = other_line
 abbrev pub is_quit : LineRequest → Bool
 is_quit (login_as user phrase) = false
 is_quit (ask_for text) = false
+is_quit (list_for count text) = false
 is_quit quit_session = true
 is_quit other_line = false
 

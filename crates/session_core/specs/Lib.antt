@@ -1,4 +1,5 @@
 pub mod Heard
+pub mod Lists
 pub mod Talks
 pub mod Replied
 pub mod Desks

@@ -2,7 +2,7 @@
 use Rattle.std.specs.Prelude.{◌≡◌, ◌≤◌, ◌^◌, true, List, [], ◌∷◌, map}
 use Rattle.std.specs.List.{AllZip}
 use Rattle.cqe_base.specs.Schema.{is_valid_schema}
-use Rattle.cqe_base.specs.History.{profile_of, is_user_of}
+use Rattle.cqe_base.specs.History.{profile_of, is_user_of, is_history_of}
 use Rattle.cqe_base.specs.Censor.{IsLegal, admitted}
 use Rattle.cqe_base.specs.Hiding.{Hides}
 use Rattle.cqe_base.specs.declared.user.User.{User}
@@ -30,12 +30,13 @@ module _ {D : Type 0} where
   AreDesksOf users fixeds = map (λ fixed. fixed.user) fixeds ≡ map profile_of users
 
   -- What the pass at a desk has seen is a legal history of its user, and an entry in flight stands
-  -- last. He is a user of the schema, and served only where he is admitted.
+  -- last. He and his history are of the schema, and he is served only where he is admitted.
   pub record HasSeenLegal (fixed : Fixed D) (pass : Pass TurnItem (Fixed D)) : Type 0 where
     pub valid : is_valid_schema fixed.schema ≡ true
     pub user_of : is_user_of fixed.schema fixed.user ≡ true
     pub admits : is_open fixed.standing ≡ true → admitted fixed.schema fixed.world fixed.user ≡ true
     pub legal : IsLegal fixed.schema fixed.world fixed.user (history_of (seen pass))
+    pub sentences : is_history_of fixed.schema (history_of (seen pass)) ≡ true
     pub last : is_broke_last (seen pass) ≡ true
 
   -- what each pass has seen is legal

@@ -1,12 +1,14 @@
 -- The replies to one user in a session, by his one history.
 use Rattle.std.specs.Prelude.{◌≡◌, ℕ, suc, ◌≤◌, Bool, true, false, List, [], ◌∷◌, ◌++◌, length, Ok}
 use Rattle.std.specs.Prelude.{Option, Some, None}
+use Rattle.cqe_base.specs.declared.user.Purpose.TheVariants.{Asking}
 use Rattle.cqe_base.specs.Schema.{DatabaseSchema, Text}
 use Rattle.cqe_base.specs.Facts.{FactSet}
 use Rattle.cqe_base.specs.Reading.{reading}
 use Rattle.cqe_base.specs.History.{UserProfile, AnsweredQuery, History}
 use Rattle.cqe_base.specs.Run.{Standing, Reply, reply, marked, no_sentence, history_full, too_large}
-use Rattle.cqe_base.specs.Run.{user_closed, desk_sealed, desk_broken, no_memory}
+use Rattle.cqe_base.specs.Run.{user_closed, desk_sealed, desk_broken, no_memory, secrets_full}
+use Rattle.cqe_base.specs.Run.{unsafe_secret}
 
 -- a reply that is no mark
 abbrev pub IsUnmarked : Reply → Type 0
@@ -18,6 +20,8 @@ IsUnmarked user_closed = Unit {0}
 IsUnmarked desk_sealed = Unit {0}
 IsUnmarked desk_broken = Unit {0}
 IsUnmarked no_memory = Unit {0}
+IsUnmarked secrets_full = Unit {0}
+IsUnmarked unsafe_secret = Unit {0}
 
 -- The user's history and whether an append failed, as they are in the end.
 module _ (schema : DatabaseSchema) (world : FactSet) (user : UserProfile) (standing : Standing)
@@ -38,7 +42,7 @@ module _ (schema : DatabaseSchema) (world : FactSet) (user : UserProfile) (stand
         {in_flight : Option AnsweredQuery} (before after : History) (entry : AnsweredQuery)
         → least ≤ length before → history ≡ before ++ entry ∷ after
         → reading schema text ≡ Ok entry.query → entry.length ≡ length text
-        → reply schema world user before standing false text ≡ marked entry.mark
+        → reply schema world user before standing false Asking text ≡ marked entry.mark
         → Replied (suc (length before)) false asks entries in_flight
         → Replied least false ((text, marked entry.mark) ∷ asks) (entry ∷ entries) in_flight
     coded : {least : ℕ} {failed : Bool} {text : Text} {code : Reply} {asks : List (Text × Reply)}
@@ -46,13 +50,14 @@ module _ (schema : DatabaseSchema) (world : FactSet) (user : UserProfile) (stand
         (failed_now : Bool)
         → least ≤ length before → history ≡ before ++ after → (failed ≡ true → failed_now ≡ true)
         → (failed_now ≡ true → after ≡ []) → IsUnmarked code
-        → reply schema world user before standing failed_now text ≡ code
+        → reply schema world user before standing failed_now Asking text ≡ code
         → Replied (length before) failed_now asks entries in_flight
         → Replied least failed ((text, code) ∷ asks) entries in_flight
     append_failed : {least : ℕ} {text : Text} {asks : List (Text × Reply)} {entries : History}
         {in_flight : Option AnsweredQuery} (entry : AnsweredQuery) → least ≤ length history
         → reading schema text ≡ Ok entry.query → entry.length ≡ length text
-        → reply schema world user history standing false text ≡ marked entry.mark → broke ≡ true
+        → reply schema world user history standing false Asking text ≡ marked entry.mark
+        → broke ≡ true
         → Replied (length history) true asks entries in_flight
         → Replied least false ((text, desk_broken) ∷ asks) entries (Some entry)
     wanted : {least : ℕ} {failed : Bool} {text : Text} {asks : List (Text × Reply)}

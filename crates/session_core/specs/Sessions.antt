@@ -1,6 +1,7 @@
 -- A session: the lines that were read, the lines that were written, and the passes before and
 -- after.
-use Rattle.std.specs.Prelude.{◌≡◌, ℕ, ◌≤◌, ◌<◌, true, List, [], ◌∷◌, ◌++◌, length, Option, None}
+use Rattle.std.specs.Prelude.{◌≡◌, ◌≢◌, ℕ, ◌≤◌, ◌<◌, Bool, true, List, [], ◌∷◌, ◌++◌, length}
+use Rattle.std.specs.Prelude.{Option, None, Result, OnOk, OnErr}
 use Rattle.std.specs.List.{list_all}
 use Rattle.cqe_base.specs.Schema.{Text}
 use Rattle.cqe_base.specs.Lines.{text_lines}
@@ -12,7 +13,7 @@ use Rattle.desk_counter.specs.declared.item.TurnItem.{TurnItem}
 use Rattle.desk_counter.specs.declared.item.Fixed.{Fixed}
 use Rattle.session_core.specs.Heard.{HeardLine, heard, overlong, goes_on, session_lines}
 use Rattle.session_core.specs.Talks.{Talks, written_lines, IsCut}
-use Rattle.session_core.specs.Desks.{AsksOf}
+use Rattle.session_core.specs.Desks.{AsksOf, schemas_of}
 use Rattle.session_core.specs.Members.{AreDesksOf}
 use Rattle.session_core.specs.declared.session.Ended.{Ended}
 use Rattle.session_core.specs.declared.session.Ended.TheVariants.{Quit, InputEnd, TooLong, TooMany}
@@ -51,8 +52,22 @@ Writes TooLong old new texts = new ≡ old ++ written_lines texts
 Writes TooMany old new texts = new ≡ old ++ written_lines texts
 Writes ReadFault old new texts = new ≡ old ++ written_lines texts
 
+-- What a call wrote, where it may stop at each line that the sink refuses: all lines of these asks,
+-- or the first of them, of the last one only a part.
+pub record Spoken {T E : Type 0} (sink_tells : Type 0)
+    (Says : List (Text × Reply) → List Text → Bool → Type 0) (Uses : List (Text × Reply) → Type 0)
+    (wrote : Result T E) (before after : List ℕ) : Type 0 where
+  pub asked : List (Text × Reply)
+  pub texts : List Text
+  pub to_end : Bool
+  pub said : Says asked texts to_end
+  pub used : Uses asked
+  pub whole : OnOk wrote (to_end ≡ true)
+  pub all : sink_tells → OnOk wrote (after ≡ before ++ written_lines texts)
+  pub part : sink_tells → OnErr wrote (Writes WriteFault before after texts)
+
 -- A session of these users, each at the desk that is his, where the source tells its bytes and the
--- sink what was written.
+-- sink what was written. Where the sink failed, the last line may be a list that was broken off.
 pub record Session {D : Type 0} (source_tells sink_tells : Type 0) (users : List User)
     (fixeds : List (Fixed D)) (ended : Ended) (bytes : List ℕ)
     (old new : List (Pass TurnItem (Fixed D))) (before after : List ℕ) : Type 0 where
@@ -61,8 +76,10 @@ pub record Session {D : Type 0} (source_tells sink_tells : Type 0) (users : List
   pub who : Option ℕ
   pub asks : List (Text × Reply)
   pub texts : List Text
-  pub talks : Talks users None lines who asks texts
+  pub to_end : Bool
+  pub talks : Talks users (schemas_of fixeds) None lines who asks texts to_end
   pub desks : AsksOf who fixeds old new asks
+  pub whole : ended ≢ WriteFault → to_end ≡ true
   pub counted : Counts ended (length lines)
   pub hears : source_tells → Hears ended bytes lines
   pub writes : sink_tells → Writes ended before after texts

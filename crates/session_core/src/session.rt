@@ -1,22 +1,21 @@
 //! One session over lines.
-ghost use Rattle.std.specs.Prelude.{◌≡◌, ◌⊎◌, ◌≤◌, ◌<◌, ◌^◌, ◌∷◌, ◌++◌, [], codes, length, IfSome};
-ghost use Rattle.std.specs.Prelude.{IfNone};
+ghost use Rattle.std.specs.Prelude.{◌≡◌, ◌⊎◌, ◌≤◌, ◌<◌, ◌^◌, ◌++◌, codes, length, IfSome, IfNone};
 ghost use Rattle.std.specs.List.{AllByRecursion};
-ghost use Rattle.outside.specs.Faults.{Rose};
+ghost use Rattle.outside.specs.Faults.{Rose, HasCause};
 ghost use Rattle.outside.specs.Streams.{AppendsPart};
 ghost use Rattle.turnstile.specs.Passes.{turns};
-ghost use Rattle.user_log.specs.Replies.{reply_of};
 ghost use Rattle.line_protocol.specs.Replies.{text_of};
 ghost use Rattle.line_protocol.specs.Requests.{meaning_of};
 ghost use Rattle.line_protocol.specs.Rests.{IsRest};
 ghost use Rattle.session_core.specs.Heard.{is_quit};
-ghost use Rattle.session_core.specs.Talks.{LogsIn, NobodyLogsIn, Says};
-ghost use Rattle.session_core.specs.Desks.{AsksAt, AsksOf};
+ghost use Rattle.session_core.specs.Talks.{LogsIn, NobodyLogsIn, Answers};
+ghost use Rattle.session_core.specs.Desks.{AsksOf, schemas_of};
 ghost use Rattle.session_core.specs.Members.{ArePassesOf, EachHides, users_of, fixeds_of};
 ghost use Rattle.session_core.specs.Members.{passes_in};
-ghost use Rattle.session_core.specs.Asked.{Replies, IsShort};
-ghost use Rattle.session_core.specs.Sessions.{Session};
+ghost use Rattle.session_core.specs.Asked.{RepliesBy, IsWithin};
+ghost use Rattle.session_core.specs.Sessions.{Session, Spoken};
 
+use crate::asking::{ask_at, list_at};
 use crate::counters::{Counters, Passes};
 use cqe_base::laws::law_hides;
 use cqe_base::user::User;
@@ -75,63 +74,87 @@ fn login_place(users: &[User], name: &str, phrase: &str) -> Option<usize>
     }
 }
 
-/// Asks a text at the desk of the user at this place.
-fn ask_at<R: Threads + Wait + Sync, D: Disk, G: Gate>(
-    rt: &R,
-    alloc: Global,
-    counters: &Counters<'_, D>,
-    passes: &mut Passes<D>,
-    place: usize,
-    text: &str,
-    gate: &G,
-) -> user_log::Reply
-    requires passes { ArePassesOf passes.old counters.now }
-    requires place { place < length (fixeds_of counters.now) }
-    requires turns { AllByRecursion (λ pass. 2 ≤ turns pass) (passes_in passes.old) }
-    requires short { length text.now ≤ 4096 }
-    ensures passes { ArePassesOf passes.new counters.now }
-    ensures asked { AsksAt place (fixeds_of counters.now) (passes_in passes.old)
-        (passes_in passes.new)
-        ((text.now, reply_of result) ∷ []) }
-{
-    let counter = &counters.counters[place];
-    let pass = &mut passes.passes[place];
-    counter.ask(rt, alloc, pass, text, gate)
+/// What is answered to a request.
+#[derive(Clone, Copy)]
+enum Answer<'a> {
+    /// One line.
+    Line(Reply),
+    /// The lines of a list of the user at this place, of which nothing was asked yet.
+    Lines {
+        place: usize,
+        count: u32,
+        text: &'a str,
+    },
 }
 
-/// The reply to a request, and who is logged in behind it.
-fn reply_to<R: Threads + Wait + Sync, D: Disk, G: Gate>(
+/// Who is logged in behind a request, and what is answered to it.
+fn reply_to<'a, R: Threads + Wait + Sync, D: Disk, G: Gate>(
     rt: &R,
     alloc: Global,
     counters: &Counters<'_, D>,
     passes: &mut Passes<D>,
     who: Option<usize>,
-    request: Request<'_>,
+    request: Request<'a>,
     gate: &G,
-) -> (Option<usize>, Reply)
+) -> (Option<usize>, Answer<'a>)
     requires passes { ArePassesOf passes.old counters.now }
     requires place { IfSome who (λ place. place < length (fixeds_of counters.now)) }
     requires turns { AllByRecursion (λ pass. 2 ≤ turns pass) (passes_in passes.old) }
-    requires short { IsShort (meaning_of request) }
+    requires within { IsWithin (meaning_of request) }
     ensures passes { ArePassesOf passes.new counters.now }
     ensures place { IfSome result.0 (λ place. place < length (fixeds_of counters.now)) }
-    ensures replies { Replies (users_of counters.now) (fixeds_of counters.now) who
-        (meaning_of request.entry) result.0
-        (text_of result.1) (passes_in passes.old) (passes_in passes.new) }
+    ensures replies { RepliesBy (users_of counters.now) (fixeds_of counters.now) who
+        (meaning_of request.entry) result.0 result.1 (passes_in passes.old) (passes_in passes.new) }
 {
     match (request, who) {
         (Request::Login { user, phrase }, None) => match login_place(counters.users, user, phrase) {
-            Some(place) => (Some(place), Reply::Welcome),
-            None => (None, Reply::Code(25)),
+            Some(place) => (Some(place), Answer::Line(Reply::Welcome)),
+            None => (None, Answer::Line(Reply::Code(25))),
         },
-        (Request::Login { .. }, Some(_)) => (who, Reply::Code(26)),
-        (Request::Ask(_), None) => (None, Reply::Code(25)),
+        (Request::Login { .. }, Some(_)) => (who, Answer::Line(Reply::Code(26))),
+        (Request::Ask(_), None) => (None, Answer::Line(Reply::Code(25))),
         (Request::Ask(text), Some(place)) => {
             let reply = ask_at(rt, alloc, counters, passes, place, text, gate);
-            (who, line_reply(reply))
+            (who, Answer::Line(line_reply(reply)))
         }
-        (Request::Quit, _) => (who, Reply::Bye),
-        (Request::Other, _) => (who, Reply::Code(26)),
+        (Request::List { .. }, None) => (None, Answer::Line(Reply::Code(25))),
+        (Request::List { count, text }, Some(place)) => (who, Answer::Lines { place, count, text }),
+        (Request::Quit, _) => (who, Answer::Line(Reply::Bye)),
+        (Request::Other, _) => (who, Answer::Line(Reply::Code(26))),
+    }
+}
+
+/// Writes the answer to a request, line by line, and says who is logged in behind it.
+fn write_answer<R: Threads + Wait + Sync, D: Disk, K: Sink, G: Gate>(
+    rt: &R,
+    alloc: Global,
+    counters: &Counters<'_, D>,
+    passes: &mut Passes<D>,
+    sink: &mut K,
+    who: Option<usize>,
+    request: Request<'_>,
+    gate: &G,
+) -> (Option<usize>, Result<(), Failed>)
+    requires passes { ArePassesOf passes.old counters.now }
+    requires place { IfSome who (λ place. place < length (fixeds_of counters.now)) }
+    requires turns { AllByRecursion (λ pass. 512 ≤ turns pass) (passes_in passes.old) }
+    requires within { IsWithin (meaning_of request) }
+    ensures passes { ArePassesOf passes.new counters.now }
+    ensures place { IfSome result.0 (λ place. place < length (fixeds_of counters.now)) }
+    ensures spoken { Spoken K.tells (Answers (users_of counters.now)
+        (schemas_of (fixeds_of counters.now)) who (meaning_of request.entry) result.0)
+        (AsksOf who (fixeds_of counters.now) (passes_in passes.old) (passes_in passes.new))
+        result.1 (K.written sink.old) (K.written sink.new) }
+    ensures answers { K.answers sink.new ≡ K.answers sink.old }
+    ensures cause { HasCause (K.faults sink.old) (K.faults sink.new) result.1 }
+{
+    let (next, reply) = reply_to(rt, alloc, counters, passes, who, request, gate);
+    match reply {
+        Answer::Line(line) => (next, write_reply(sink, &line)),
+        Answer::Lines { place, count, text } => {
+            let wrote = list_at(rt, alloc, counters, passes, sink, place, count, text, gate);
+            (next, wrote)
+        }
     }
 }
 
@@ -140,15 +163,15 @@ fn is_quit(request: &Request<'_>) -> bool
 {
     match request {
         Request::Quit => true,
-        Request::Login { .. } | Request::Ask(_) | Request::Other => false,
+        Request::Login { .. } | Request::Ask(_) | Request::List { .. } | Request::Other => false,
     }
 }
 
 /// Serves a session: reads lines from the source up to `quit`, the end of the input, a line that is
 /// too long or the 100,000th, and writes a reply to each. An ask is replied to by the history of
-/// the user who logged in, at his own desk, and only his pass changes. What each pass has seen is
-/// legal, and hides where its user is admitted. It waits for other sessions of that user, and makes
-/// at most 2^26 turns.
+/// the user who logged in, at his own desk, and only his pass changes; a list is one ask for each
+/// instance, in turn. What each pass has seen is legal, and hides where its user is admitted. It
+/// waits for other sessions of that user, and makes at most 2^26 turns.
 pub fn serve_session<R: Threads + Wait + Sync, D: Disk, S: Source, K: Sink, G: Gate>(
     rt: &R,
     alloc: Global,
@@ -185,9 +208,9 @@ pub fn serve_session<R: Threads + Wait + Sync, D: Disk, S: Source, K: Sink, G: G
             LineOutcome::ReadFault => return Ended::ReadFault,
         }
         let request = read_request(buffer.line());
-        let (next, reply) = reply_to(rt, alloc, counters, passes, who, request, gate);
+        let (next, wrote) = write_answer(rt, alloc, counters, passes, sink, who, request, gate);
         who = next;
-        match write_reply(sink, &reply) {
+        match wrote {
             Ok(()) => (),
             Err(Failed) => return Ended::WriteFault,
         }

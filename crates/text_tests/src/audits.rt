@@ -117,6 +117,33 @@ fn worlds_may_be_empty_or_spent(rt: HostRuntime) -> Result<(), Fail> {
     Ok(())
 }
 
+// An item that was added stands with its sentence, and is no query.
+#[test]
+fn an_added_secret_is_told_as_one(rt: HostRuntime) -> Result<(), Fail> {
+    let alloc = rt.alloc();
+    let entries = [
+        entry(alloc, Mark::Yes, "v")?,
+        entry(alloc, Mark::Protected, "a()")?,
+    ];
+    let report = Report {
+        name: "ann",
+        method: "lying",
+        standing: "open",
+        entries: Vec::from_array(alloc, entries)?,
+        secrecies: None,
+        secrets: Vec::from_array(alloc, [secret(alloc, "a()", &[])?])?,
+    };
+    assert_eq!(rt;
+        printed(alloc, &report, false)?.as_str(),
+        "user ann lying open\n1 yes v\n2 protect a()\nsecret a() world -\n"
+    );
+    assert_eq!(rt;
+        printed(alloc, &report, true)?.as_str(),
+        "{\"entries\":[{\"mark\":\"yes\",\"query\":\"v\"},{\"protect\":\"a()\"}],\"method\":\"lying\",\"name\":\"ann\",\"secrets\":[{\"secret\":\"a()\",\"world\":[]}],\"standing\":\"open\"}\n"
+    );
+    Ok(())
+}
+
 #[test]
 fn a_user_who_is_refused_has_one_line(rt: HostRuntime) -> Result<(), Fail> {
     let alloc = rt.alloc();

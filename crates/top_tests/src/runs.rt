@@ -15,6 +15,7 @@ mod batch;
 mod case;
 mod failing;
 mod failing_files;
+mod failing_moves;
 mod failing_servers;
 mod lives;
 mod selfrun;

@@ -4,7 +4,7 @@ use Rattle.cqe_base.specs.declared.user.Method.TheVariants.{Lying}
 use Rattle.cqe_base.specs.Schema.{DatabaseSchema}
 use Rattle.cqe_base.specs.Facts.{FactSet}
 use Rattle.cqe_base.specs.Entailment.{Signed}
-use Rattle.cqe_base.specs.History.{UserProfile, History, log}
+use Rattle.cqe_base.specs.History.{UserProfile, History, log, user_at}
 use Rattle.cqe_base.specs.Censor.{admission_budget}
 use Rattle.cqe_base.specs.OtherWorlds.{guard_at}
 use Rattle.entailment.specs.declared.probes.Verdict.{Verdict}
@@ -17,11 +17,12 @@ world_in Follows = None
 world_in (Open world) = Some world
 world_in Spent = None
 
--- the other world for a secret: that of the machine's model of the log in which what is guarded
--- for the secret is false; for lying that is the disjunction of all secrets, whichever is asked for
+-- the other world for a secret of the user at the end of his history: that of the machine's model
+-- of the log in which what is guarded for the secret is false; for lying that is the disjunction of
+-- all secrets, whichever is asked for
 abbrev pub other_world_of : DatabaseSchema → UserProfile → History → ℕ → Option FactSet
 other_world_of schema user entries secret =
-    let goal : Signed = (guard_at user secret, true) in
+    let goal : Signed = (guard_at (user_at user entries) secret, true) in
     world_in (verdict_of_probe schema (log user entries) goal admission_budget)
 
 -- a liar's other world is that of each of his secrets

@@ -2,10 +2,10 @@
 //! the same replies.
 //!
 //! `law_hides` is the law over the definitions: a legal history of an admitted user hides his
-//! secrets. `law_secrecy` is that of secrecies: each of them is true in such a world and false in
-//! another. `other_world` gives such a world as data: what the user knows is true in it, the secret
-//! false, it admits him, and his entries are legal there.
-//! For lying one world serves for all secrets. Read `worlds`.
+//! secrets, those that it adds among them. `law_secrecy` is that of secrecies: each of them is true
+//! in such a world and false in another. `other_world` gives such a world as data: what the user
+//! knows is true in it, the secret false, it admits him, and his history is legal there. For lying
+//! one world serves for all secrets. Read `worlds`.
 #![tactic(auto)]
 
 mod worlds;

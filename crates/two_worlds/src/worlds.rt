@@ -1,13 +1,13 @@
 //! Other worlds that hide a secret.
 
-ghost use Rattle.std.specs.Prelude.{◌≡◌, ◌<◌, ◌≤◌, ◌↔◌, ◌+◌, ◌++◌, true, false, map, IfOk, OnOk};
-ghost use Rattle.std.specs.Prelude.{IfSome, IsNone, vec_len};
+ghost use Rattle.std.specs.Prelude.{◌≡◌, ◌<◌, ◌≤◌, ◌↔◌, ◌+◌, ◌++◌, true, false, map, length, IfOk};
+ghost use Rattle.std.specs.Prelude.{OnOk, IfSome, IsNone, vec_len};
 ghost use Rattle.cqe_base.specs.Formula.{formula_of, nodes, is_sentence_of};
 ghost use Rattle.cqe_base.specs.Entailment.{entails, IsCountermodel};
 ghost use Rattle.cqe_base.specs.Outcome.{Spent, outcome};
-ghost use Rattle.cqe_base.specs.History.{profile_of, answered_query_of, told_by, log};
+ghost use Rattle.cqe_base.specs.History.{profile_of, answered_query_of, told_by, log, user_at};
 ghost use Rattle.cqe_base.specs.Censor.{admission_budget};
-ghost use Rattle.cqe_base.specs.Limits.{KeepsLimits, KeepsSizes};
+ghost use Rattle.cqe_base.specs.Limits.{KeepsLimits, KeepsSizes, FitsProbes};
 ghost use Rattle.cqe_base.specs.Hiding.{LegalHistoriesHide, SecreciesStayOpen};
 ghost use Rattle.cqe_base.specs.OtherWorlds.{IsLegalSomewhere, guard_at};
 ghost use Rattle.cqe_base.specs.Secrecies.{LiarsKeepNoSecrecy};
@@ -19,7 +19,9 @@ ghost use Rattle.two_worlds.specs.Others.{HidesSecret};
 ghost use Rattle.two_worlds.specs.OtherWorld.{world_in, other_world_of, IsOneForLies};
 
 use censors::{ADMISSION_BUDGET, disjunction};
-use cqe_base::laws::{law_admissible, law_alike, law_entailment, law_limits, law_logs};
+use cqe_base::laws::{
+    law_admissible, law_alike, law_amended_limits, law_entailment, law_limits, law_logs, law_sizes,
+};
 use cqe_base::schema::Schema;
 use cqe_base::sentence::Sentence;
 use cqe_base::user::{Entry, Mark, Method, User};
@@ -27,8 +29,8 @@ use cqe_base::world::World;
 use entailment::{GroundSentence, Probe, Verdict, View, test};
 use std::alloc::{AllocError, Global};
 
-/// Confidentiality: a legal history of an admitted user of the schema hides his secrets. It
-/// computes nothing.
+/// Confidentiality: a legal history of an admitted user of the schema hides his secrets, those that
+/// it adds among them. It computes nothing.
 pub fn law_hides()
     ensures { LegalHistoriesHide }
 {
@@ -46,10 +48,10 @@ pub fn law_secrecy()
 }
 
 /// A world in which what the user knows is true and this secret false, that admits him and for
-/// which his entries are legal, so that he gets the same replies there. It is that of the machine's
-/// model in which the log is true and what is guarded for the secret false; so for lying one and
-/// the same world answers for all secrets. `None` where the search for it needs more than the
-/// admission budget of 4,000,000.
+/// which his history is legal, so that he gets the same replies there. What his history adds to his
+/// secrets is counted behind them. It is that of the machine's model in which the log is true and
+/// what is guarded for the secret false; so for lying one and the same world answers for all
+/// secrets. `None` where the search for it needs more than the admission budget of 4,000,000.
 pub fn other_world(
     alloc: Global,
     schema: &Schema,
@@ -62,24 +64,28 @@ pub fn other_world(
         (map answered_query_of entries.now) }
     requires sizes { KeepsSizes schema.now (profile_of user.now)
         (map answered_query_of entries.now) }
-    requires secret { secret < vec_len user.now.secrets }
+    requires secret { secret < length (user_at (profile_of user.now)
+        (map answered_query_of entries.now)).secrets }
     ensures hides { IfOk result (λ found.
         IfSome found (HidesSecret schema.now (profile_of user.now)
         (map answered_query_of entries.now) secret)) }
     ensures spent { IfOk result (λ found. IsNone found
         ↔ (outcome schema.now (log (profile_of user.now) (map answered_query_of entries.now))
-        (guard_at (profile_of user.now) secret, true) admission_budget ≡ Spent)) }
+        (guard_at (user_at (profile_of user.now) (map answered_query_of entries.now)) secret, true)
+        admission_budget ≡ Spent)) }
     ensures world { IfOk result (λ found. found ≡ other_world_of schema.now (profile_of user.now)
         (map answered_query_of entries.now) secret) }
     ensures one_for_lies { IfOk result (IsOneForLies schema.now (profile_of user.now)
         (map answered_query_of entries.now)) }
 {
-    law_limits();
+    law_amended_limits();
+    law_sizes();
     law_admissible();
     law_alike();
     schema.known();
     let mut view = told_view(alloc, schema, user, entries)?;
-    let goal = ground_guard(alloc, schema, user, secret)?;
+    let amended = user.after(alloc, entries)?;
+    let goal = ground_guard(alloc, schema, &amended, secret)?;
     countermodel(alloc, &mut view, &goal)
 }
 
@@ -121,7 +127,7 @@ fn tell(alloc: Global, view: &mut View<'_>, entry: &Entry) -> Result<(), AllocEr
     match entry.mark {
         Mark::Yes => view.add(alloc, &entry.query, true),
         Mark::No => view.add(alloc, &entry.query, false),
-        Mark::Refused | Mark::Undecided => Ok(()),
+        Mark::Refused | Mark::Undecided | Mark::Protected => Ok(()),
     }
 }
 
@@ -132,12 +138,11 @@ fn ground_guard(
     user: &User,
     secret: u32,
 ) -> Result<GroundSentence, AllocError>
-    requires limits { KeepsLimits schema.now (profile_of user.now) }
+    requires fits { FitsProbes schema.now (profile_of user.now) }
     requires secret { secret < vec_len user.now.secrets }
     ensures grounded { IfOk result (IsGroundOver schema.now) }
     ensures guard { IfOk result (λ made. sentence_of made ≡ guard_at (profile_of user.now) secret) }
 {
-    law_limits();
     let sentence = guard(alloc, user, secret)?;
     let made = GroundSentence::new(alloc, schema, sentence)?;
     Ok(made)

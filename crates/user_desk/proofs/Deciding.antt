@@ -4,14 +4,14 @@ use Rattle.std.proofs.Common.{⊎_elim, arith, append_assoc}
 use Rattle.std.specs.Prelude.{Option, Some, None}
 use Rattle.std.proofs.lemmas.List.{append-nil}
 use Rattle.cqe_base.specs.declared.user.Mark.{Mark}
-use Rattle.cqe_base.specs.declared.user.Mark.TheVariants.{Yes, No, Refused, Undecided}
+use Rattle.cqe_base.specs.declared.user.Mark.TheVariants.{Yes, No, Refused, Undecided, Protected}
 use Rattle.cqe_base.specs.Schema.{DatabaseSchema}
 use Rattle.cqe_base.specs.Facts.{FactSet}
 use Rattle.cqe_base.specs.Formula.{is_sentence_of}
-use Rattle.cqe_base.specs.History.{UserProfile, AnsweredQuery, History, log}
-use Rattle.cqe_base.specs.Censor.{IsLegal, rule, admitted}
+use Rattle.cqe_base.specs.History.{UserProfile, AnsweredQuery, History, is_added}
+use Rattle.cqe_base.specs.Censor.{IsLegalItem, IsLegal, mark_after, safe_after, admitted}
 use Rattle.cqe_base.specs.Limits.{KeepsSizes, KeepsSizesAt}
-use Rattle.cqe_base.specs.Run.{is_full, is_too_large}
+use Rattle.cqe_base.specs.Run.{is_full, is_too_large, is_too_large_secret, has_all_secrets}
 use Rattle.log_journal.specs.Records.{IsJournal}
 use Rattle.log_journal.specs.Walk.{records, damaged}
 use Rattle.log_journal.proofs.Walks.{journals_are_walked}
@@ -37,6 +37,14 @@ bools true true = inl refl
 bools true false = inr (λ e. cc)
 bools false true = inr (λ e. cc)
 bools false false = inl refl
+
+-- what is to hold where a test has this value
+where_so : {A : Type 0} (a b : Bool) → OrNot A → OrNot (a ≡ b → A)
+where_so {A = A} a b decide = by (bools a b)
+  where
+    by : OrNot (a ≡ b) → OrNot (a ≡ b → A)
+    by (inl e) = same (λ x so. x) (λ holds. holds e) decide
+    by (inr never) = inl (λ e. absurd (never e))
 
 at_least : (a b : ℕ) → OrNot (a ≤ b)
 at_least a b = ⊎_elim (λ le. inl le) (λ lt. inr (λ le. absurd (omega (arith, le, lt)))) (compared a b)
@@ -65,6 +73,7 @@ marks a b = same (λ e. back e) (λ e. ap kind_of e) (numbers (kind_of a) (kind_
     marked No = refl
     marked Refused = refl
     marked Undecided = refl
+    marked Protected = refl
 
     back : kind_of a ≡ kind_of b → a ≡ b
     back e = let same_mark : Some a ≡ Some b = sym (marked a) ∙ ap mark_of e ∙ marked b in cc
@@ -88,7 +97,7 @@ all_there {A = A} (Some x ∷ xs) = rest (all_there xs)
     rest (inl found) = inl (x ∷ found.0, ap (λ t. Some x ∷ t) found.1)
     rest (inr never) = inr (more never)
 
--- a fact of each entry and those before it is decided, if it is decided of one
+-- a fact of each item and those before it is decided, if it is decided of one
 module _ (P : History → AnsweredQuery → Type 0) (decide : (before : History) (entry : AnsweredQuery) → OrNot (P before entry)) where
   abbrev EachBehind : History → History → Type 0
   EachBehind front entries = (before : History) (entry : AnsweredQuery) (after : History) → entries ≡ before ++ entry ∷ after → P (front ++ before) entry
@@ -117,18 +126,25 @@ module _ (P : History → AnsweredQuery → Type 0) (decide : (before : History)
   each_behind front (x ∷ xs) = same (of_more front x xs) (back_to front x xs) (both (decide front x) (each_behind (front ++ x ∷ []) xs))
 
 module _ (schema : DatabaseSchema) (world : FactSet) (user : UserProfile) where
+  legal_at_or_not : (before : History) (item : AnsweredQuery) → OrNot (IsLegalItem schema world user before item)
+  legal_at_or_not before item = same
+      (λ p. record { has_mark = p.0; is_safe = p.1 })
+      (λ legal. (legal.has_mark, legal.is_safe))
+      (both (where_so (is_added item.mark) false (marks item.mark (mark_after schema world user before item.query)))
+      (where_so (is_added item.mark) true (bools (safe_after schema user before item.query) true)))
+
   legal_or_not : (entries : History) → OrNot (IsLegal schema world user entries)
-  legal_or_not entries =
-      each_behind (λ before entry. entry.mark
-      ≡ rule schema world user (log user before) entry.query) (λ before entry.
-      marks entry.mark (rule schema world user (log user before) entry.query)) [] entries
+  legal_or_not entries = each_behind (IsLegalItem schema world user) legal_at_or_not [] entries
 
   sizes_at_or_not : (before : History) (entry : AnsweredQuery) → OrNot (KeepsSizesAt schema user before entry)
   sizes_at_or_not before entry = same
-      (λ p. record { sentence = p.0; room = p.1.0; small = p.1.1 })
-      (λ keeps. (keeps.sentence, (keeps.room, keeps.small)))
+      (λ p. record { sentence = p.0; room = p.1.0; small = p.1.1.0; small_secret = p.1.1.1.0; secret_room = p.1.1.1.1 })
+      (λ keeps. (keeps.sentence, (keeps.room, (keeps.small, (keeps.small_secret, keeps.secret_room)))))
       (both (bools (is_sentence_of schema entry.query) true)
-      (both (bools (is_full before entry.length) false) (bools (is_too_large schema user before entry.query) false)))
+      (both (bools (is_full before entry.length) false)
+      (both (bools (is_too_large schema user before entry.query) false)
+      (both (where_so (is_added entry.mark) true (bools (is_too_large_secret schema user before entry.query) false))
+      (where_so (is_added entry.mark) true (bools (has_all_secrets user before) false))))))
 
   sizes_or_not : (entries : History) → OrNot (KeepsSizes schema user entries)
   sizes_or_not entries = each_behind (KeepsSizesAt schema user) sizes_at_or_not [] entries
@@ -145,7 +161,7 @@ module _ (schema : DatabaseSchema) (world : FactSet) (user : UserProfile) where
   journal_or_not header bytes = same
       (λ p. (journals_are_walked header (records bytes) bytes).1 (record { long = p.0; begins = p.1.0; whole = p.1.1; are = refl }))
       (λ is. let walk = (journals_are_walked header (records bytes) bytes).0 is in (walk.long, (walk.begins, walk.whole)))
-      (both (at_least 73 (length bytes)) (both (lists (take 72 bytes) header) (none (damaged 0 0 (drop 72 bytes)))))
+      (both (at_least 73 (length bytes)) (both (lists (take 72 bytes) header) (none (damaged 5 0 0 (drop 72 bytes)))))
 
   -- of one list of entries
   of_entries : (header bytes : List ℕ) (entries : History) → StandsFor schema header entries bytes → OrNot (Opens schema world user header entries bytes)

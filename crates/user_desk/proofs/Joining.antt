@@ -2,11 +2,13 @@
 use Rattle.std.proofs.Common.{◌≡◌, ℕ, Bool, true, false, List, [], ◌∷◌, ◌++◌, refl, sym, ap, subst, ◌∙◌, append_assoc}
 use Rattle.cqe_base.specs.Schema.{DatabaseSchema}
 use Rattle.cqe_base.specs.Facts.{FactSet}
-use Rattle.cqe_base.specs.History.{UserProfile, History}
+use Rattle.cqe_base.specs.History.{UserProfile, History, is_history_of}
 use Rattle.cqe_base.specs.Censor.{IsLegal}
 use Rattle.cqe_base.specs.Run.{UserState, Event, restart, opening, after_event, after_events, entries_found, replies_to_event, replies_from, replies}
 use Rattle.cqe_base.specs.Run.{final_history}
-use Rattle.cqe_base.proofs.Scripts.{runs_stay_legal}
+use Rattle.cqe_base.proofs.Logs.{history-first}
+use Rattle.cqe_base.proofs.Limits.{sizes_are_of_schema}
+use Rattle.cqe_base.proofs.Scripts.{runs_stay_legal, runs_stay_of_schema}
 use Rattle.cqe_base.proofs.Confidential.{legal_histories_hide}
 use Rattle.user_desk.specs.Causes.{Opens}
 use Rattle.user_desk.specs.Joining.{Life, joined, entries_left, replies_in, entries_behind, LivesReplyAsOne, LivesEndAsOne, StaysHidden, LivesStayHidden}
@@ -57,11 +59,19 @@ module _ (schema : DatabaseSchema) (world : FactSet) (user : UserProfile) where
       ∙ ap (λ (s : UserState). s.entries)
       (sym (after_events-append (opening schema world user opened) life.events (restart life.found true ∷ joined lives)))
 
-  pub stays_hidden : (opened : History) (events : List Event) → IsLegal schema world user opened
+  -- a legal history of the schema hides
+  pub hidden_by : (entries : History) → IsLegal schema world user entries → is_history_of schema entries ≡ true → StaysHidden schema world user entries
+  hidden_by entries legal sentences = record {
+    legal = legal;
+    sentences = sentences;
+    hides = λ valid of admits. legal_histories_hide schema world user entries valid of sentences admits legal;
+  }
+
+  pub stays_hidden : (opened : History) (events : List Event) → IsLegal schema world user opened → is_history_of schema opened ≡ true
       → StaysHidden schema world user (final_history schema world user opened events)
-  stays_hidden opened events legal =
-      let behind = runs_stay_legal schema world user opened events legal in
-      record { legal = behind; hides = λ valid of admits. legal_histories_hide schema world user _ valid of admits behind }
+  stays_hidden opened events legal sentences =
+      hidden_by (final_history schema world user opened events) (runs_stay_legal schema world user opened events legal)
+      (runs_stay_of_schema schema world user opened events sentences)
 
 pub lives_reply_as_one : LivesReplyAsOne
 unfolding replies
@@ -72,9 +82,9 @@ unfolding final_history
 lives_end_as_one schema world user opened lives = end_as_one schema world user opened lives
 
 pub lives_stay_hidden : LivesStayHidden
-lives_stay_hidden schema world user opened lives legal =
+lives_stay_hidden schema world user opened lives legal sentences =
     subst (StaysHidden schema world user) (sym (lives_end_as_one schema world user opened lives))
-    (stays_hidden schema world user opened (joined lives) legal)
+    (stays_hidden schema world user opened (joined lives) legal sentences)
 
 module _ (schema : DatabaseSchema) (world : FactSet) (user : UserProfile) (header : List ℕ) where
   -- the lives of calls, what they told, and what the last of them left
@@ -124,7 +134,7 @@ module _ (schema : DatabaseSchema) (world : FactSet) (user : UserProfile) (heade
         replied = lived.told ∙ lives_reply_as_one schema world user opened lived.lives;
         ends = subst (λ (h : History). Opens schema world user header h (bytes_behind bytes calls)) (lives_end_as_one schema world user opened lived.lives)
             lived.left;
-        hidden = stays_hidden schema world user opened (joined lived.lives) opens.legal;
+        hidden = stays_hidden schema world user opened (joined lived.lives) opens.legal (sizes_are_of_schema schema user opened opens.sizes);
       }
 
 pub calls_join : CallsJoin
@@ -186,10 +196,24 @@ module _ (schema : DatabaseSchema) (world : FactSet) (user : UserProfile) (heade
   last_legal bytes opened [] legal over = legal
   last_legal bytes opened (span ∷ spans) legal (is, over) = last_legal span.left span.entries spans is.legal over
 
+  -- what a call left is of the schema, so the entries with which it ended are
+  found_sentences : (span : Span) (found : Bool)
+      → is_history_of schema (entries_found schema world user (shown span.entries standing_open span.pending) found) ≡ true
+      → is_history_of schema span.entries ≡ true
+  found_sentences span true sentences = history-first schema span.entries (option_to_list span.pending) sentences
+  found_sentences span false sentences = sentences
+
+  last_sentences : (bytes : List ℕ) (opened : History) (spans : List Span) → is_history_of schema opened ≡ true
+      → AreSpansOver schema world user header bytes spans → is_history_of schema (last_entries opened spans) ≡ true
+  last_sentences bytes opened [] sentences over = sentences
+  last_sentences bytes opened (span ∷ spans) sentences (is, over) =
+      last_sentences span.left span.entries spans
+      (found_sentences span is.holds.found (sizes_are_of_schema schema user
+      (entries_found schema world user (shown span.entries standing_open span.pending) is.holds.found) is.holds.opens.sizes)) over
+
 pub spans_join : SpansJoin
-spans_join schema world user header bytes opened spans opens over =
-    let legal : IsLegal schema world user (last_entries opened spans) = last_legal schema world user header bytes opened spans opens.legal over in
-    record {
-      each = each_begins schema world user header bytes opened spans over;
-      hidden = record { legal = legal; hides = λ valid of admits. legal_histories_hide schema world user (last_entries opened spans) valid of admits legal };
-    }
+spans_join schema world user header bytes opened spans opens over = record {
+  each = each_begins schema world user header bytes opened spans over;
+  hidden = hidden_by schema world user (last_entries opened spans) (last_legal schema world user header bytes opened spans opens.legal over)
+      (last_sentences schema world user header bytes opened spans (sizes_are_of_schema schema user opened opens.sizes) over);
+}

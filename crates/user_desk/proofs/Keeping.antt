@@ -15,7 +15,7 @@ use Rattle.user_desk.specs.declared.standing.Standing.{Standing}
 use Rattle.user_desk.specs.declared.standing.Standing.TheVariants.{Open, Closed, Sealed}
 use Rattle.log_journal.specs.Opening.{IsRefused}
 use Rattle.log_journal.specs.declared.header.OpenError.{OpenError}
-use Rattle.log_journal.specs.declared.header.OpenError.TheVariants.{NotAJournal, OtherPolicy, Damaged, DiskFault, Memory}
+use Rattle.log_journal.specs.declared.header.OpenError.TheVariants.{NotAJournal, OtherPolicy, Damaged, DiskFault, Memory, OldVersion}
 use Rattle.user_desk.specs.declared.standing.DeskError.TheVariants.{Journal}
 use Rattle.user_desk.proofs.Bytes.{within_more}
 use Rattle.user_desk.proofs.Restarting.{opens_served}
@@ -117,6 +117,7 @@ pub standing_sealed_by : (schema : DatabaseSchema) (world : FactSet) (user : Use
 standing_sealed_by schema world user told header bytes entries before now NotAJournal none refused other = (none, refused)
 standing_sealed_by schema world user told header bytes entries before now OtherPolicy none refused other = (none, refused)
 standing_sealed_by schema world user told header bytes entries before now (Damaged number) none refused other = (none, refused)
+standing_sealed_by schema world user told header bytes entries before now OldVersion none refused other = (none, refused.1)
 standing_sealed_by schema world user told header bytes entries before now DiskFault none refused other = (none, refused)
 standing_sealed_by schema world user told header bytes entries before now Memory none refused other = absurd (other refl)
 

@@ -3,6 +3,7 @@ use Rattle.std.proofs.Common.{◌≡◌, ℕ, ◌≤◌, Bool, true, false, List
 use Rattle.std.specs.Prelude.{Option, Some, None, Ok, is_some}
 use Rattle.std.proofs.lemmas.List.{append-nil}
 use Rattle.cqe_base.specs.declared.user.Mark.{Mark}
+use Rattle.cqe_base.specs.declared.user.Purpose.{Purpose}
 use Rattle.cqe_base.specs.Schema.{DatabaseSchema, Text}
 use Rattle.cqe_base.specs.Facts.{FactSet}
 use Rattle.cqe_base.specs.Formula.{Formula}
@@ -50,27 +51,27 @@ sizes_back schema schema' user user' entries entries' entry entry' s u h e sizes
     (subst (λ x. KeepsSizes schema' x (entries ++ entry ∷ [])) u
     (subst (λ (x : History). KeepsSizes schema' user' (x ++ entry ∷ [])) h (subst (λ x. KeepsSizes schema' user' (entries' ++ x ∷ [])) e sizes)))
 
--- of an ask where nothing was written
+-- of a call where nothing was written
 pub still_holds : (told : Type 0) (image : List ℕ → Type 0) (schema : DatabaseSchema) (world : FactSet) (user : UserProfile) (header : List ℕ)
     (standing : Standing) (entries : History) (in_flight : Option AnsweredQuery) (has_journal has_failed : Bool)
     → IsConsistentDesk told image schema world user header standing entries in_flight has_journal has_failed → IsLegal schema world user entries
-    → KeepsSizes schema user entries → (text : Text) → is_sealed standing ≡ false → in_flight ≡ None
+    → KeepsSizes schema user entries → (purpose : Purpose) (text : Text) → is_sealed standing ≡ false → in_flight ≡ None
     → told → (c : List ℕ) → image c
-    → Holds schema world user header (after_event schema world user (shown entries (standing_of standing) in_flight) (stop text)) c
-still_holds told image schema world user header standing entries in_flight has_journal has_failed kept legal sizes text served idle is c here =
-    stop_keeps schema world user header (shown entries (standing_of standing) in_flight) text c idle
+    → Holds schema world user header (after_event schema world user (shown entries (standing_of standing) in_flight) (stop purpose text)) c
+still_holds told image schema world user header standing entries in_flight has_journal has_failed kept legal sizes purpose text served idle is c here =
+    stop_keeps schema world user header (shown entries (standing_of standing) in_flight) purpose text c idle
     (holds_image schema world user told image header standing entries in_flight has_journal has_failed kept legal sizes is served c here)
 
 -- the same where the text adds no entry
 pub code_holds : (told : Type 0) (image : List ℕ → Type 0) (schema : DatabaseSchema) (world : FactSet) (user : UserProfile) (header : List ℕ)
     (standing : Standing) (entries : History) (in_flight : Option AnsweredQuery) (has_journal has_failed : Bool)
     → IsConsistentDesk told image schema world user header standing entries in_flight has_journal has_failed → IsLegal schema world user entries
-    → KeepsSizes schema user entries → (text : Text) → is_sealed standing ≡ false
+    → KeepsSizes schema user entries → (purpose : Purpose) (text : Text) → is_sealed standing ≡ false
     → AddsNone schema world user (shown entries (standing_of standing) in_flight)
     → told → (c : List ℕ) → image c
-    → Holds schema world user header (after_event schema world user (shown entries (standing_of standing) in_flight) (stop text)) c
-code_holds told image schema world user header standing entries in_flight has_journal has_failed kept legal sizes text served none is c here =
-    stop_leaves schema world user header (shown entries (standing_of standing) in_flight) text c (none text)
+    → Holds schema world user header (after_event schema world user (shown entries (standing_of standing) in_flight) (stop purpose text)) c
+code_holds told image schema world user header standing entries in_flight has_journal has_failed kept legal sizes purpose text served none is c here =
+    stop_leaves schema world user header (shown entries (standing_of standing) in_flight) purpose text c (none purpose text)
     (holds_image schema world user told image header standing entries in_flight has_journal has_failed kept legal sizes is served c here)
 
 -- an open desk, an entry that is lawful behind its own, and the record of that entry
@@ -158,18 +159,19 @@ module _ {told : Type 0} {image : List ℕ → Type 0} {schema : DatabaseSchema}
   no_one h isnt = let e : true ≡ false = sym grows.admits ∙ isnt in absurd cc
 
   -- at each moment of the append
-  pub moment_holds : (text : Text) (query : Formula) (mark : Mark) → IsAnswer schema world user entries text query mark → entry ≡ record {
-    query =
-        query;
-    mark = mark;
-    length = length text;
-  } → told → (c : List ℕ) → KeepsOrAdds bytes next c
-      → Holds schema world user header (after_event schema world user (shown entries (standing_of standing) in_flight) (stop text)) c
-  moment_holds text query mark answer is_entry told_is c either =
+  pub moment_holds : (purpose : Purpose) (text : Text) (query : Formula) (mark : Mark) → IsAnswer schema world user entries purpose text query mark
+      → entry ≡ record {
+        query =
+            query;
+        mark = mark;
+        length = length text;
+      } → told → (c : List ℕ) → KeepsOrAdds bytes next c
+      → Holds schema world user header (after_event schema world user (shown entries (standing_of standing) in_flight) (stop purpose text)) c
+  moment_holds purpose text query mark answer is_entry told_is c either =
       let state = shown entries (standing_of standing) in_flight in
-      let found = entry_of_answer schema world user state text query mark (ap standing_of grows.opened)
+      let found = entry_of_answer schema world user state purpose text query mark (ap standing_of grows.opened)
       (ap (λ (o : Option AnsweredQuery). is_some o) grows.idle) answer in
-      stop_holds schema world user header state text entry c (found.1 ∙ ap (λ x. Some x) (sym is_entry))
+      stop_holds schema world user header state purpose text entry c (found.1 ∙ ap (λ x. Some x) (sym is_entry))
       (⊎_elim
       (λ stands. inl (record { stands = stands; legal = grows.legal; sizes = grows.sizes; none = λ isnt. no_one entries isnt }))
       (λ stands. inr (record { stands = stands; legal = grows.legal_more; sizes = grows.sizes_more; none = λ isnt. no_one (entries ++ entry ∷ []) isnt }))

@@ -1,32 +1,33 @@
 -- Bytes that open a desk aren't refused, and what going through the records shows of them.
-use Rattle.std.proofs.Common.{◌≡◌, ℕ, ◌≤◌, ◌<◌, Bool, true, false, ◌||◌, List, [], ◌∷◌, ◌++◌, length, map, take, refl, sym, ap, ◌∙◌, subst, ⊎_elim, arith}
+use Rattle.std.proofs.Common.{◌≡◌, ℕ, ◌≤◌, ◌<◌, Bool, true, false, ◌||◌, List, [], ◌∷◌, ◌++◌, length, map, refl, sym, ap, ◌∙◌, subst, ⊎_elim, arith}
 use Rattle.std.proofs.Common.{length-append}
 use Rattle.std.specs.Prelude.{Option, Some, None, Result, Ok, Err}
 use Rattle.std.proofs.lemmas.Grind.{common_steps}
-use Rattle.std.proofs.lemmas.List.{map-append, take_at, take-take}
+use Rattle.std.proofs.lemmas.List.{map-append}
 use Rattle.std.proofs.lemmas.Bool.Decides.{nat_tests}
 use Rattle.cqe_base.specs.declared.user.Mark.{Mark}
+use Rattle.cqe_base.specs.declared.user.Mark.TheVariants.{Yes, No, Refused, Undecided, Protected}
+use Rattle.cqe_base.specs.declared.user.Purpose.TheVariants.{Asking}
 use Rattle.cqe_base.specs.Schema.{DatabaseSchema, Text}
 use Rattle.cqe_base.specs.Facts.{FactSet}
 use Rattle.cqe_base.specs.Formula.{Formula}
 use Rattle.cqe_base.specs.Reading.{Refusal, reading}
-use Rattle.cqe_base.specs.History.{UserProfile, AnsweredQuery, History, log}
-use Rattle.cqe_base.specs.Censor.{IsLegal, rule, admitted}
+use Rattle.cqe_base.specs.History.{UserProfile, AnsweredQuery, History, is_added}
+use Rattle.cqe_base.specs.Censor.{IsLegalItem, IsLegal, mark_after, safe_after, admitted}
 use Rattle.cqe_base.specs.Limits.{KeepsSizes, KeepsSizesAt}
-use Rattle.cqe_base.specs.Run.{is_full, is_too_large}
+use Rattle.cqe_base.specs.Run.{is_full, is_too_large, is_too_large_secret, has_all_secrets}
 use Rattle.outside.specs.Faults.{Rose}
 use Rattle.log_journal.specs.Records.{Recorded, IsJournal}
 use Rattle.log_journal.specs.Walk.{records}
 use Rattle.log_journal.proofs.Refusals.{unrefused}
 use Rattle.log_journal.specs.Opening as journal
-use Rattle.log_journal.specs.Opening.{header_bytes, first_eight}
+use Rattle.log_journal.specs.Opening.{header_bytes}
 use Rattle.log_journal.specs.declared.header.Header.{Header}
-use Rattle.log_journal.specs.declared.header.OpenError.{OpenError}
-use Rattle.log_journal.specs.declared.header.OpenError.TheVariants.{NotAJournal, OtherPolicy, Damaged, DiskFault, Memory}
-use Rattle.user_desk.specs.Entries.{mark_of, entry_by, entry_of}
+use Rattle.log_journal.specs.declared.header.OpenError.TheVariants.{NotAJournal, OtherPolicy, Damaged, DiskFault, Memory, OldVersion}
+use Rattle.user_desk.specs.Entries.{mark_of, purpose_by, entry_by, entry_of}
 use Rattle.user_desk.specs.Causes.{Opens, is_beyond, RefusesRecord, RefusesRecords, Refuses, IsSealedBy, IsStanding, IsReplay}
 use Rattle.user_desk.specs.declared.standing.DeskError.{DeskError}
-use Rattle.user_desk.specs.declared.standing.DeskError.TheVariants.{Journal, Stale, Unlawful, Size, NotAdmitted}
+use Rattle.user_desk.specs.declared.standing.DeskError.TheVariants.{Journal, Stale, Unlawful, Size, NotAdmitted, Unsafe}
 use Rattle.user_desk.specs.declared.standing.Standing.{Standing}
 use Rattle.user_desk.specs.declared.standing.Standing.TheVariants.{Open, Closed, Sealed}
 use Rattle.user_desk.proofs.Bytes.{records_are}
@@ -74,31 +75,55 @@ no_true : (b : Bool) → b ≡ false → b ≡ true → ⊥
 no_true b isnt is = let e : false ≡ true = sym isnt ∙ is in cc
 
 module _ (schema : DatabaseSchema) (world : FactSet) (user : UserProfile) where
-  -- the limits let an entry through
-  fits : (before : History) (text : Text) (entry : AnsweredQuery) (query : Formula) → KeepsSizesAt schema user before entry → entry.length ≡ length text
-      → query ≡ entry.query → is_beyond schema world user before (length text) query ≡ false
-  fits before text entry query sizes size same =
-      ap (λ n. is_beyond schema world user before n query) (sym size) ∙ ap (λ q. is_beyond schema world user before entry.length q) same
-      ∙ ap (λ b. b || is_too_large schema user before entry.query) sizes.room ∙ sizes.small
+  -- the limits let an item through that was asked
+  fits_asked : (before : History) (entry : AnsweredQuery) → KeepsSizesAt schema user before entry
+      → is_beyond schema world user before Asking entry.length entry.query ≡ false
+  fits_asked before entry sizes = ap (λ b. b || is_too_large schema user before entry.query) sizes.room ∙ sizes.small
 
-  -- the record of a lawful entry isn't refused
+  -- the limits let an item through, by what its call was made for
+  fits_by : (before : History) (entry : AnsweredQuery) (mark : Mark) → KeepsSizesAt schema user before entry → entry.mark ≡ mark
+      → is_beyond schema world user before (purpose_by mark) entry.length entry.query ≡ false
+  fits_by before entry Yes sizes is = fits_asked before entry sizes
+  fits_by before entry No sizes is = fits_asked before entry sizes
+  fits_by before entry Refused sizes is = fits_asked before entry sizes
+  fits_by before entry Undecided sizes is = fits_asked before entry sizes
+  fits_by before entry Protected sizes is =
+      ap (λ b. b || (is_too_large_secret schema user before entry.query || has_all_secrets user before)) sizes.room
+      ∙ ap (λ b. b || has_all_secrets user before) (sizes.small_secret (ap is_added is)) ∙ sizes.secret_room (ap is_added is)
+
+  fits : (before : History) (text : Text) (entry : AnsweredQuery) (query : Formula) (mark : Mark) → KeepsSizesAt schema user before entry
+      → entry.length ≡ length text → query ≡ entry.query → entry.mark ≡ mark
+      → is_beyond schema world user before (purpose_by mark) (length text) query ≡ false
+  fits before text entry query mark sizes size same is =
+      (λ k. is_beyond schema world user before (purpose_by mark) (sym size k) (same k)) ∙ fits_by before entry mark sizes is
+
+  -- the record of a lawful item isn't refused
   lawful : (before : History) (next : Recorded) (entry : AnsweredQuery) (why : DeskError) → entry_of schema next ≡ Some entry
-      → entry.mark ≡ rule schema world user (log user before) entry.query → KeepsSizesAt schema user before entry
+      → IsLegalItem schema world user before entry → KeepsSizesAt schema user before entry
       → RefusesRecord schema world user before next why → ⊥
-  lawful before next entry (Stale number) is marks sizes refused =
+  lawful before next entry (Stale number) is legal sizes refused =
       let shows = entry_shows next.1 (mark_of next.0) (reading schema next.1) entry is in
       no_err (reading schema next.1) entry.query refused.1 shows.reads refused.2
-  lawful before next entry (Size number) is marks sizes refused =
+  lawful before next entry (Size number) is legal sizes refused =
       let shows = entry_shows next.1 (mark_of next.0) (reading schema next.1) entry is in
       let same = same_ok (reading schema next.1) refused.1 entry.query refused.2 shows.reads in
-      no_true (is_beyond schema world user before (length next.1) refused.1) (fits before next.1 entry refused.1 sizes shows.size same) refused.3
-  lawful before next entry (Unlawful number stored computed) is marks sizes refused =
+      let marked = same_some (mark_of next.0) entry.mark refused.3 shows.marks refused.4 in
+      no_true (is_beyond schema world user before (purpose_by refused.3) (length next.1) refused.1)
+      (fits before next.1 entry refused.1 refused.3 sizes shows.size same marked) refused.5
+  lawful before next entry (Unlawful number stored computed) is legal sizes refused =
       let shows = entry_shows next.1 (mark_of next.0) (reading schema next.1) entry is in
       let same = same_ok (reading schema next.1) refused.1 entry.query refused.2 shows.reads in
       let is_stored = same_some (mark_of next.0) stored entry.mark refused.4 shows.marks in
-      refused.6 (is_stored ∙ marks ∙ ap (λ q. rule schema world user (log user before) q) (sym same) ∙ sym refused.5)
-  lawful before next entry (Journal why) is marks sizes refused = refused
-  lawful before next entry (NotAdmitted admission) is marks sizes refused = refused
+      let marks = legal.has_mark (ap is_added (sym is_stored) ∙ refused.5) in
+      refused.7 (is_stored ∙ marks ∙ ap (λ q. mark_after schema world user before q) (sym same) ∙ sym refused.6)
+  lawful before next entry (Unsafe number) is legal sizes refused =
+      let shows = entry_shows next.1 (mark_of next.0) (reading schema next.1) entry is in
+      let same = same_ok (reading schema next.1) refused.1 entry.query refused.2 shows.reads in
+      let added : entry.mark ≡ Protected = same_some (mark_of next.0) entry.mark Protected shows.marks refused.4 in
+      no_true (safe_after schema user before refused.1) refused.5
+      (ap (λ s. safe_after schema user before s) same ∙ legal.is_safe (ap is_added added))
+  lawful before next entry (Journal why) is legal sizes refused = refused
+  lawful before next entry (NotAdmitted admission) is legal sizes refused = refused
 
 -- ---- a list of records
 
@@ -138,7 +163,8 @@ module _ (schema : DatabaseSchema) (world : FactSet) (user : UserProfile) where
   -- bytes that open a desk show no reason to refuse them
   pub not_refused : (header : Header) (bytes : List ℕ) (entries : History) (why : DeskError) → Opens schema world user (header_bytes header) entries bytes
       → Refuses schema world user (header_bytes header) bytes why → ⊥
-  not_refused header bytes entries (Journal why) opens refused = unrefused header (records bytes) bytes opens.stands.journal why refused
+  not_refused header bytes entries (Journal why) opens refused =
+      unrefused 5 (header_bytes header) (records bytes) bytes (opens.stands.journal, opens.stands.journal.each) why refused
   not_refused header bytes entries (NotAdmitted admission) opens refused =
       refused.3 (no_records (records bytes) entries opens.stands.are (opens.none refused.1))
   not_refused header bytes entries (Stale number) opens refused =
@@ -147,6 +173,8 @@ module _ (schema : DatabaseSchema) (world : FactSet) (user : UserProfile) where
       all_lawful (records bytes) entries (Size number) opens.stands.are opens.legal opens.sizes refused.2
   not_refused header bytes entries (Unlawful number stored computed) opens refused =
       all_lawful (records bytes) entries (Unlawful number stored computed) opens.stands.are opens.legal opens.sizes refused.2
+  not_refused header bytes entries (Unsafe number) opens refused =
+      all_lawful (records bytes) entries (Unsafe number) opens.stands.are opens.legal opens.sizes refused.2
 
   -- where they open a desk, only a fault of the disk seals it
   pub sealed_by_fault : (told : Type 0) (header : Header) (bytes : List ℕ) (entries : History) (before now : ℕ) (why : DeskError) → told
@@ -160,6 +188,8 @@ module _ (schema : DatabaseSchema) (world : FactSet) (user : UserProfile) where
       absurd (not_refused header bytes entries (Journal OtherPolicy) opens (sealed is))
   sealed_by_fault told header bytes entries before now (Journal (Damaged number)) is opens sealed =
       absurd (not_refused header bytes entries (Journal (Damaged number)) opens (sealed is))
+  sealed_by_fault told header bytes entries before now (Journal OldVersion) is opens sealed =
+      absurd (not_refused header bytes entries (Journal OldVersion) opens (sealed is))
   sealed_by_fault told header bytes entries before now (NotAdmitted admission) is opens sealed =
       absurd (not_refused header bytes entries (NotAdmitted admission) opens (sealed is))
   sealed_by_fault told header bytes entries before now (Stale number) is opens sealed =
@@ -167,6 +197,8 @@ module _ (schema : DatabaseSchema) (world : FactSet) (user : UserProfile) where
   sealed_by_fault told header bytes entries before now (Size number) is opens sealed = absurd (not_refused header bytes entries (Size number) opens (sealed is))
   sealed_by_fault told header bytes entries before now (Unlawful number stored computed) is opens sealed =
       absurd (not_refused header bytes entries (Unlawful number stored computed) opens (sealed is))
+  sealed_by_fault told header bytes entries before now (Unsafe number) is opens sealed =
+      absurd (not_refused header bytes entries (Unsafe number) opens (sealed is))
 
   -- ---- from the records to the standing
 
@@ -228,6 +260,14 @@ module _ (schema : DatabaseSchema) (world : FactSet) (user : UserProfile) where
       journal_of header bytes all (journal is),
       replay.1,
       subst (λ l. RefusesRecords schema world user l (Unlawful number stored computed)) (sym (records_are header all bytes (journal is))) replay.2,
+    ),
+  )
+  standing_from told header bytes all entries before now (Sealed (Unsafe number)) journal legal sizes replay = (
+    replay.0,
+    λ is. (
+      journal_of header bytes all (journal is),
+      replay.1,
+      subst (λ l. RefusesRecords schema world user l (Unsafe number)) (sym (records_are header all bytes (journal is))) replay.2,
     ),
   )
 

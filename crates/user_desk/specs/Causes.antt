@@ -1,14 +1,18 @@
 -- Which bytes open a desk, and why other bytes are refused.
 use Rattle.std.specs.Prelude.{◌≡◌, ◌≢◌, ◌⊎◌, ℕ, ◌≤◌, Bool, true, false, ◌||◌, List, [], ◌∷◌, ◌++◌}
 use Rattle.std.specs.Prelude.{length, map, take, Some, Ok, Err}
+use Rattle.cqe_base.specs.declared.user.Mark.{Mark}
+use Rattle.cqe_base.specs.declared.user.Mark.TheVariants.{Protected}
+use Rattle.cqe_base.specs.declared.user.Purpose.{Purpose}
+use Rattle.cqe_base.specs.declared.user.Purpose.TheVariants.{Asking, Protecting}
 use Rattle.cqe_base.specs.Schema.{DatabaseSchema}
 use Rattle.cqe_base.specs.Facts.{FactSet}
 use Rattle.cqe_base.specs.Formula.{Formula}
 use Rattle.cqe_base.specs.Reading.{Refusal, reading}
-use Rattle.cqe_base.specs.History.{UserProfile, History, log}
-use Rattle.cqe_base.specs.Censor.{IsLegal, rule, admitted}
+use Rattle.cqe_base.specs.History.{UserProfile, History, is_added}
+use Rattle.cqe_base.specs.Censor.{IsLegal, mark_after, safe_after, admitted}
 use Rattle.cqe_base.specs.Limits.{KeepsSizes}
-use Rattle.cqe_base.specs.Run.{is_full, is_too_large}
+use Rattle.cqe_base.specs.Run.{is_full, is_too_large, is_too_large_secret, has_all_secrets}
 use Rattle.outside.specs.Faults.{Rose}
 use Rattle.log_journal.specs.Records.{Recorded, IsJournal}
 use Rattle.log_journal.specs.Walk.{records}
@@ -16,10 +20,10 @@ use Rattle.log_journal.specs.Opening as journal
 use Rattle.log_journal.specs.declared.header.Header.{Header}
 use Rattle.log_journal.specs.declared.header.OpenError.TheVariants.{DiskFault, Memory}
 use Rattle.censors.specs.Admitting.{admission_of}
-use Rattle.user_desk.specs.Entries.{mark_of, entry_of, StandsFor, StandsWithin}
+use Rattle.user_desk.specs.Entries.{mark_of, purpose_by, entry_of, StandsFor, StandsWithin}
 use Rattle.user_desk.specs.declared.standing.DeskError.{DeskError}
 use Rattle.user_desk.specs.declared.standing.DeskError.TheVariants.{Journal, Stale, Unlawful, Size}
-use Rattle.user_desk.specs.declared.standing.DeskError.TheVariants.{NotAdmitted}
+use Rattle.user_desk.specs.declared.standing.DeskError.TheVariants.{NotAdmitted, Unsafe}
 use Rattle.user_desk.specs.declared.standing.Standing.{Standing}
 use Rattle.user_desk.specs.declared.standing.Standing.TheVariants.{Open, Closed, Sealed}
 
@@ -39,24 +43,32 @@ module _ (schema : DatabaseSchema) (world : FactSet) (user : UserProfile) where
     pub enough : least ≤ count
     pub opens : Opens header (take count entries) bytes
 
-  -- whether the history is full for a text of this length, or the view too large for its query
-  abbrev pub is_beyond : History → ℕ → Formula → Bool
-  is_beyond before size query = is_full before size || is_too_large schema user before query
+  -- whether the history is full for a text of this length, or its sentence too large for the view;
+  -- or it is to be added, and is too large for a secret or finds no room
+  abbrev pub is_beyond : History → Purpose → ℕ → Formula → Bool
+  is_beyond before Asking size query = is_full before size || is_too_large schema user before query
+  is_beyond before Protecting size secret = is_full before size
+      || (is_too_large_secret schema user before secret || has_all_secrets user before)
 
-  -- Behind these entries a record is refused for this reason, and for none that stands before it:
-  -- its text isn't a sentence; its text or its query is beyond the limits; the rule gives another
-  -- mark than the stored one.
+  -- Behind these items a record is refused for this reason, and for none that stands before it: its
+  -- text isn't a sentence; its text or its sentence is beyond the limits; it was asked, and the
+  -- rule gives another mark than the stored one; or it was added, and isn't safe.
   abbrev pub RefusesRecord : History → Recorded → DeskError → Type 0
   RefusesRecord before next (Stale number) =
       (number ≡ length before) × (why : Refusal) × (reading schema next.1 ≡ Err why)
   RefusesRecord before next (Size number) =
       (number ≡ length before) × (query : Formula) × (reading schema next.1 ≡ Ok query)
-      × (is_beyond before (length next.1) query ≡ true)
+      × (mark : Mark) × (mark_of next.0 ≡ Some mark)
+      × (is_beyond before (purpose_by mark) (length next.1) query ≡ true)
   RefusesRecord before next (Unlawful number stored computed) =
       (number ≡ length before) × (query : Formula) × (reading schema next.1 ≡ Ok query)
-      × (is_beyond before (length next.1) query ≡ false)
-      × (mark_of next.0 ≡ Some stored) × (computed ≡ rule schema world user (log user before) query)
-      × (stored ≢ computed)
+      × (is_beyond before Asking (length next.1) query ≡ false)
+      × (mark_of next.0 ≡ Some stored) × (is_added stored ≡ false)
+      × (computed ≡ mark_after schema world user before query) × (stored ≢ computed)
+  RefusesRecord before next (Unsafe number) =
+      (number ≡ length before) × (secret : Formula) × (reading schema next.1 ≡ Ok secret)
+      × (is_beyond before Protecting (length next.1) secret ≡ false)
+      × (mark_of next.0 ≡ Some Protected) × (safe_after schema user before secret ≡ false)
   RefusesRecord before next why = ⊥
 
   -- of these records one is refused for this reason, and those before it stand for a legal history

@@ -1,8 +1,10 @@
--- What the records of a journal stand for: the entries of a user.
+-- What the records of a journal stand for: the items of a user.
 use Rattle.std.specs.Prelude.{◌≡◌, ℕ, ◌+◌, ◌==◌, ◌≤◌, max, List, length, map, take, sum_by}
 use Rattle.std.specs.Prelude.{Option, Some, None, Result, Ok, if◌then◌else◌}
 use Rattle.cqe_base.specs.declared.user.Mark.{Mark}
-use Rattle.cqe_base.specs.declared.user.Mark.TheVariants.{Yes, No, Refused, Undecided}
+use Rattle.cqe_base.specs.declared.user.Mark.TheVariants.{Yes, No, Refused, Undecided, Protected}
+use Rattle.cqe_base.specs.declared.user.Purpose.{Purpose}
+use Rattle.cqe_base.specs.declared.user.Purpose.TheVariants.{Asking, Protecting}
 use Rattle.cqe_base.specs.Schema.{DatabaseSchema, Text}
 use Rattle.cqe_base.specs.Formula.{Formula}
 use Rattle.cqe_base.specs.Reading.{Refusal, reading}
@@ -16,6 +18,7 @@ kind_of Yes = 1
 kind_of No = 2
 kind_of Refused = 3
 kind_of Undecided = 4
+kind_of Protected = 5
 
 -- the mark of a record of this kind
 abbrev pub mark_of : ℕ → Option Mark
@@ -24,15 +27,24 @@ mark_of kind =
     else if kind == 2 then Some No
     else if kind == 3 then Some Refused
     else if kind == 4 then Some Undecided
+    else if kind == 5 then Some Protected
     else None
 
--- the entry of a text with this mark and this reading
+-- what the call was made for whose record has this mark
+abbrev pub purpose_by : Mark → Purpose
+purpose_by Yes = Asking
+purpose_by No = Asking
+purpose_by Refused = Asking
+purpose_by Undecided = Asking
+purpose_by Protected = Protecting
+
+-- the item of a text with this mark and this reading
 abbrev pub entry_by : Text → Option Mark → Result Formula Refusal → Option AnsweredQuery
 entry_by text (Some mark) (Ok query) =
     Some (record { query = query; mark = mark; length = length text })
 entry_by text mark read = None
 
--- the entry that a record stands for: the query that its text reads as, the mark of its kind, and
+-- the item that a record stands for: the sentence that its text reads as, the mark of its kind, and
 -- the text's length
 abbrev pub entry_of : DatabaseSchema → Recorded → Option AnsweredQuery
 entry_of schema one = entry_by one.1 (mark_of one.0) (reading schema one.1)

@@ -3,7 +3,7 @@ use Rattle.std.specs.Prelude.{◌≡◌, ℕ, Bool, true, List, [], ◌∷◌, �
 use Rattle.std.specs.List.{flat_map, AllByRecursion}
 use Rattle.cqe_base.specs.Schema.{DatabaseSchema, is_valid_schema}
 use Rattle.cqe_base.specs.Facts.{FactSet}
-use Rattle.cqe_base.specs.History.{UserProfile, AnsweredQuery, History, is_user_of}
+use Rattle.cqe_base.specs.History.{UserProfile, AnsweredQuery, History, is_user_of, is_history_of}
 use Rattle.cqe_base.specs.Censor.{IsLegal, admitted}
 use Rattle.cqe_base.specs.Hiding.{Hides}
 use Rattle.cqe_base.specs.Run.{Reply, Event, restart, opening, after_events, entries_found}
@@ -58,19 +58,20 @@ LivesEndAsOne =
     → entries_behind schema world user opened lives
     ≡ final_history schema world user opened (joined lives)
 
--- it is legal, and that of an admitted user hides
+-- it is legal and of the schema, and that of an admitted user hides
 pub record StaysHidden (schema : DatabaseSchema) (world : FactSet) (user : UserProfile)
     (entries : History) : Type 0 where
   pub legal : IsLegal schema world user entries
+  pub sentences : is_history_of schema entries ≡ true
   pub hides : is_valid_schema schema ≡ true → is_user_of schema user ≡ true
       → admitted schema world user ≡ true → Hides schema world user entries
 
--- so it is over any lives that begin with a legal history
+-- so it is over any lives that begin with a legal history of the schema
 abbrev pub LivesStayHidden : Type 0
 LivesStayHidden =
     (schema : DatabaseSchema) (world : FactSet) (user : UserProfile) (opened : History)
     (lives : List Life)
-    → IsLegal schema world user opened
+    → IsLegal schema world user opened → is_history_of schema opened ≡ true
     → StaysHidden schema world user (entries_behind schema world user opened lives)
 
 -- ---- over the bytes between two lives

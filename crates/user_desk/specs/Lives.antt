@@ -1,12 +1,13 @@
--- A user's state over asks, crashes and restarts, and the bytes that stand for it.
+-- A user's state over calls, crashes and restarts, and the bytes that stand for it.
 use Rattle.std.specs.Prelude.{◌≡◌, ℕ, Bool, true, false, List, [], ◌++◌, Option, None, is_some}
+use Rattle.cqe_base.specs.declared.user.Purpose.{Purpose}
 use Rattle.cqe_base.specs.Schema.{DatabaseSchema, Text}
 use Rattle.cqe_base.specs.Facts.{FactSet}
 use Rattle.cqe_base.specs.History.{UserProfile, AnsweredQuery, History}
 use Rattle.cqe_base.specs.Run
-use Rattle.cqe_base.specs.Run.{Reply, UserState, Ending, Event, failed, ask, restart, after_event}
+use Rattle.cqe_base.specs.Run.{Reply, UserState, Ending, Event, failed, call, restart, after_event}
 use Rattle.cqe_base.specs.Run.{after_events}
-use Rattle.cqe_base.specs.Run.{reply_to_ask, entries_found, entry_at, standing_sealed}
+use Rattle.cqe_base.specs.Run.{reply_to_call, entries_found, entry_at, standing_sealed}
 use Rattle.outside.specs.Faults.{Rose}
 use Rattle.user_desk.specs.Causes.{Opens}
 use Rattle.user_desk.specs.declared.standing.Standing.{Standing}
@@ -48,13 +49,13 @@ module _ (schema : DatabaseSchema) (world : FactSet) (user : UserProfile) where
   abbrev pub HoldsAmid : List ℕ → UserState → List Event → List ℕ → Type 0
   HoldsAmid header state events bytes = HoldsFrom header state [] events bytes
 
-  -- an ask of the text, with some ending, leads from the state to one that is now, and has this
+  -- a call with the text, with some ending, leads from the state to one that is now, and has this
   -- reply; an append failed only where the count of faults rose
-  pub record Settles (is_now : UserState → Type 0) (state : UserState) (text : Text)
-      (answer : Reply) (before now : ℕ) : Type 0 where
+  pub record Settles (is_now : UserState → Type 0) (state : UserState) (purpose : Purpose)
+      (text : Text) (answer : Reply) (before now : ℕ) : Type 0 where
     pub ending : Ending
-    pub after : is_now (after_event schema world user state (ask text ending))
-    pub reply : answer ≡ reply_to_ask schema world user state text ending
+    pub after : is_now (after_event schema world user state (call purpose text ending))
+    pub reply : answer ≡ reply_to_call schema world user state purpose text ending
     pub cause : ending ≡ failed → Rose before now
 
   -- a restart leads from the state to one that is now; it finds only an entry that was in flight,
@@ -70,9 +71,11 @@ module _ (schema : DatabaseSchema) (world : FactSet) (user : UserProfile) where
   -- a desk with this standing, which shows this state, answers every text so and stays as it is
   abbrev pub AnswersAll : Standing → UserState → Reply → Type 0
   AnswersAll standing desk_state answer =
-      (state : UserState) → IsState standing desk_state state → (text : Text) (count : ℕ)
-      → Settles (IsState standing desk_state) state text answer count count
+      (state : UserState) → IsState standing desk_state state
+      → (purpose : Purpose) (text : Text) (count : ℕ)
+      → Settles (IsState standing desk_state) state purpose text answer count count
 
-  -- in this state no text adds an entry
+  -- in this state no call adds an item
   abbrev pub AddsNone : UserState → Type 0
-  AddsNone state = (text : Text) → entry_at schema world user state text ≡ None
+  AddsNone state =
+      (purpose : Purpose) (text : Text) → entry_at schema world user state purpose text ≡ None

@@ -7,11 +7,11 @@ use Rattle.log_journal.specs.Records.{Recorded}
 use Rattle.user_log.specs.UserLogs.{kept_schema, kept_world, kept_user}
 use Rattle.user_log.specs.declared.log.UserLog.{UserLog}
 use Rattle.user_log.specs.declared.reply.Reply.{Reply}
-use Rattle.user_log.specs.declared.reply.Reply.TheVariants.{Syntax}
+use Rattle.user_log.specs.declared.reply.Reply.TheVariants as replies
 use Rattle.user_desk.specs.Entries.{entry_of}
 use Rattle.user_desk.specs.Causes.{RefusesRecord}
 use Rattle.user_desk.specs.declared.standing.DeskError.{DeskError}
-use Rattle.user_desk.specs.declared.standing.DeskError.TheVariants.{Stale, Size}
+use Rattle.user_desk.specs.declared.standing.DeskError.TheVariants.{Stale, Size, Unsafe}
 
 -- the log is of this user in this world
 pub record IsLogOf (schema : DatabaseSchema) (world : FactSet) (user : UserProfile)
@@ -20,7 +20,7 @@ pub record IsLogOf (schema : DatabaseSchema) (world : FactSet) (user : UserProfi
   pub world_is : kept_world log ≡ world
   pub user_is : kept_user log ≡ user
 
--- a record was taken as the next entry, or is refused behind these
+-- a record was taken as the next item, or is refused behind these
 abbrev pub IsTaken : DatabaseSchema → FactSet → UserProfile → History → History → Recorded
     → Option DeskError → Type 0
 IsTaken schema world user old new next None =
@@ -29,5 +29,6 @@ IsTaken schema world user old new next (Some why) = RefusesRecord schema world u
 
 -- why the record of this number is refused, whose text is answered by a code
 abbrev pub refused_by : Reply → ℕ → DeskError
-refused_by (Syntax refusal) number = Stale number
+refused_by (replies.Syntax refusal) number = Stale number
+refused_by replies.Unsafe number = Unsafe number
 refused_by code number = Size number

@@ -20,14 +20,13 @@ ghost use Rattle.user_desk.specs.Standings.{is_open, is_sealed};
 use crate::kinds::kind_of;
 use crate::standing::Standing;
 use crate::store::Store;
-use censors::LentViews;
 use cqe_base::sentence::Sentence;
-use cqe_base::user::{Entry, Mark, User};
+use cqe_base::user::{Entry, Mark, Purpose, User};
 use entailment::GroundSentence;
 use log_journal::Header;
 use outside::Disk;
 use std::alloc::{AllocError, Global};
-use user_log::{Examined, Examiner, Reply, UserLog, Weighed};
+use user_log::{Examined, Examiner, Lent, Reply, UserLog, Weighed};
 
 /// One user's desk: his log, and a journal of it on a disk.
 #[derive(Drop)]
@@ -170,13 +169,9 @@ impl<'w, D: Disk> Desk<'w, D> {
     }
 
     /// Views of the log, after which the query of a text can be examined outside of the desk. There
-    /// are none where a code answers the text, or memory is wanting. The desk stays as it is.
-    pub fn lend(
-        &mut self,
-        alloc: Global,
-        text: &str,
-        query: &GroundSentence,
-    ) -> Option<LentViews<'w>>
+    /// are none where a code answers the text, where a secret was added, or where memory is
+    /// wanting. The desk stays as it is.
+    pub fn lend(&mut self, alloc: Global, text: &str, query: &GroundSentence) -> Option<Lent<'w>>
         requires { length text.now ≤ 4096 }
         ensures same { IsOfSame self.old self.new }
         ensures opening { IsOfOneOpening self.old self.new }
@@ -193,21 +188,27 @@ impl<'w, D: Disk> Desk<'w, D> {
         self.log.lend(alloc, text, query)
     }
 
-    /// The reply to a text by the entries so far, with what was found of it before, if that was
-    /// done. A mark comes once its entry is on the disk, and adds it; want of memory and a code
+    /// The reply to a call by the items so far, with what was found of a query before, if that was
+    /// done. A mark comes once its item is on the disk, and adds it; want of memory and a code
     /// change nothing, and from the first write on the answer is a mark or that the append failed.
     /// Once one had failed before, the disk stays as it is.
-    pub fn settle(&mut self, alloc: Global, text: &str, examined: Option<Examined<'w>>) -> Reply
+    pub fn settle(
+        &mut self,
+        alloc: Global,
+        purpose: Purpose,
+        text: &str,
+        examined: Option<Examined<'w>>,
+    ) -> Reply
         requires short { length text.now ≤ 4096 }
         requires examined { IfSome examined (IsExamined (desk_schema self.old) (desk_user self.old)
             (desk_history self.old) text.now) }
         ensures same { IsOfSame self.old self.new }
         ensures opening { IsOfOneOpening self.old self.new }
 
-        // It is an ask of the run, with its reply and its ending.
+        // It is a call of the run, with its reply and its ending.
         ensures settled { (state : UserState) → IsIn self.old state
             → Settles (desk_schema self.old) (desk_world self.old) (desk_user self.old)
-            (IsIn self.new) state text.now
+            (IsIn self.new) state purpose text.now
             (reply_of result) (D.faults (desk_disk self.old)) (D.faults (desk_disk self.new)) }
         ensures broken { (result ≡ Reply.Broken) ↔ IsTrue (is_broken_desk self.new) }
         ensures untouched { HasNoWrite result → desk_disk self.new ≡ desk_disk self.old }
@@ -215,14 +216,14 @@ impl<'w, D: Disk> Desk<'w, D> {
             → desk_disk self.new ≡ desk_disk self.old }
         ensures count { D.faults (desk_disk self.old) ≤ D.faults (desk_disk self.new) }
 
-        // At every moment of the call each image stands for what a crash of this ask leaves.
+        // At every moment of the call each image stands for what a crash that cuts it leaves.
         ensures moments { D.tells → is_sealed (desk_standing self.old) ≡ false → (c : List ℕ)
             → D.image_since (desk_disk self.new) (D.moment (desk_disk self.old)) c
             → Holds (desk_schema self.old) (desk_world self.old) (desk_user self.old)
             (desk_header self.old)
             (after_event (desk_schema self.old) (desk_world self.old) (desk_user self.old)
             (state_of self.old)
-            (stop text.now)) c }
+            (stop purpose text.now)) c }
         ensures time { Elapses (D.moment (desk_disk self.old)) (D.moment (desk_disk self.new))
             (D.image_since (desk_disk self.old)) (D.image_since (desk_disk self.new)) }
     {
@@ -230,8 +231,8 @@ impl<'w, D: Disk> Desk<'w, D> {
         if let Some(code) = self.refusal() {
             return code;
         }
-        match self.log.weigh(alloc, text, examined) {
-            Ok(Weighed::Answer(query, mark)) => self.record(alloc, text, query, mark),
+        match self.log.weigh(alloc, purpose, text, examined) {
+            Ok(Weighed::Answer(query, mark)) => self.record(alloc, purpose, text, query, mark),
             Ok(Weighed::Code(code)) => code,
             Err(_) => Reply::Memory,
         }
@@ -258,18 +259,26 @@ impl<'w, D: Disk> Desk<'w, D> {
         }
     }
 
-    // Appends the entry of a text that was weighed to the journal, and adds it to the log.
-    fn record(&mut self, alloc: Global, text: &str, query: Sentence, mark: Mark) -> Reply
+    // Appends the item of a text that was weighed to the journal, and adds it to the log. What the
+    // call was made for is what its clauses speak of.
+    fn record(
+        &mut self,
+        alloc: Global,
+        purpose: Purpose,
+        text: &str,
+        query: Sentence,
+        mark: Mark,
+    ) -> Reply
         requires short { length text.now ≤ 4096 }
         requires opened { desk_standing self.old ≡ Standing.Open }
         requires whole { entry_in_flight self.old ≡ None }
         requires answer { IsAnswer (desk_schema self.old) (desk_world self.old) (desk_user self.old)
-            (desk_history self.old) text.now (formula_of query) mark }
+            (desk_history self.old) purpose text.now (formula_of query) mark }
         ensures same { IsOfSame self.old self.new }
         ensures opening { IsOfOneOpening self.old self.new }
         ensures settled { Settles (desk_schema self.old) (desk_world self.old) (desk_user self.old)
-            (λ state. state ≡ state_of self.new) (state_of self.old) text.now (reply_of result)
-            (D.faults (desk_disk self.old)) (D.faults (desk_disk self.new)) }
+            (λ state. state ≡ state_of self.new) (state_of self.old) purpose text.now
+            (reply_of result) (D.faults (desk_disk self.old)) (D.faults (desk_disk self.new)) }
         ensures broken { (result ≡ Reply.Broken) ↔ IsTrue (is_broken_desk self.new) }
         ensures untouched { HasNoWrite result → desk_disk self.new ≡ desk_disk self.old }
         ensures count { D.faults (desk_disk self.old) ≤ D.faults (desk_disk self.new) }
@@ -279,7 +288,7 @@ impl<'w, D: Disk> Desk<'w, D> {
             (desk_header self.old)
             (after_event (desk_schema self.old) (desk_world self.old) (desk_user self.old)
             (state_of self.old)
-            (stop text.now)) c }
+            (stop purpose text.now)) c }
         ensures time { Elapses (D.moment (desk_disk self.old)) (D.moment (desk_disk self.new))
             (D.image_since (desk_disk self.old)) (D.image_since (desk_disk self.new)) }
     {

@@ -2,10 +2,11 @@
 //!
 //! `open_desk` opens any disk to a legal history within the limits, or seals the desk for a reason
 //! that it names.
-//! `Desk::settle` answers an ask by the user's own entries. It makes all room first, and a mark
-//! comes only once each crash leaves its entry. The type keeps that the entries are legal and that
-//! each image of the disk stands for them, or after a fault for these and the entry that was in
-//! flight. So asks, crashes and restarts are the events of a run.
+//! `Desk::settle` answers a call by the user's own items: a text that is asked, or one that is to
+//! be added to his secrets. It makes all room first, and a mark comes only once each crash leaves
+//! its item. The type keeps that the entries are legal and that each image of the disk stands for
+//! them, or after a fault for these and the entry that was in flight. So calls, crashes and
+//! restarts are the events of a run.
 //! A desk also keeps its opening, as values that contracts alone see: what its images were at each
 //! moment since then, and how its disk's count of faults has risen.
 //!

@@ -10,7 +10,7 @@ ghost use Rattle.user_log.specs.UserLogs.{IsOfSame};
 ghost use Rattle.user_desk.specs.Causes.{IsReplay};
 ghost use Rattle.user_desk.specs.Replays.{IsLogOf, IsTaken, refused_by};
 
-use crate::kinds::mark_of;
+use crate::kinds::{mark_of, purpose_by};
 use crate::standing::{DeskError, Standing};
 use censors::Admission;
 use cqe_base::schema::Schema;
@@ -32,7 +32,7 @@ pub(crate) fn replay<'w>(
 ) -> Result<(UserLog<'w>, Standing), AllocError>
     requires limits { KeepsLimits schema.now (profile_of user.now) }
     requires admission { admission ≡ admission_of schema.now world.now (profile_of user.now) }
-    requires each { All IsRecord records.now }
+    requires each { All (IsRecord 5) records.now }
     ensures log { IfOk result (λ r. IsLogOf schema.now world.now (profile_of user.now) r.0) }
     ensures replay { IfOk result (λ r.
         IsReplay schema.now world.now (profile_of user.now) (map recorded records.now)
@@ -57,7 +57,7 @@ fn replay_records<'w>(
     records: &[Record],
 ) -> Result<(UserLog<'w>, Standing), AllocError>
     requires limits { KeepsLimits schema.now (profile_of user.now) }
-    requires each { All IsRecord records.now }
+    requires each { All (IsRecord 5) records.now }
     requires admitted { admitted schema.now world.now (profile_of user.now) ≡ true }
     ensures log { IfOk result (λ r. IsLogOf schema.now world.now (profile_of user.now) r.0) }
     ensures replay { IfOk result (λ r.
@@ -75,13 +75,13 @@ fn replay_records<'w>(
     Ok((log, Standing::Open))
 }
 
-// Adds the entry that a record stands for, or says why the record is refused.
+// Adds the item that a record stands for, or says why the record is refused.
 fn take_record(
     alloc: Global,
     log: &mut UserLog<'_>,
     next: &Record,
 ) -> Result<Option<DeskError>, AllocError>
-    requires { IsRecord next.now }
+    requires { IsRecord 5 next.now }
     ensures same { IsOfSame log.old log.new }
     ensures taken { IfOk result
         (IsTaken (kept_schema log.old) (kept_world log.old) (kept_user log.old)
@@ -93,10 +93,10 @@ fn take_record(
     let Ok(text) = str::from_utf8(&next.text) else {
         return Ok(Some(DeskError::Stale(number)));
     };
-    match log.weigh(alloc, text, None)? {
+    let stored = mark_of(next.kind);
+    match log.weigh(alloc, purpose_by(stored), text, None)? {
         Weighed::Code(code) => Ok(Some(refused_by(code, number))),
         Weighed::Answer(query, computed) => {
-            let stored = mark_of(next.kind);
             if !is_same(stored, computed) {
                 return Ok(Some(DeskError::Unlawful {
                     number,
@@ -116,6 +116,7 @@ fn refused_by(code: Reply, number: u32) -> DeskError
 {
     match code {
         Reply::Syntax(_) => DeskError::Stale(number),
+        Reply::Unsafe => DeskError::Unsafe(number),
         _ => DeskError::Size(number),
     }
 }

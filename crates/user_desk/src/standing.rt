@@ -15,7 +15,8 @@ pub enum Standing {
 }
 
 /// Why a user's journal is refused, numbered from 1. Records are numbered from 0 and looked at in
-/// order, each first for its text, then for its size, then for its mark.
+/// order, each first for its text, then for its size, then for its mark, or where it adds a secret
+/// for whether that was safe.
 #[derive(Clone, Copy, Debug, PartialEq, Eq)]
 pub enum DeskError {
     /// The journal isn't opened.
@@ -29,8 +30,10 @@ pub enum DeskError {
         computed: Mark,
     },
     /// The records before this one are a full history for its text, or the view is too large for
-    /// its query.
+    /// its sentence; or it adds a secret, and they leave no room for it.
     Size(u32),
     /// There are records of a user who isn't admitted, by this test.
     NotAdmitted(Admission),
+    /// This record adds a secret that isn't safe after the records before it.
+    Unsafe(u32),
 }

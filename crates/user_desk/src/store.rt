@@ -84,7 +84,7 @@ impl<D: Disk> Store<D> {
         requires whole { has_failed self.old ≡ false }
         requires room { HasRoomFor self.old (length text.now) }
         requires low { 1 ≤ kind }
-        requires high { kind ≤ 4 }
+        requires high { kind ≤ 5 }
         requires short { length text.now ≤ 4096 }
         ensures journal { has_journal self.new ≡ true }
         ensures added { D.tells → OnOk result ((c : List ℕ) → D.image (stored_disk self.new) c

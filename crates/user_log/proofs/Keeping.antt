@@ -1,31 +1,42 @@
--- What is kept of a user, from the empty history and entry by entry.
-use Rattle.std.proofs.Common.{◌≡◌, ℕ, ◌+◌, Bool, true, false, List, [], ◌∷◌, ◌++◌, length, refl, sym, ap, ◌∙◌, subst, arith}
-use Rattle.std.specs.Prelude.{◌⊎◌, sum_by, Option, Ok, if◌then◌else◌}
+-- What is kept of a user, from the empty history and item by item.
+use Rattle.std.proofs.Common.{◌≡◌, ◌≤◌, ℕ, ◌+◌, Bool, true, false, List, [], ◌∷◌, ◌++◌, length, refl, sym, ap, ◌∙◌, subst, append-nil, arith}
+use Rattle.std.proofs.Common.{length-append}
+use Rattle.std.specs.Prelude.{◌⊎◌, sum_by, Option, Some, None, Ok, if◌then◌else◌}
 use Rattle.std.proofs.Common.{inl, inr}
+use Rattle.std.proofs.lemmas.Bool.{both_ways, or_parts}
 use Rattle.std.proofs.lemmas.Grind.{common_steps}
 use Rattle.cqe_base.specs.declared.user.Mark.{Mark}
+use Rattle.cqe_base.specs.declared.user.Mark.TheVariants.{Yes, No, Refused, Undecided, Protected}
+use Rattle.cqe_base.specs.declared.user.Purpose.TheVariants.{Asking, Protecting}
 use Rattle.cqe_base.specs.Schema.{DatabaseSchema, Text}
 use Rattle.cqe_base.specs.Reading.{ReadingsAreSentences}
-use Rattle.cqe_base.specs.Run.{marked, history_full, too_large, reply_by, standing_open, is_full, is_too_large}
-use Rattle.user_log.specs.Asked.{IsAnswer}
+use Rattle.cqe_base.specs.Run.{marked, history_full, too_large, reply_by, protection_by, standing_open, is_full, is_too_large}
+use Rattle.cqe_base.specs.Run.{is_too_large_secret, has_all_secrets}
+use Rattle.user_log.specs.Asked.{IsAnswer, IsSomeAnswer}
 use Rattle.cqe_base.specs.Facts.{FactSet}
 use Rattle.cqe_base.specs.Formula.{Formula}
 use Rattle.cqe_base.specs.Truth.{true_in}
 use Rattle.cqe_base.specs.Entailment.{Signed}
-use Rattle.cqe_base.specs.History.{UserProfile, AnsweredQuery, History, EmptyLogIsKnown, LogsGrow, told_by, log, view_size, known}
-use Rattle.cqe_base.specs.Censor.{AreFindings, FindingsDecide, EmptyHistoryIsLegal, LegalHistoriesGrow, mark_by, rule}
+use Rattle.cqe_base.specs.History.{UserProfile, AnsweredQuery, History, EmptyLogIsKnown, LogsGrow, SecretsGrow, told_by, is_added, user_at, log, view_size}
+use Rattle.cqe_base.specs.History.{profile_of, known, with_secrets, secrets_by, added_secrets}
+use Rattle.cqe_base.specs.Censor.{AreFindings, FindingsDecide, RulesAddNone, IsLegalItem, EmptyHistoryIsLegal, LegalHistoriesGrow, mark_by, rule}
+use Rattle.cqe_base.specs.Censor.{mark_after, safe_after}
 use Rattle.cqe_base.specs.Limits.{KeepsLimits, KeepsSizes, KeepsSizesAt}
-use Rattle.user_log.specs.Kept.{IsConsistentLog}
+use Rattle.censors.specs.Guards.{GuardedSentences}
+use Rattle.user_log.specs.Kept.{IsConsistentLog, IsAmended}
+use Rattle.user_log.specs.Amended.{IsBehind, IsAmendedTo}
+use Rattle.user_log.specs.declared.prepared.Amended.{Amended}
 use Rattle.user_log.specs.Nodes.{told_nodes}
 use Rattle.user_log.proofs.Sizes.{view_size-push}
 
 -- the table gives the rule's mark from findings of what is kept
-pub decided : (schema view_schema : DatabaseSchema) (world : FactSet) (user : UserProfile) (log_is view_log : List Signed) (query : Formula) (spent : Bool)
-    (implied : Option Bool) (yes_harm no_harm : Bool) → view_schema ≡ schema → view_log ≡ log_is → FindingsDecide
-    → AreFindings view_schema user view_log query spent implied yes_harm no_harm
+pub decided : (schema view_schema : DatabaseSchema) (world : FactSet) (user view_user : UserProfile) (log_is view_log : List Signed) (query : Formula)
+    (spent : Bool) (implied : Option Bool) (yes_harm no_harm : Bool) → view_schema ≡ schema → view_user ≡ user → view_log ≡ log_is → FindingsDecide
+    → AreFindings view_schema view_user view_log query spent implied yes_harm no_harm
     → mark_by user.method spent implied yes_harm no_harm (true_in schema world query) ≡ rule schema world user log_is query
-decided schema view_schema world user log_is view_log query spent implied yes_harm no_harm same_schema same_log decide found =
-    let at_schema = subst (λ s. AreFindings s user view_log query spent implied yes_harm no_harm) same_schema found in
+decided schema view_schema world user view_user log_is view_log query spent implied yes_harm no_harm same_schema same_user same_log decide found =
+    let of_user = subst (λ u. AreFindings view_schema u view_log query spent implied yes_harm no_harm) same_user found in
+    let at_schema = subst (λ s. AreFindings s user view_log query spent implied yes_harm no_harm) same_schema of_user in
     let at_log = subst (λ l. AreFindings schema user l query spent implied yes_harm no_harm) same_log at_schema in
     decide schema world user log_is query spent implied yes_harm no_harm at_log
 
@@ -65,7 +76,7 @@ kept_empty schema world user entries view_schema view_log view_nodes none limits
       sizes = λ before entry after e. absurd (no_entry before entry after e);
     }
 
--- ---- one more entry
+-- ---- one more item
 
 module _ {X : Type 0} where
   none_behind : (before : List X) (y : X) (after : List X) → [] ≡ before ++ y ∷ after → ⊥
@@ -89,7 +100,7 @@ module _ {X : Type 0} where
       let heads : b ≡ x = cc in
       longer x b heads xs last before y (split_last xs last before y after tails)
 
--- entries within the limits and one more
+-- items within the limits and one more
 pub sizes_push : (schema : DatabaseSchema) (user : UserProfile) (entries : History) (last : AnsweredQuery) → KeepsSizes schema user entries
     → KeepsSizesAt schema user entries last → KeepsSizes schema user (entries ++ last ∷ [])
 sizes_push schema user entries last sizes here before entry after e = at (split_last entries last before entry after e)
@@ -98,23 +109,23 @@ sizes_push schema user entries last sizes here before entry after e = at (split_
     at (inl same) = subst (λ h. KeepsSizesAt schema user h entry) (sym same.0) (subst (λ q. KeepsSizesAt schema user entries q) (sym same.1) here)
     at (inr (rest, is)) = sizes before entry rest is
 
--- what is kept, with one more entry
+-- what is kept, with one more item
 pub kept_push : (schema : DatabaseSchema) (world : FactSet) (user : UserProfile) (entries entries' : History) (last : AnsweredQuery)
     (view_schema view_schema' : DatabaseSchema) (view_log view_log' : List Signed) (text_bytes view_nodes more_text more_nodes : ℕ)
-    → IsConsistentLog schema world user entries view_schema view_log text_bytes view_nodes → LegalHistoriesGrow → LogsGrow
-    → KeepsSizesAt schema user entries last → last.mark ≡ rule schema world user (log user entries) last.query
+    → IsConsistentLog schema world user entries view_schema view_log text_bytes view_nodes → LegalHistoriesGrow → LogsGrow → SecretsGrow
+    → KeepsSizesAt schema user entries last → IsLegalItem schema world user entries last
     → entries' ≡ entries ++ last ∷ [] → view_schema' ≡ view_schema
     → view_log' ≡ view_log ++ told_by last.mark last.query → more_text ≡ last.length → more_nodes ≡ told_nodes schema last.mark last.query
     → IsConsistentLog schema world user entries' view_schema' view_log' (text_bytes + more_text) (view_nodes + more_nodes)
-kept_push schema world user entries entries' last view_schema view_schema' view_log view_log' text_bytes view_nodes more_text more_nodes kept grow logs here
-    marks pushed same_schema told same_text same_nodes =
+kept_push schema world user entries entries' last view_schema view_schema' view_log view_log' text_bytes view_nodes more_text more_nodes kept grow logs
+    secrets here next pushed same_schema told same_text same_nodes =
     subst (λ h. IsConsistentLog schema world user h view_schema' view_log' (text_bytes + more_text) (view_nodes + more_nodes)) (sym pushed) record {
       limits = kept.limits;
       schema_is = same_schema ∙ kept.schema_is;
       log_is = told ∙ ap (λ l. l ++ told_by last.mark last.query) kept.log_is ∙ sym (logs user entries last);
       text_is = text_of;
       nodes_are = nodes_of;
-      legal = grow schema world user entries last kept.legal marks;
+      legal = grow schema world user entries last kept.legal next;
       sizes = sizes_push schema user entries last kept.sizes here;
     }
   where
@@ -122,7 +133,7 @@ kept_push schema world user entries entries' last view_schema view_schema' view_
     text_of = let was = kept.text_is in grind (arith, common_steps, was, same_text)
 
     nodes_of : view_nodes + more_nodes ≡ view_size schema user (entries ++ last ∷ [])
-    nodes_of = let was = kept.nodes_are in let now = view_size-push schema user entries last logs in omega (arith, was, now, same_nodes)
+    nodes_of = let was = kept.nodes_are in let now = view_size-push schema user entries last logs secrets in omega (arith, was, now, same_nodes)
 
 -- what a marked reply says of its query
 pub answer_means : (full large : Bool) (told mark : Mark) → (if full then history_full else if large then too_large else marked told) ≡ marked mark
@@ -131,13 +142,105 @@ answer_means true large told mark e = absurd cc
 answer_means false true told mark e = absurd cc
 answer_means false false told mark e = (refl, refl, cc)
 
--- the entry of an answer keeps the sizes and has the rule's mark
+-- and what it says of a sentence that was to be added
+pub protection_means : (full large most safe : Bool) (mark : Mark) → protection_by full large most safe ≡ marked mark
+    → (full ≡ false) × (large ≡ false) × (most ≡ false) × (safe ≡ true) × (mark ≡ Protected)
+protection_means true large most safe mark e = absurd cc
+protection_means false true most safe mark e = absurd cc
+protection_means false false true safe mark e = absurd cc
+protection_means false false false false mark e = absurd cc
+protection_means false false false true mark e = (refl, refl, refl, refl, cc)
+
+pub secret_means : (schema : DatabaseSchema) (world : FactSet) (user : UserProfile) (entries : History) (text : Text) (secret : Formula) (mark : Mark)
+    → IsAnswer schema world user entries Protecting text secret mark
+    → (is_full entries (length text) ≡ false) × (is_too_large_secret schema user entries secret ≡ false) × (has_all_secrets user entries ≡ false)
+    × (safe_after schema user entries secret ≡ true) × (mark ≡ Protected)
+secret_means schema world user entries text secret mark is =
+    protection_means (is_full entries (length text)) (is_too_large_secret schema user entries secret) (has_all_secrets user entries)
+    (safe_after schema user entries secret) mark
+    (ap (reply_by schema world user entries standing_open false Protecting text) (sym is.read) ∙ is.answer)
+
+-- the item of an answer came within the limits, and is legal
 pub answer_fits : (schema : DatabaseSchema) (world : FactSet) (user : UserProfile) (entries : History) (text : Text) (query : Formula) (mark : Mark)
-    → ReadingsAreSentences → IsAnswer schema world user entries text query mark
-    → KeepsSizesAt schema user entries (record { query = query; mark = mark; length = length text }) × (mark ≡ rule schema world user (log user entries) query)
-answer_fits schema world user entries text query mark sentences is =
-    let told : reply_by schema world user entries standing_open false text (Ok query) ≡ marked mark =
-    ap (reply_by schema world user entries standing_open false text) (sym is.read) ∙ is.answer in
+    → ReadingsAreSentences → RulesAddNone → IsSomeAnswer schema world user entries text query mark
+    → KeepsSizesAt schema user entries (record { query = query; mark = mark; length = length text })
+    × IsLegalItem schema world user entries (record { query = query; mark = mark; length = length text })
+answer_fits schema world user entries text query mark sentences none (Asking, is) =
+    let told : reply_by schema world user entries standing_open false Asking text (Ok query) ≡ marked mark =
+    ap (reply_by schema world user entries standing_open false Asking text) (sym is.read) ∙ is.answer in
     let means =
-    answer_means (is_full entries (length text)) (is_too_large schema user entries query) (rule schema world user (log user entries) query) mark told in
-    (record { sentence = sentences schema text query is.read; room = means.0; small = means.1 }, means.2)
+    answer_means (is_full entries (length text)) (is_too_large schema user entries query) (mark_after schema world user entries query) mark told in
+    let asked : is_added mark ≡ false = ap is_added means.2 ∙ none schema world (user_at user entries) (log user entries) query in (
+      record {
+        sentence = sentences schema text query is.read;
+        room = means.0;
+        small = means.1;
+        small_secret = λ added. absurd (both_ways (is_added mark) asked added);
+        secret_room = λ added. absurd (both_ways (is_added mark) asked added);
+      },
+      record { has_mark = λ _. means.2; is_safe = λ added. absurd (both_ways (is_added mark) asked added) },
+    )
+answer_fits schema world user entries text query mark sentences none (Protecting, is) =
+    let means = secret_means schema world user entries text query mark is in (
+      record {
+        sentence = sentences schema text query is.read;
+        room = means.0;
+        small = (or_parts (is_too_large schema user entries query) _ means.1).0;
+        small_secret = λ _. means.1;
+        secret_room = λ _. means.2;
+      },
+      record { has_mark = λ asked. absurd (both_ways (is_added mark) asked (ap is_added means.4)); is_safe = λ _. means.3 },
+    )
+
+-- ---- the user behind one more item
+
+asked_adds : (mark : Mark) (sentence : Formula) → is_added mark ≡ false → secrets_by mark sentence ≡ []
+asked_adds Yes sentence asked = refl
+asked_adds No sentence asked = refl
+asked_adds Refused sentence asked = refl
+asked_adds Undecided sentence asked = refl
+asked_adds Protected sentence asked = absurd cc
+
+-- behind one that was asked he is as he was
+amended_asked : (schema : DatabaseSchema) (user : UserProfile) (entries entries' : History) (item : AnsweredQuery) (current : UserProfile)
+    (guards : GuardedSentences) → SecretsGrow → entries' ≡ entries ++ item ∷ [] → is_added item.mark ≡ false
+    → IsAmended schema user entries current guards → IsAmended schema user entries' current guards
+amended_asked schema user entries entries' item current guards secrets pushed asked was = record {
+  current_is = was.current_is
+      ∙ ap (with_secrets user) (sym (secrets user entries item ∙ ap (λ more. (user_at user entries).secrets ++ more) (asked_adds item.mark item.query asked)
+      ∙ append-nil (user_at user entries).secrets))
+      ∙ ap (user_at user) (sym pushed);
+  guarding = was.guarding;
+}
+
+-- the user in place is the one behind the items that were pushed
+pub amended_behind : (schema : DatabaseSchema) (user : UserProfile) (entries entries' : History) (item : AnsweredQuery) (amended : Option Amended)
+    (current current' : UserProfile) (guards guards' : GuardedSentences) → SecretsGrow → entries' ≡ entries ++ item ∷ []
+    → IsBehind schema user entries item amended → IsAmendedTo amended current guards current' guards' → IsAmended schema user entries current guards
+    → IsAmended schema user entries' current' guards'
+amended_behind schema user entries entries' item None current current' guards guards' secrets pushed asked to was =
+    subst (λ u. IsAmended schema user entries' u guards') (sym to.0)
+    (subst (λ g. IsAmended schema user entries' current g) (sym to.1)
+    (amended_asked schema user entries entries' item current guards secrets pushed asked was))
+amended_behind schema user entries entries' item (Some amended) current current' guards guards' secrets pushed behind to was =
+    subst (λ h. IsAmended schema user h current' guards') (sym pushed)
+    (subst (λ u. IsAmended schema user (entries ++ item ∷ []) u guards') (sym to.0)
+    (subst (λ g. IsAmended schema user (entries ++ item ∷ []) (profile_of amended.user) g) (sym to.1) behind))
+
+-- behind one that was added he has its sentence behind his secrets
+pub amended_added : (user : UserProfile) (entries : History) (item : AnsweredQuery) (current made : UserProfile) → SecretsGrow → item.mark ≡ Protected
+    → current ≡ user_at user entries → made ≡ with_secrets current (current.secrets ++ item.query ∷ []) → made ≡ user_at user (entries ++ item ∷ [])
+amended_added user entries item current made secrets added current_is made_is =
+    made_is
+    ∙ (λ k. with_secrets (current_is k) ((current_is k).secrets ++ item.query ∷ []))
+    ∙ ap (with_secrets user) (sym (secrets user entries item ∙ ap (λ m. (user_at user entries).secrets ++ secrets_by m item.query) added))
+
+-- with no more secrets than before he is as he was
+pub amended_none : (user : UserProfile) (entries : History) → length (user_at user entries).secrets ≤ length user.secrets → user_at user entries ≡ user
+amended_none user entries few = by (added_secrets entries) refl
+  where
+    by : (more : List Formula) → added_secrets entries ≡ more → user_at user entries ≡ user
+    by [] is = ap (λ more. with_secrets user (user.secrets ++ more)) is ∙ ap (with_secrets user) (append-nil user.secrets)
+    by (s ∷ more) is =
+        let longer = ap (λ added. length (user.secrets ++ added)) is ∙ length-append user.secrets (s ∷ more) in
+        absurd (omega (arith, few, longer))

@@ -3,7 +3,7 @@ use Rattle.std.proofs.Common.{◌≡◌, map, sym, subst}
 use mathlib.Core.HLevel.{is_prop→PathP}
 use Rattle.cqe_base.specs.History.{profile_of, answered_query_of}
 use Rattle.entailment.specs.Views.{LogView, schema_of, log_of}
-use Rattle.user_log.specs.Kept.{IsConsistentLog, IsConsistentLog-prop, AreGuardsOf, AreGuardsOf-prop}
+use Rattle.user_log.specs.Kept.{IsConsistentLog, IsConsistentLog-prop, IsAmended, IsAmended-prop}
 use Rattle.user_log.specs.declared.log.UserLog.{UserLog}
 
 module _ (log : UserLog) where
@@ -16,10 +16,11 @@ module _ (log : UserLog) where
   pub kept_with : (view : LogView) → view ≡ log.views → KeptWith view
   kept_with view same = subst KeptWith (sym same) log.kept
 
-  pub same_log : (view : LogView) → view ≡ log.views → (kept : KeptWith view) (guarding : AreGuardsOf log.schema.now (profile_of log.user.now) log.guards)
-      → record log { views = view; kept = kept; guarding = guarding } ≡ log
-  same_log view same kept guarding = λ i. record log {
+  pub same_log : (view : LogView) → view ≡ log.views → (kept : KeptWith view)
+      (amended : IsAmended log.schema.now (profile_of log.user.now) (map answered_query_of log.entries.items) (profile_of log.current) log.guards)
+      → record log { views = view; kept = kept; amended = amended } ≡ log
+  same_log view same kept amended = λ i. record log {
     views = same i;
     kept = is_prop→PathP (λ j. KeptWith (same j)) (λ j. IsConsistentLog-prop _ _ _ _ _ _ _ _) kept log.kept i;
-    guarding = AreGuardsOf-prop _ _ _ guarding log.guarding i;
+    amended = IsAmended-prop _ _ _ _ _ amended log.amended i;
   }

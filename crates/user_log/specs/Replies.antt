@@ -1,10 +1,10 @@
 -- Replies in memory.
 use Rattle.cqe_base.specs.Run
 use Rattle.cqe_base.specs.Run.{marked, no_sentence, history_full, too_large, user_closed}
-use Rattle.cqe_base.specs.Run.{desk_sealed, desk_broken, no_memory}
+use Rattle.cqe_base.specs.Run.{desk_sealed, desk_broken, no_memory, secrets_full, unsafe_secret}
 use Rattle.user_log.specs.declared.reply.Reply.{Reply}
 use Rattle.user_log.specs.declared.reply.Reply.TheVariants.{Mark, Syntax, Full, Size, Closed}
-use Rattle.user_log.specs.declared.reply.Reply.TheVariants.{Sealed, Broken, Memory}
+use Rattle.user_log.specs.declared.reply.Reply.TheVariants.{Sealed, Broken, Memory, Secrets, Unsafe}
 
 -- the reply that a Reply in memory is
 abbrev pub reply_of : Reply → Run.Reply
@@ -16,3 +16,5 @@ reply_of Closed = user_closed
 reply_of Sealed = desk_sealed
 reply_of Broken = desk_broken
 reply_of Memory = no_memory
+reply_of Secrets = secrets_full
+reply_of Unsafe = unsafe_secret

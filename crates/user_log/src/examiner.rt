@@ -4,17 +4,18 @@ ghost use Rattle.std.specs.Prelude.{◌≡◌, ◌≤◌, ◌+◌, true, length,
 ghost use Rattle.cqe_base.specs.Schema.{Text};
 ghost use Rattle.cqe_base.specs.Formula.{nodes, is_sentence_of};
 ghost use Rattle.cqe_base.specs.Reading.{reading};
-ghost use Rattle.cqe_base.specs.History.{History, profile_of, log};
-ghost use Rattle.cqe_base.specs.Limits.{KeepsLimits};
+ghost use Rattle.cqe_base.specs.History.{UserProfile, History, profile_of};
+ghost use Rattle.cqe_base.specs.Limits.{KeepsLimits, FitsProbes};
 ghost use Rattle.cqe_base.specs.Censor.{guarded};
 ghost use Rattle.entailment.specs.Logs.{log_nodes};
-ghost use Rattle.entailment.specs.Views.{schema_of, log_of, IsLogBeginning};
+ghost use Rattle.entailment.specs.Views.{schema_of, log_of};
 ghost use Rattle.entailment.specs.GroundSentences.{sentence_of, IsGroundOver};
-ghost use Rattle.user_log.specs.Examining.{IsExamined};
+ghost use Rattle.user_log.specs.Examining.{lent_view, IsFirstPart, IsLent, IsLentTo, IsExamined};
 ghost use Rattle.user_log.specs.Kept.{KeepsLimits-prop, AreGuardsOf, AreGuardsOf-prop};
 
 use crate::log::QUERY_NODES;
 use censors::{Findings, Guards, LentViews, examine_beside};
+use cqe_base::laws::{law_limits, law_logs};
 use cqe_base::schema::Schema;
 use cqe_base::sentence::nodes;
 use cqe_base::user::User;
@@ -23,19 +24,30 @@ use sentence_text::read_sentence;
 use std::alloc::{AllocError, Global};
 use std::thread::Threads;
 
+/// Views of a log that are lent, so that a query can be examined after it.
+#[derive(Drop)]
+pub struct Lent<'w> {
+    pub(crate) views: LentViews<'w>,
+    /// How many items the log was made of. The log alone doesn't tell: an item that adds a secret
+    /// tells nothing.
+    pub(crate) items: usize,
+}
+
 /// A text that was examined after the log of views, and not yet weighed.
 #[derive(Drop)]
 pub struct Examined<'w> {
     /// The query that it is.
     pub(crate) query: GroundSentence,
     /// The views, to be put back.
-    pub(crate) lent: LentViews<'w>,
-    /// What the probes found after the log of the views.
+    pub(crate) views: LentViews<'w>,
+    /// How many items the log of the views was made of.
+    pub(crate) items: usize,
+    /// What the probes found after that log.
     pub(crate) findings: Findings,
 }
 
-/// What examines the texts of a user. It looks at no log but the views that it is lent, and at no
-/// world.
+/// What examines the texts of a user to whom no secret was added. It looks at no log but the views
+/// that it is lent, and at no world.
 #[derive(Drop)]
 pub struct Examiner<'w> {
     schema: &'w Schema,
@@ -59,6 +71,7 @@ impl<'w> Examiner<'w> {
         ensures schema { IfOk result (λ examiner. examiner_schema examiner ≡ schema.now) }
         ensures user { IfOk result (λ examiner. examiner_user examiner ≡ profile_of user.now) }
     {
+        law_limits();
         let guards = Guards::new(alloc, schema, user)?;
         Ok(Examiner {
             schema,
@@ -74,6 +87,13 @@ impl<'w> Examiner<'w> {
         self.user
     }
 
+    /// The schema of his texts.
+    pub fn schema(&self) -> &'w Schema
+        ensures { result.now ≡ examiner_schema self.now }
+    {
+        self.schema
+    }
+
     /// The query that a text is, with its ground formula. There is none where the text is no
     /// sentence or a large one, or memory is wanting.
     pub fn read(&self, alloc: Global, text: &str) -> Option<GroundSentence>
@@ -87,27 +107,31 @@ impl<'w> Examiner<'w> {
         read_query(alloc, self.schema, text)
     }
 
-    /// Makes every probe of a query after the log of these views, by as many threads. Where memory
-    /// is wanting the views are dropped.
+    /// Makes every probe of a query after the log of views that were lent, by as many threads.
+    /// Where memory is wanting the views are dropped.
     pub fn examine<R: Threads + Sync>(
         &self,
         rt: &R,
         alloc: Global,
-        lent: LentViews<'w>,
+        lent: Lent<'w>,
         query: GroundSentence,
     ) -> Option<Examined<'w>>
-        requires schema { schema_of lent ≡ examiner_schema self.now }
+        requires schema { schema_of (lent_view lent) ≡ examiner_schema self.now }
         requires sentence { is_sentence_of (examiner_schema self.now) (sentence_of query) ≡ true }
         requires grounded { IsGroundOver (examiner_schema self.now) query }
-        requires fits { log_nodes (examiner_schema self.now) (log_of lent)
+        requires fits { log_nodes (examiner_schema self.now) (log_of (lent_view lent))
             + nodes (examiner_schema self.now) (sentence_of query) ≤ 60000 }
-        // It has examined each text that is the query, for each history whose log begins so.
-        ensures { (entries : History) (text : Text)
+        // It has examined each text that is the query, for each history that begins with one of
+        // which this was lent.
+        ensures { (before entries : History) (text : Text)
             → reading (examiner_schema self.now) text ≡ Ok (sentence_of query)
-            → IsLogBeginning (log_of lent.entry) (log (examiner_user self.now) entries)
+            → IsLent (examiner_schema self.now) (examiner_user self.now) before (sentence_of query)
+            lent.entry
+            → IsFirstPart before entries
             → IfSome result
             (IsExamined (examiner_schema self.now) (examiner_user self.now) entries text) }
     {
+        law_limits();
         examined_after(rt, alloc, &self.guards, self.user, lent, query)
     }
 }
@@ -133,34 +157,40 @@ pub(crate) fn read_query(alloc: Global, schema: &Schema, text: &str) -> Option<G
     }
 }
 
-/// What the probes of a query find after the log of these views. Where memory is wanting the views
-/// are dropped.
+/// What the probes of a query find after the log of these views, of a user with the secrets that he
+/// has at its end. Where memory is wanting the views are dropped.
 pub(crate) fn examined_after<'w, R: Threads + Sync>(
     rt: &R,
     alloc: Global,
     guards: &Guards<'_>,
     user: &User,
-    lent: LentViews<'w>,
+    lent: Lent<'w>,
     query: GroundSentence,
 ) -> Option<Examined<'w>>
-    requires limits { KeepsLimits guards.now.schema (profile_of user.now) }
+    requires fits { FitsProbes guards.now.schema (profile_of user.now) }
     requires guarded { guards.now.sentences ≡ guarded (profile_of user.now) }
-    requires schema { schema_of lent ≡ guards.now.schema }
+    requires schema { schema_of (lent_view lent) ≡ guards.now.schema }
     requires sentence { is_sentence_of guards.now.schema (sentence_of query) ≡ true }
     requires grounded { IsGroundOver guards.now.schema query }
-    requires fits { log_nodes guards.now.schema (log_of lent)
+    requires all_nodes { log_nodes guards.now.schema (log_of (lent_view lent))
         + nodes guards.now.schema (sentence_of query) ≤ 60000 }
-    // It has examined each text that is the query, for each history whose log begins so.
-    ensures { (entries : History) (text : Text)
+    // It has examined each text that is the query, for each history of each user (`first`) that
+    // begins with one of which this was lent, at whose end he is the user here.
+    ensures { (first : UserProfile) (before entries : History) (text : Text)
         → reading guards.now.schema text ≡ Ok (sentence_of query)
-        → IsLogBeginning (log_of lent.entry) (log (profile_of user.now) entries)
-        → IfSome result (IsExamined guards.now.schema (profile_of user.now) entries text) }
+        → IsLentTo guards.now.schema first (profile_of user.now) before (sentence_of query)
+        lent.entry
+        → IsFirstPart before entries
+        → IfSome result (IsExamined guards.now.schema first entries text) }
 {
-    let mut lent = lent;
-    match examine_beside(rt, alloc, &mut lent, guards, user, &query) {
+    law_logs();
+    let Lent { views, items } = lent;
+    let mut views = views;
+    match examine_beside(rt, alloc, &mut views, guards, user, &query) {
         Ok(findings) => Some(Examined {
             query,
-            lent,
+            views,
+            items,
             findings,
         }),
         Err(_) => None,

@@ -1,4 +1,4 @@
-//! Replies to an ask.
+//! Replies to a call.
 ghost use Rattle.std.specs.Prelude.{◌≡◌};
 ghost use Rattle.cqe_base.specs.Transcript.{reply_text};
 ghost use Rattle.line_protocol.specs.Replies.{text_of};
@@ -8,7 +8,7 @@ use cqe_base::sentence::Sentence;
 use cqe_base::text::TextError;
 use cqe_base::user::Mark;
 
-/// The reply to an ask: a mark, or a code.
+/// The reply to a call: a mark, or a code. The mark `Protected` tells that a secret was added.
 #[derive(Clone, Copy, Debug, PartialEq, Eq)]
 pub enum Reply {
     Mark(Mark),
@@ -16,7 +16,7 @@ pub enum Reply {
     Syntax(TextError),
     /// 22: the history is full.
     Full,
-    /// 21: the query, or the view with it, is too large.
+    /// 21: the sentence, or the view or the secrets with it, are too large.
     Size,
     /// 24: the user isn't admitted.
     Closed,
@@ -26,6 +26,10 @@ pub enum Reply {
     Broken,
     /// 50: memory is wanting.
     Memory,
+    /// 27: a secret is to be added, and there are 16.
+    Secrets,
+    /// A secret is to be added that isn't safe.
+    Unsafe,
 }
 
 /// A text that was weighed and not yet added.
@@ -33,7 +37,7 @@ pub enum Reply {
 pub enum Weighed {
     /// It is answered by a code and adds nothing.
     Code(Reply),
-    /// It is this query, and this mark answers it.
+    /// It is this sentence, and this mark answers the call.
     Answer(Sentence, Mark),
 }
 
@@ -53,5 +57,7 @@ pub fn line_reply(reply: Reply) -> line_protocol::Reply
         Reply::Broken => line_protocol::Reply::Code(40),
         Reply::Sealed => line_protocol::Reply::Code(41),
         Reply::Memory => line_protocol::Reply::Code(50),
+        Reply::Secrets => line_protocol::Reply::Code(27),
+        Reply::Unsafe => line_protocol::Reply::Unsafe,
     }
 }

@@ -18,8 +18,9 @@ use Rattle.line_protocol.specs.Words.{is_printable}
 use Rattle.line_protocol.proofs.Digits.{byte_digits}
 use Rattle.cqe_base.specs.declared.text.ScriptKind.TheVariants.{TooLong, TooMany}
 use Rattle.script_lines.specs.Scripts.{script_after, then_lines, unless, line_refusal}
-use Rattle.batch_engine.specs.BatchLines.{BatchItem, asked, batch_line, batch_of, with_line, with_said, spoken, worded, named_ask, ask_of, asks, session_number}
-use Rattle.batch_engine.specs.BatchLines.{ask_text}
+use Rattle.batch_engine.specs.BatchLines.{BatchItem, asked, batch_line, batch_of, with_line, with_said, spoken, worded, named_ask, asks}
+use Rattle.batch_engine.specs.BatchLines.{ask_by, caller_named}
+use Rattle.cqe_base.specs.Transcript.{by_session}
 use Rattle.workload.specs.Draws.{state_after, drawn}
 use Rattle.workload.specs.Questions.{question_text, question_of, question_at, ask_line, script_lines}
 use Rattle.workload.specs.Policies.{user_name}
@@ -191,14 +192,14 @@ module _ (user : ℕ) (text : Text) (small : user < 256) (all : list_all is_prin
   rest_behind : after_first is_blank (line_of user text) ≡ codes "1 ask " ++ text
   rest_behind = ap (λ n. drop (n + 1) (line_of user text)) at_blank ∙ back (user_name user) 32 (codes "1 ask " ++ text)
 
-  named : named_ask (user_name user) (codes "1 ask " ++ text) ≡ Some (asks (record { name = user_name user; session = 1; text = text }))
+  named : named_ask (user_name user) (codes "1 ask " ++ text) ≡ Some (asks (record { name = user_name user; caller = by_session 1; text = text }))
   named =
       ap (λ (t : Bool). if t && list_any is_blank (codes "1 ask " ++ text)
-      then ask_of (user_name user) (session_number (before_first is_blank (codes "1 ask " ++ text))) (ask_text (after_first is_blank (codes "1 ask " ++ text)))
+      then ask_by (user_name user) (caller_named (before_first is_blank (codes "1 ask " ++ text))) (after_first is_blank (codes "1 ask " ++ text))
       else None) (has_form user small)
 
   -- it says the ask
-  says_ask : batch_line (line_of user text) ≡ Some (asks (record { name = user_name user; session = 1; text = text }))
+  says_ask : batch_line (line_of user text) ≡ Some (asks (record { name = user_name user; caller = by_session 1; text = text }))
   unfolding batch_line
   says_ask =
       ap (λ (t : Bool). if t then spoken (line_of user text) else None) printable_line
@@ -214,7 +215,7 @@ module _ (user : ℕ) (text : Text) (small : user < 256) (all : list_all is_prin
   -- it adds its ask
   one_more : (number : ℕ) (before : List BatchItem) → number ≤ 100000
       → unless (line_refusal number (record { bytes = line_of user text; ended = true })) (with_line before (without_return (line_of user text)))
-      ≡ Ok (before ++ asked (record { name = user_name user; session = 1; text = text }) ∷ [])
+      ≡ Ok (before ++ asked (record { name = user_name user; caller = by_session 1; text = text }) ∷ [])
   one_more number before few =
       (λ i. unless (if short_line i then Some TooLong else if not_many number few i then Some TooMany
       else None) (with_said before (batch_line (whole (line_of user text) printable_line i))))

@@ -22,7 +22,7 @@ use Rattle.cqe_base.specs.Formula.{Formula}
 use Rattle.cqe_base.specs.Tokens
 use Rattle.cqe_base.specs.Reading
 use Rattle.cqe_base.specs.Reading.{Refusal, reading}
-use Rattle.cqe_base.specs.History.{view_size, log, known, told}
+use Rattle.cqe_base.specs.History.{view_size, added_secrets, log, known, told}
 use Rattle.sentence_text.specs.Laws.{CanonicalFormsRead}
 use Rattle.policy_files.specs.declared.keys.PolicyVersion.TheVariants.{One}
 use Rattle.policy_files.specs.declared.error.PolicyError.TheVariants.{NotToml, WrongKind, Limit, DuplicateUser}
@@ -148,7 +148,7 @@ module _ (law : CanonicalFormsRead) where
         token = None;
       }
       → with_small_view workload_schema number user ≡ Ok user
-  unfolding view_size log known told digits
+  unfolding view_size log known told added_secrets digits
   small number name method a b c user is = subst (λ u. with_small_view workload_schema number u ≡ Ok u) (sym is) refl
 
   below : (seed n : ℕ) → drawn seed n 40 < 40

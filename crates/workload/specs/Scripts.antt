@@ -1,6 +1,7 @@
 -- The asks of a workload's script.
 use Rattle.std.specs.Prelude.{ℕ, ◌+◌, ◌*◌, ◌%◌, List, map}
 use Rattle.std.specs.List.{range_with_len}
+use Rattle.cqe_base.specs.Transcript.{by_session}
 use Rattle.batch_engine.specs.BatchLines.{BatchItem, asked}
 use Rattle.workload.specs.Questions.{question_text, question_at}
 use Rattle.workload.specs.Policies.{user_name}
@@ -10,7 +11,7 @@ use Rattle.workload.specs.Policies.{user_name}
 abbrev pub workload_ask : ℕ → ℕ → ℕ → BatchItem
 workload_ask seed users number = asked (record {
   name = user_name (number % users);
-  session = 1;
+  caller = by_session 1;
   text = question_text (question_at seed (620 + 3 * users + 4 * number));
 })
 

@@ -6,10 +6,10 @@ ghost use Rattle.turnstile.specs.Passes.{turns};
 ghost use Rattle.desk_counter.specs.Counters.{IsPassOf};
 
 use super::make_ward;
-use crate::clinic::{HEADER, counter_of};
+use crate::clinic::{HEADER, counter_of, user_by};
 use censors::admit;
 use cqe_base::sentence::Sentence;
-use cqe_base::user::Mark;
+use cqe_base::user::{Mark, Method};
 use desk_counter::{Counter, CounterOf, DeskPass, Owned, TicketedDesk};
 use outside::{Disk, Gate, MemoryDisk, OpenGate, Point};
 use std::alloc::Global;
@@ -24,6 +24,7 @@ use user_desk::{Desk, Standing, open_desk};
 use user_log::Reply;
 
 /// A session at a counter, which asks one text so often and counts the replies that are its mark.
+/// Where that is the mark of an added secret, an operator adds the text.
 #[derive(Drop)]
 struct Session<'a, 'w, V: Owned, G> {
     counter: &'a CounterOf<'w, V>,
@@ -51,13 +52,42 @@ impl<'a, 'w, D: Disk, G: Gate> Session<'a, 'w, TicketedDesk<'w, D>, G> {
         ensures counter { self.new.counter.now ≡ self.old.counter.now }
         ensures asks { self.new.asks + 1 ≡ self.old.asks }
     {
-        let reply = self
-            .counter
-            .ask(rt, self.alloc, &mut self.pass, self.text, self.gate);
+        let question = (self.text, self.mark);
+        let reply = told(
+            rt,
+            self.alloc,
+            self.counter,
+            &mut self.pass,
+            question,
+            self.gate,
+        );
         self.asks -= 1;
         if is_mark(&reply, self.mark) {
             self.told += 1;
         }
+    }
+}
+
+/// The reply to a text that is asked, or to be added where the mark of that is looked for.
+fn told<'w, R: Threads + Wait + Sync, D: Disk, G: Gate>(
+    rt: &R,
+    alloc: Global,
+    counter: &Counter<'w, D>,
+    pass: &mut DeskPass<D>,
+    question: (&str, Mark),
+    gate: &G,
+) -> Reply
+    requires pass { IsPassOf pass.old counter.now }
+    requires turns { 2 ≤ turns pass.old }
+    requires short { length question.0.now ≤ 4096 }
+    ensures pass { IsPassOf pass.new counter.now }
+    ensures shares { shares_of pass.new ≡ shares_of pass.old }
+    ensures turns { turns pass.old ≤ turns pass.new + 2 }
+{
+    let (text, mark) = question;
+    match mark {
+        Mark::Protected => counter.protect(rt, alloc, pass, text),
+        _ => counter.ask(rt, alloc, pass, text, gate),
     }
 }
 
@@ -398,6 +428,29 @@ fn sessions_of_one_user_do_not_wait_for_each_others_examinations(
         gave_up: false,
     };
     let questions = (("drug(ann)", Mark::No), ("not hiv(bob)", Mark::Yes));
+    assert_eq!(rt;
+        ask_one_desk(&rt, alloc, counter, pass, questions),
+        Some(beside)
+    );
+    Ok(())
+}
+
+// By the first log the text that is asked is told truly. A secret that is added beside the ask
+// isn't in the log, but it makes the truth a harm: the text is examined again, and gets a lie.
+#[test]
+fn a_secret_that_is_added_beside_an_ask_counts(rt: HostRuntime) -> Result<(), Fail> {
+    let alloc = rt.alloc();
+    let ward = make_ward(alloc)?;
+    let eve = user_by(alloc, &ward.clinic, "eve", Method::Combined)?;
+    let (counter, pass) = counter_of(&rt, alloc, &ward.clinic, &eve)?;
+    let beside = Beside {
+        first_told: 1,
+        second_told: 1,
+        saw_held: true,
+        gave_up: false,
+    };
+    let text = "hiv(ann) or hiv(bob)";
+    let questions = ((text, Mark::No), (text, Mark::Protected));
     assert_eq!(rt;
         ask_one_desk(&rt, alloc, counter, pass, questions),
         Some(beside)

@@ -161,6 +161,68 @@ fn a_crash_leaves_what_was_told(rt: HostRuntime) -> Result<(), Fail> {
     Ok(())
 }
 
+// A stop at each call of an ask and of an addition. A secret that was told to be added is there in
+// each new life: what tells it then gets a lie, and without it the truth.
+#[test]
+fn a_crash_leaves_the_secret_that_was_added(rt: HostRuntime) -> Result<(), Fail> {
+    let alloc = rt.alloc();
+    let script = "eve 1 ask true\neve op protect drug(bob)\n";
+    for stop in 0..9 {
+        let mut shelf = ward(&rt, alloc)?;
+        let disk = MemoryDisk::with_plan(alloc, journal(alloc, &[0])?, Plan::From(4 + stop))?;
+        shelf.put_disk(alloc, "d/eve.log", disk)?;
+        let run = batch(&rt, alloc, &mut shelf, script)?;
+        let (status, output, complaint) = match stop {
+            0..4 => (11, "eve 1 error 40\neve op error 40\n", "cqe: disk fault\n"),
+            4..8 => (11, "eve 1 yes\neve op error 40\n", "cqe: disk fault\n"),
+            _ => (0, "eve 1 yes\neve op protected\n", ""),
+        };
+        run.check(&rt, status, output, complaint, output);
+        for picked in 0..12 {
+            let image = image_of(alloc, &shelf, "d/eve.log", picked)?;
+            let first = image.get(72) == Some(&1);
+            let second = first && image.get(80) == Some(&1);
+            assert!(rt;
+                if stop < 2 { !first } else { stop < 4 || first },
+                "stop {stop}, image {picked}"
+            );
+            assert!(rt;
+                if stop < 6 {
+                    !second
+                } else {
+                    stop < 8 || second
+                },
+                "stop {stop}, image {picked}"
+            );
+            let mut want = journal(alloc, &[])?;
+            if first {
+                want.extend_from_slice(b"\x01\x01\x00\x04true")?;
+            }
+            if second {
+                want.extend_from_slice(b"\x01\x05\x00\x09drug(bob)")?;
+            }
+            want.extend_from_slice(if second {
+                b"\x01\x02\x00\x16"
+            } else {
+                b"\x01\x01\x00\x16"
+            })?;
+            want.extend_from_slice(b"drug(bob) or drug(ann)\x00")?;
+            let told = if second { "eve 1 no\n" } else { "eve 1 yes\n" };
+            let mut life = ward(&rt, alloc)?;
+            put_journal(alloc, &mut life, "d/eve.log", image)?;
+            let run = batch(&rt, alloc, &mut life, "eve 1 ask drug(bob) or drug(ann)\n")?;
+            run.check(&rt, 0, told, "", "a new life");
+            let found = journal_bytes(&life, "d/eve.log");
+            assert_eq!(rt;
+                found.get(..want.len()),
+                Some(want.as_slice()),
+                "stop {stop}, image {picked}"
+            );
+        }
+    }
+    Ok(())
+}
+
 // Kim's journal behind a new life that asks `hiv(ann)` of an image: with the record of her first
 // ask, with that of the second, and with the new one.
 fn kims_journal(alloc: Global, first: bool, second: bool) -> Result<Vec<u8>, AllocError> {

@@ -165,7 +165,7 @@ pub(super) fn audit(
 /// A journal of the ward: the header, and from byte 72 on these bytes.
 pub(super) fn journal(alloc: Global, behind: &[u8]) -> Result<Vec<u8>, AllocError> {
     let mut bytes = Vec::new(alloc);
-    bytes.extend_from_slice(b"CQEJRNL1")?;
+    bytes.extend_from_slice(b"CQEJRNL2")?;
     bytes.extend_from_slice(&POLICY_DIGEST)?;
     bytes.extend_from_slice(&FACTS_DIGEST)?;
     bytes.extend_from_slice(behind)?;

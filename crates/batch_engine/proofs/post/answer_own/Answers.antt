@@ -51,12 +51,12 @@ short g c =
     (short_ask (ask_in c.index-asks-number.result)
     (short_here c.args.asks.now c.loop-number.number c.index-asks-number.result c.loop-number-test.true c.index-asks-number.is c.requires.short)).2
 
-pub ask_at-reply-requires-clause-short : goal.ask_at-reply-requires-clause-short
-ask_at-reply-requires-clause-short g c κs within =
-    subst (λ t. length t ≤ 4096) (sym c.as_str-then-eq.ensures.value) (short g (goal.at.ask_at-reply-requires-clause-short g c).After-eq)
+pub call_at-reply-requires-clause-short : goal.call_at-reply-requires-clause-short
+call_at-reply-requires-clause-short g c κs within =
+    subst (λ t. length t ≤ 4096) (sym c.as_str-then-eq.ensures.value) (short g (goal.at.call_at-reply-requires-clause-short g c).After-eq)
 
-pub ask_at-reply-requires-clause-user : goal.ask_at-reply-requires-clause-user
-ask_at-reply-requires-clause-user g c κs within = c.loop-number.invariant.user
+pub call_at-reply-requires-clause-user : goal.call_at-reply-requires-clause-user
+call_at-reply-requires-clause-user g c κs within = c.loop-number.invariant.user
 
 pub answer_to-requires : goal.answer_to-requires
 answer_to-requires g c =
@@ -86,8 +86,8 @@ loop-number-preserved g c =
     let ask_left = left g (goal.at.loop-number-preserved g c).After-eq in
     elim c.if-eq.branch [
       | then-eq w ↦
-          let new = w.ask_at-reply.new.seat in
-          let reply = reply_of w.ask_at-reply.result in
+          let new = w.call_at-reply.new.seat in
+          let reply = reply_of w.call_at-reply.result in
           let text = w.as_str-then-eq.ensures.value in
           let seat = ap (λ p. p.seat) w.post-is in
           let pushed = ap (λ p. p.answers.items) w.post-is ∙ w.push_reserved.ensures.items
@@ -103,16 +103,18 @@ loop-number-preserved g c =
                 (subst (λ n. OwnRun schema world 0 (first ++ ask_in ask ∷ []) old new
                 (c.loop-number.post.answers.items ++ answer_to n (ask_in ask) (Some reply) ∷ [])) here
                 (own_more schema world 0 first (ask_in ask) old mid new reply c.loop-number.post.answers.items (so_far.own schema world header served)
-                (named g (goal.at.loop-number-preserved g c).After-eq ∙ w.if-eq.true) (subst (λ t. IsToldAt schema world t reply mid new) text
-                (told_served schema world header mid new _ reply (so_far.served schema world header served) w.ask_at-reply.ensures))))));
+                (named g (goal.at.loop-number-preserved g c).After-eq ∙ w.if-eq.true)
+                (subst (λ q. IsToldAt schema world q (ask_in ask).text reply mid new) w.purpose_of.ensures
+                (subst (λ t. IsToldAt schema world w.purpose_of.result t reply mid new) text
+                (told_served schema world header mid new _ _ reply (so_far.served schema world header served) w.call_at-reply.ensures)))))));
             served = λ schema world header served.
                 subst (IsSeatServed schema world header) (sym seat)
-                (still_served schema world header mid new _ reply
-                (told_served schema world header mid new _ reply (so_far.served schema world header served) w.ask_at-reply.ensures)
+                (still_served schema world header mid new _ _ reply
+                (told_served schema world header mid new _ _ reply (so_far.served schema world header served) w.call_at-reply.ensures)
                 (so_far.served schema world header served));
             user = subst (λ s. (seat_kept s).user ≡ profile_of (seat_user s)) (sym seat)
-                (ap (λ f. f.user) w.ask_at-reply.ensures.kept_is ∙ so_far.user ∙ ap profile_of (sym w.ask_at-reply.ensures.user_is));
-            name = ap seat_name seat ∙ ap (λ u. string_bytes u.name) w.ask_at-reply.ensures.user_is ∙ so_far.name;
+                (ap (λ f. f.user) w.call_at-reply.ensures.kept_is ∙ so_far.user ∙ ap profile_of (sym w.call_at-reply.ensures.user_is));
+            name = ap seat_name seat ∙ ap (λ u. string_bytes u.name) w.call_at-reply.ensures.user_is ∙ so_far.name;
             room = omega (arith, room, ask_left, one, grown, capacity);
           }
       | else-eq w ↦

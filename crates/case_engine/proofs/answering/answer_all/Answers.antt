@@ -17,8 +17,8 @@ returns-then-is_empty-clause-answered g c = λ told.
     let none : parts.asks.items ≡ [] = grind (arith, common_steps) in
     subst (λ a. AppendsReplies parts.schema parts.facts user (map string_bytes a) written written) (sym none)
     (told_all parts.schema parts.facts user
-    (admitted parts.schema parts.facts user) c.law_legal_grows.ensures.empty c.law_runs_legal.ensures c.law_hides.ensures c.known.ensures
-    c.requires.sentences
+    (admitted parts.schema parts.facts user) c.law_legal_grows.ensures.empty c.law_runs_legal.ensures
+    c.law_runs_of_schema.ensures c.law_hides.ensures c.known.ensures c.requires.sentences
     [] written written [] (told_nothing parts.schema parts.facts user (admitted parts.schema parts.facts user) [] written [] refl refl))
 
 pub told-reply-requires-after_bounds : goal.told-reply-requires-after_bounds
@@ -33,8 +33,8 @@ returns-in-Err-clause-answered g c = λ told.
     let user = profile_of parts.user in
     let part = c.in-Err.ensures.part told in
     let step = c.loop-text.invariant in
-    told_some parts.schema parts.facts user c.in-Ok.is_open c.law_legal_grows.ensures.empty c.law_runs_legal.ensures c.law_hides.ensures c.known.ensures
-    c.requires.sentences
+    told_some parts.schema parts.facts user c.in-Ok.is_open c.law_legal_grows.ensures.empty c.law_runs_legal.ensures
+    c.law_runs_of_schema.ensures c.law_hides.ensures c.known.ensures c.requires.sentences
     parts.asks.items c.loop-text.text-index part.0 c.text-item.result _ _ _ _ _ _ _ (step.so_far told)
     (next_item _ _ _ _ c.deref-text-items.ensures.value c.loop-text-test.true c.text-item.is)
     part.2 (ap (λ t. t ++ codes "\n") c.line_reply.ensures)
@@ -76,8 +76,8 @@ returns-clause-answered g c = λ told.
     let parts = c.args.parts.now in
     let user = profile_of parts.user in
     let far : length parts.asks.items ≤ c.loop-text.text-index = grind (arith, common_steps) in
-    told_all parts.schema parts.facts user c.in-Ok.is_open c.law_legal_grows.ensures.empty c.law_runs_legal.ensures c.law_hides.ensures c.known.ensures
-    c.requires.sentences
+    told_all parts.schema parts.facts user c.in-Ok.is_open c.law_legal_grows.ensures.empty c.law_runs_legal.ensures
+    c.law_runs_of_schema.ensures c.law_hides.ensures c.known.ensures c.requires.sentences
     (map string_bytes parts.asks.items) _ _ _
     (subst (λ a. Told parts.schema parts.facts user c.in-Ok.is_open (map string_bytes a) (g.K.Sink.written c.args.sink.now) (g.K.Sink.written c.loop-text.sink)
     (kept_history c.loop-text.log))

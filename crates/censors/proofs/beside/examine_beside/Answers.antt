@@ -15,7 +15,7 @@ pub examine_held-requires-clause-can : goal.examine_held-requires-clause-can
 examine_held-requires-clause-can g c _ _ =
     subst (λ (w : LogView). CanBeExamined c.args.guards.now c.args.user.now c.args.query.now w) (sym c.lent.view_is)
     (record {
-      limits = c.requires.limits;
+      fits = c.requires.fits;
       guards_schema = c.requires.guards_schema;
       guarded_are = c.requires.guarded;
       sentence = c.requires.sentence;

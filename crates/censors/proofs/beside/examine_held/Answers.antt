@@ -4,9 +4,9 @@ use Rattle.censors.specs.Parts.{CanBeExamined}
 use Rattle.censors.specs.declared.lent.Held.{Held}
 use Rattle.censors.proofs.beside.examine_held.Goals as goal
 
-pub examine-requires-clause-limits : goal.examine-requires-clause-limits
-examine-requires-clause-limits g c =
-    (subst (λ (h : Held). CanBeExamined c.args.guards.now c.args.user.now c.args.query.now (held_view h)) c.in-One.is c.requires.can).limits
+pub examine-requires-clause-fits : goal.examine-requires-clause-fits
+examine-requires-clause-fits g c =
+    (subst (λ (h : Held). CanBeExamined c.args.guards.now c.args.user.now c.args.query.now (held_view h)) c.in-One.is c.requires.can).fits
 
 pub examine-requires-clause-guards_schema : goal.examine-requires-clause-guards_schema
 examine-requires-clause-guards_schema g c =

@@ -23,7 +23,7 @@ use Rattle.censors.proofs.beside.examine_in_lanes.Goals as goal
 pub cut_of-cut-requires-clause-few : goal.cut_of-cut-requires-clause-few
 cut_of-cut-requires-clause-few g c =
     let user = profile_of c.args.user.now in
-    let few = guarded_few user.method user.secrets c.requires.can.limits.few_secrets in
+    let few = guarded_few user.method user.secrets c.requires.can.fits.few_secrets in
     let shown = length-map c.sentences-goals.result.now sentence_of in
     let same = ap length (c.sentences-goals.ensures.sentences ∙ c.requires.can.guarded_are) in
     omega (arith, few, shown, same)
@@ -51,7 +51,7 @@ run_all-requires-clause-can g c _ _ =
     let user = c.args.user.now in
     let query = c.args.query.now in
     let goals = c.sentences-goals.result.now in
-    let can = asked_guarded user query goals c.law_limits.ensures.probes c.args.guards.now first c.requires.can c.sentences-goals.ensures.sentences
+    let can = asked_guarded user query goals c.args.guards.now first c.requires.can c.sentences-goals.ensures.sentences
     c.sentences-goals.ensures.grounded in
     subst (All (λ (lane : Lane). CanBeAskedAt user query goals lane.view)) (sym lent)
     (all_in (λ (lane : Lane). lane.view) (CanBeAskedAt user query goals) items
@@ -64,7 +64,7 @@ run_all-requires-clause-cut g c _ _ = c.cut_of-cut.ensures.cut
 pub run_all-requires-clause-few : goal.run_all-requires-clause-few
 run_all-requires-clause-few g c _ _ =
     let user = profile_of c.args.user.now in
-    let few = guarded_few user.method user.secrets c.requires.can.limits.few_secrets in
+    let few = guarded_few user.method user.secrets c.requires.can.fits.few_secrets in
     let shown = length-map c.sentences-goals.result.now sentence_of in
     let same = ap length (c.sentences-goals.ensures.sentences ∙ c.requires.can.guarded_are) in
     omega (arith, few, shown, same)

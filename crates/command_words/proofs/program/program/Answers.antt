@@ -20,4 +20,6 @@ returns c =
     c.in_ok-subcommand-4.ensures.shape c.in_ok-audit.ensures.plain ∙ ap₂ with_subcommand batch (ap (λ (a : App). a.top) c.in_ok-audit.ensures.shape) in
     let selfrun =
     c.in_ok-subcommand-5.ensures.shape c.in_ok-selfrun.ensures.plain ∙ ap₂ with_subcommand audit (ap (λ (a : App). a.top) c.in_ok-selfrun.ensures.shape) in
-    c.in_ok-program.ensures.shape c.in_ok-serve.ensures.plain ∙ ap₂ with_subcommand selfrun (ap (λ (a : App). a.top) c.in_ok-serve.ensures.shape)
+    let serve =
+    c.in_ok-subcommand-6.ensures.shape c.in_ok-serve.ensures.plain ∙ ap₂ with_subcommand selfrun (ap (λ (a : App). a.top) c.in_ok-serve.ensures.shape) in
+    c.in_ok-program.ensures.shape c.in_ok-migrate.ensures.plain ∙ ap₂ with_subcommand serve (ap (λ (a : App). a.top) c.in_ok-migrate.ensures.shape)

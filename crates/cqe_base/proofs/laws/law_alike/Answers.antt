@@ -1,5 +1,5 @@
 use Rattle.cqe_base.proofs.Alike.{logs_keep_secrets, countermodel_alike, legal_entries_reply_alike}
-use Rattle.cqe_base.proofs.Confidential.{disjunction_false}
+use Rattle.cqe_base.proofs.Disjunctions.{disjunction_false}
 use Rattle.cqe_base.proofs.laws.law_alike.Goals as goal
 
 pub returns-clause-kept : goal.returns-clause-kept

@@ -3,15 +3,16 @@ use Rattle.std.specs.Prelude.{Some, option_map}
 use Rattle.command_words.specs.Readings.{FileNames, reading_in, names_of_files, runs_selfrun}
 use Rattle.cqe_top.specs.Steps.{reading_over, KeepsBounds}
 use Rattle.cqe_top.specs.declared.over_files.Task.{Task}
-use Rattle.cqe_top.specs.declared.over_files.Task.TheVariants.{Init, Batch, Audit, Serve}
+use Rattle.cqe_top.specs.declared.over_files.Task.TheVariants.{Init, Batch, Audit, Migrate, Serve}
 use Rattle.cqe_top.proofs.Numbers.{Keeps, kept}
 use Rattle.cqe_top.proofs.command.run.Goals as goal
 
 -- a task over files keeps the bounds of its reading
-bounds_of : (files : FileNames) (task : Task) → Keeps (reading_over files task) → KeepsBounds task
+bounds_of : (files : FileNames) (task : Task) → Keeps (reading_over files task) → KeepsBounds files task
 bounds_of files Init keeps = tt
 bounds_of files (Batch workers) keeps = keeps
 bounds_of files (Audit user json) keeps = tt
+bounds_of files (Migrate to) keeps = keeps
 bounds_of files (Serve listening) keeps = keeps
 
 pub run_selfrun-end-requires-clause-some_user : goal.run_selfrun-end-requires-clause-some_user

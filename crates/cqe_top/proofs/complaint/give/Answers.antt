@@ -1,7 +1,7 @@
 use Rattle.std.proofs.Common.{◌≡◌, ◌++◌, sym, ap, subst, ◌∙◌}
-use Rattle.std.specs.Prelude.{OnOk, OnErr, codes}
+use Rattle.std.specs.Prelude.{OnOk, OnErr, codes, slice_get}
 use Rattle.outside.specs.Streams.{AppendsPart}
-use Rattle.cqe_top.specs.Complaints.{complaint_of, journal_lines}
+use Rattle.cqe_top.specs.Complaints.{complaint_of, user_line, journal_lines}
 use Rattle.cqe_top.proofs.Writing.{three_parts}
 use Rattle.cqe_top.proofs.complaint.give.Goals as goal
 
@@ -67,6 +67,22 @@ returns-in-LinksFault-clause-part g c = λ told.
     (AppendsPart (g.E.Sink.written c.args.complaints.now) (g.E.Sink.written c.write_all-in-LinksFault.new.sink) (complaint_of end)))
     (sym c.in-LinksFault.is)
     (c.write_all-in-LinksFault.ensures.part told)
+
+pub returns-in-JournalAt-clause-part : goal.returns-in-JournalAt-clause-part
+returns-in-JournalAt-clause-part g c = λ told.
+    subst (λ text. OnErr c.give_user.result
+    (AppendsPart (g.E.Sink.written c.args.complaints.now) (g.E.Sink.written c.give_user.new.complaints) text))
+    (ap (λ users. user_line (slice_get users c.in-JournalAt.number) c.opening_cause.result) c.as_slice.ensures.value
+    ∙ ap (user_line (slice_get c.in-JournalAt.users.items c.in-JournalAt.number)) c.opening_cause.ensures ∙ ap complaint_of (sym c.in-JournalAt.is))
+    (c.give_user.ensures.part told)
+
+pub returns-in-TargetAt-clause-part : goal.returns-in-TargetAt-clause-part
+returns-in-TargetAt-clause-part g c = λ told.
+    subst (λ text. OnErr c.give_user-in-TargetAt.result
+    (AppendsPart (g.E.Sink.written c.args.complaints.now) (g.E.Sink.written c.give_user-in-TargetAt.new.complaints) text))
+    (ap (λ users. user_line (slice_get users c.in-TargetAt.number) c.new.result) c.as_slice-in-TargetAt.ensures.value
+    ∙ ap (user_line (slice_get c.in-TargetAt.users.items c.in-TargetAt.number)) c.new.ensures ∙ ap complaint_of (sym c.in-TargetAt.is))
+    (c.give_user-in-TargetAt.ensures.part told)
 
 pub returns-in-Journals-clause-part : goal.returns-in-Journals-clause-part
 returns-in-Journals-clause-part g c = λ told.

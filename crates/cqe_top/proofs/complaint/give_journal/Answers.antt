@@ -1,17 +1,19 @@
 use Rattle.std.proofs.Common.{◌≡◌, ◌++◌, subst}
-use Rattle.std.specs.Prelude.{OnOk, OnErr, codes}
+use Rattle.std.specs.Prelude.{OnOk, OnErr}
 use Rattle.outside.specs.Streams.{AppendsPart}
-use Rattle.cqe_top.proofs.Writing.{journal_parts}
+use Rattle.cqe_top.specs.Complaints.{cause_line}
 use Rattle.cqe_top.proofs.complaint.give_journal.Goals as goal
 
 pub returns-clause-all : goal.returns-clause-all
 returns-clause-all g c = λ told.
-    subst (λ t. OnOk c.write_parts.result (g.E.Sink.written c.write_parts.new.sink ≡ g.E.Sink.written c.args.complaints.now ++ t))
-    (journal_parts (codes "cqe: journal ") (codes " ") (codes "\n") c.as_bytes.ensures.value c.bytes.ensures c.bytes-2.ensures c.journal_cause-cause.ensures)
-    (c.write_parts.ensures.all told)
+    subst (λ t. OnOk c.give_cause.result
+    (g.E.Sink.written c.give_cause.new.complaints ≡ g.E.Sink.written c.args.complaints.now ++ cause_line c.args.name.now t))
+    c.journal_cause-cause.ensures
+    (c.give_cause.ensures.all told)
 
 pub returns-clause-part : goal.returns-clause-part
 returns-clause-part g c = λ told.
-    subst (λ t. OnErr c.write_parts.result (AppendsPart (g.E.Sink.written c.args.complaints.now) (g.E.Sink.written c.write_parts.new.sink) t))
-    (journal_parts (codes "cqe: journal ") (codes " ") (codes "\n") c.as_bytes.ensures.value c.bytes.ensures c.bytes-2.ensures c.journal_cause-cause.ensures)
-    (c.write_parts.ensures.part told)
+    subst (λ t. OnErr c.give_cause.result
+    (AppendsPart (g.E.Sink.written c.args.complaints.now) (g.E.Sink.written c.give_cause.new.complaints) (cause_line c.args.name.now t)))
+    c.journal_cause-cause.ensures
+    (c.give_cause.ensures.part told)

@@ -13,23 +13,24 @@ use Rattle.policy_files.specs.Users.{names_of}
 use Rattle.cqe_top.specs.Audit.{OfAudit, RunsAudit, FindsNobody}
 use Rattle.cqe_top.specs.Batch.{OfBatch, RunsBatch}
 use Rattle.cqe_top.specs.Init.{OfInit, RunsInit, change_on}
+use Rattle.cqe_top.specs.Migrate.{OfMigrate, RunsMigrate}
 use Rattle.cqe_top.specs.Scene.{Scene, scene_of, shelf_of, input_of, output_of, links_of}
 use Rattle.cqe_top.specs.Promise.{OfReading}
 use Rattle.cqe_top.specs.Serve.{OfServe, RunsServe}
 use Rattle.cqe_top.specs.Steps.{reading_over}
 use Rattle.cqe_top.specs.declared.end.CommandEnd.TheVariants as ends
-use Rattle.cqe_top.proofs.Causes.{files_cause, init_cause, batch_cause, audit_cause, serve_cause}
+use Rattle.cqe_top.proofs.Causes.{files_cause, init_cause, batch_cause, audit_cause, migrate_cause, serve_cause}
 use Rattle.cqe_top.proofs.Finding.{is_named, one_named, named_at, nobody_named}
-use Rattle.cqe_top.proofs.Good.{unread, init_succeeds, batch_succeeds, audit_succeeds, nobody_succeeds}
+use Rattle.cqe_top.proofs.Good.{unread, init_succeeds, batch_succeeds, audit_succeeds, migrate_succeeds, nobody_succeeds}
 use Rattle.cqe_top.proofs.Over.{serve_over, init_caused, some_rose, same_journals, touches_over, init_over, others_over, bytes_over, images_over, batch_over}
 use Rattle.cqe_top.proofs.Over.{batch_left, serve_left, one_of, silent_end, counts_over, counted_over, moments_over}
-use Rattle.cqe_top.proofs.Over.{durable_over}
+use Rattle.cqe_top.proofs.Over.{durable_over, migrate_over, migrate_caused, counts_both, at_one_of}
 use Rattle.cqe_top.proofs.Serving.{serve_succeeds, served_out}
 use Rattle.cqe_top.proofs.Users.{batch_names_are}
 use Rattle.cqe_top.proofs.over_files.run_over_files.Given.{Over}
 use Rattle.cqe_top.proofs.over_files.run_over_files.Goals as goal
 use Rattle.cqe_top.proofs.over_files.run_over_files.Goals.{After-drop-inputs-5, After-drop-inputs-in-Audit-5, After-drop-inputs-in-Batch-4}
-use Rattle.cqe_top.proofs.over_files.run_over_files.Goals.{After-drop-inputs-in-Init-3, After-drop-inputs-in_default-5, In-Err}
+use Rattle.cqe_top.proofs.over_files.run_over_files.Goals.{After-drop-inputs-in-Init-3, After-drop-inputs-in-Migrate-4, After-drop-inputs-in_default-5, In-Err}
 
 pub run_batch-end-requires-clause-names : goal.run_batch-end-requires-clause-names
 run_batch-end-requires-clause-names g c κs within =
@@ -277,6 +278,67 @@ returns-in-Audit-clause-command g c =
       listens_nowhere = refl;
     } in
     subst (λ task. OfReading scene (Some (reading_over files task)) (ends.Audit c.in-Audit.name c.run_audit.result)) (sym c.in-Audit.is) does
+
+-- ---- the moving of journals
+
+abbrev migrate_scene : (g : Over) → After-drop-inputs-in-Migrate-4 g → Scene
+migrate_scene g c =
+    scene_of (shelf_of g.F.Shelf g.F.D.Disk c.args.shelf.now c.run_migrate-end.new.shelf) (input_of g.S.Source c.args.source.now c.args.source.now)
+    (output_of g.K.Sink c.args.sink.now c.args.sink.now) (links_of g.L.Links c.args.links.now c.args.links.now)
+
+pub returns-in-Migrate-clause-cause : goal.returns-in-Migrate-clause-cause
+returns-in-Migrate-clause-cause g c =
+    let scene = migrate_scene g c in
+    let read = c.in-Ok.ensures in
+    let ran = c.run_migrate-end.ensures in
+    let files = names_of_files c.args.files in
+    let inputs = c.in-Ok.inputs in
+    let to = c.in-Migrate.to.now in
+    let moved = migrate_over g.F.Shelf g.F.D.Disk c.args.shelf.now c.read_files.new.shelf c.run_migrate-end.new.shelf read.disks read.counts files
+    (header_bytes inputs.header)
+    to inputs.policy c.as_slice.result.now c.run_migrate-end.result c.as_slice.ensures.value read.later ran.ends in
+    let caused = migrate_caused g.F.Shelf.tells g.F.D.Disk (header_bytes inputs.header) files.directory to
+    (names_of (map policy_user_of inputs.policy.users.items))
+    (change_on scene.shelf) c.run_migrate-end.result moved in
+    migrate_cause scene inputs.policy.users c.run_migrate-end.result caused.0 caused.1
+
+pub returns-in-Migrate-clause-command : goal.returns-in-Migrate-clause-command
+returns-in-Migrate-clause-command g c =
+    let scene = migrate_scene g c in
+    let read = c.in-Ok.ensures in
+    let ran = c.run_migrate-end.ensures in
+    let files = names_of_files c.args.files in
+    let inputs = c.in-Ok.inputs in
+    let to = c.in-Migrate.to.now in
+    let moved = migrate_over g.F.Shelf g.F.D.Disk c.args.shelf.now c.read_files.new.shelf c.run_migrate-end.new.shelf read.disks read.counts files
+    (header_bytes inputs.header)
+    to inputs.policy c.as_slice.result.now c.run_migrate-end.result c.as_slice.ensures.value read.later ran.ends in
+    let runs : RunsMigrate scene.shelf files to inputs.policy.users c.run_migrate-end.result = record {
+      over_files = λ told. (
+        policy_value_of inputs.policy,
+        inputs.world,
+        header_bytes inputs.header,
+        read.read told,
+        record {
+          of_policy = refl;
+          moves = moved;
+          counts = counts_both g.F.Shelf g.F.D.Disk c.args.shelf.now c.read_files.new.shelf c.run_migrate-end.new.shelf read.disks read.counts files
+              to inputs.policy c.as_slice.result.now c.as_slice.ensures.value ran.other_counts;
+        },
+      );
+      looks = λ told. ran.looked ∙ read.both told;
+      within =
+          at_one_of g.F.Shelf.tells g.F.D.Disk (header_bytes inputs.header) files.directory to c.as_slice.result.now inputs.policy.users.items
+          _ c.run_migrate-end.result c.as_slice.ensures.value ran.ends;
+    } in
+    let does : OfMigrate scene files to (ends.Migrate inputs.policy.users c.run_migrate-end.result) = record {
+      ends = runs;
+      succeeds = migrate_succeeds scene files to inputs.policy.users c.run_migrate-end.result runs (returns-in-Migrate-clause-cause g c);
+      reads_nothing = refl;
+      writes_nothing = refl;
+      listens_nowhere = refl;
+    } in
+    subst (λ task. OfReading scene (Some (reading_over files task)) (ends.Migrate inputs.policy.users c.run_migrate-end.result)) (sym c.in-Migrate.is) does
 
 -- ---- a server
 

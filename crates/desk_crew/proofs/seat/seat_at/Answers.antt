@@ -12,4 +12,4 @@ returns-in-Ok-new-clause-opened g c =
     (header_bytes c.args.registry.now.header.now) g.D.Disk c.in-Ok.desk _ put.kept put.history
     put.in_flight put.first put.mine put.turns c.args.disk c.args.before
     at.schema at.world at.user at.header c.requires.admission at.standing at.restarted at.whole at.opening.0 at.opening.1 (c.first_refusal-refusal.ensures
-    ∙ ap (first_refusal c.args.before) c.standing.ensures) c.known.ensures.images c.known.ensures.legal
+    ∙ ap (first_refusal c.args.before) c.standing.ensures) c.known.ensures.images c.known.ensures.legal c.known.ensures.sizes

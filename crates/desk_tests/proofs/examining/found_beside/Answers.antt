@@ -1,10 +1,10 @@
 use Rattle.censors.proofs.Gathering.{examined_alike}
 use Rattle.desk_tests.proofs.examining.found_beside.Goals as goal
 
-pub examine_beside-requires-clause-limits : goal.examine_beside-requires-clause-limits
-examine_beside-requires-clause-limits g c κs within =
+pub examine_beside-requires-clause-fits : goal.examine_beside-requires-clause-fits
+examine_beside-requires-clause-fits g c κs within =
     (examined_alike c.args.guards.now c.args.user.now c.args.query.now c.args.views.now c.in_ok-lent.lent
-    (c.in_ok-lent.ensures.schema, c.in_ok-lent.ensures.log) c.requires).limits
+    (c.in_ok-lent.ensures.schema, c.in_ok-lent.ensures.log) c.requires).fits
 
 pub examine_beside-requires-clause-guards_schema : goal.examine_beside-requires-clause-guards_schema
 examine_beside-requires-clause-guards_schema g c κs within =

@@ -1,10 +1,10 @@
 use Rattle.censors.proofs.Gathering.{examined_alike}
 use Rattle.desk_tests.proofs.examining.found_plainly.Goals as goal
 
-pub examine-requires-clause-limits : goal.examine-requires-clause-limits
-examine-requires-clause-limits c =
+pub examine-requires-clause-fits : goal.examine-requires-clause-fits
+examine-requires-clause-fits c =
     (examined_alike c.args.guards.now c.args.user.now c.args.query.now c.args.views.now c.in_ok-view.view
-    (c.in_ok-view.ensures.schema, c.in_ok-view.ensures.log) c.requires).limits
+    (c.in_ok-view.ensures.schema, c.in_ok-view.ensures.log) c.requires).fits
 
 pub examine-requires-clause-guards_schema : goal.examine-requires-clause-guards_schema
 examine-requires-clause-guards_schema c =

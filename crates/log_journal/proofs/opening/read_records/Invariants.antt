@@ -5,8 +5,8 @@ use Rattle.log_journal.proofs.opening.read_records.Given as goal
 
 abbrev pub invariant-loop : goal.invariant-loop
 invariant-loop g l = record {
-  so_far : g.D.Disk.tells → SoFar (g.D.Disk.reads l.disk) (map recorded l.records.items) (drop l.gate (g.D.Disk.reads l.disk));
-  each : All IsRecord l.records.items;
+  so_far : g.D.Disk.tells → SoFar l.kinds (g.D.Disk.reads l.disk) (map recorded l.records.items) (drop l.gate (g.D.Disk.reads l.disk));
+  each : All (IsRecord l.kinds) l.records.items;
   only : IsOnlyRead (g.D.Disk.reads l.initial.disk) (g.D.Disk.reads l.disk) (g.D.Disk.image l.initial.disk) (g.D.Disk.image l.disk)
       (g.D.Disk.moment l.initial.disk) (g.D.Disk.moment l.disk) (g.D.Disk.image_since l.initial.disk) (g.D.Disk.image_since l.disk)
       (g.D.Disk.faults l.initial.disk) (g.D.Disk.faults l.disk);

@@ -6,7 +6,7 @@ pub returns-clause-found : goal.returns-clause-found
 returns-clause-found g c told =
     let R = g.D.Disk.reads c.args.disk.now in
     let window = take c.in_ok-count.count c.read_at.new.into in
-    found_in window (drop c.args.gate R)
+    found_in c.args.kinds window (drop c.args.gate R)
     (window_of R c.args.gate c.in_ok-count.count _ c.read_at.new.into window refl (c.requires told) (c.in_ok-count.ensures.bytes told) refl)
     c.first_record.result c.first_record.ensures.found
 
@@ -14,6 +14,6 @@ pub returns-clause-refused : goal.returns-clause-refused
 returns-clause-refused g c =
     let R = g.D.Disk.reads c.args.disk.now in
     let window = take c.in_ok-count.count c.read_at.new.into in
-    stopped_in g.D.Disk.tells window (drop c.args.gate R) c.args.number (g.D.Disk.faults c.args.disk.now) _
+    stopped_in c.args.kinds g.D.Disk.tells window (drop c.args.gate R) c.args.number (g.D.Disk.faults c.args.disk.now) _
     (λ told. window_of R c.args.gate c.in_ok-count.count _ c.read_at.new.into window refl (c.requires told) (c.in_ok-count.ensures.bytes told) refl)
     c.first_record.result c.first_record.ensures.err

@@ -2,9 +2,9 @@ use Rattle.std.proofs.Common.{refl, ap}
 use Rattle.std.specs.Prelude.{Some, None}
 use Rattle.user_log.specs.Replies.{reply_of}
 use Rattle.line_protocol.specs.Replies.{text_of}
-use Rattle.line_protocol.specs.Requests.{meaning_of, login_as, ask_for, quit_session, other_line}
+use Rattle.line_protocol.specs.Requests.{meaning_of, login_as, ask_for, list_for, quit_session, other_line}
 use Rattle.line_protocol.specs.declared.reply.Reply.TheVariants.{Code, Welcome, Bye}
-use Rattle.session_core.specs.Talks.{welcome, no_login, logged_in, not_yet, bye, unknown}
+use Rattle.session_core.specs.Talks.{welcome, no_login, logged_in, not_yet, not_listed, bye, unknown}
 use Rattle.session_core.specs.Members.{users_of, fixeds_of, passes_in}
 use Rattle.session_core.proofs.Passing.{passes_kept, nothing_asked, something_asked}
 use Rattle.session_core.proofs.session.reply_to.Goals as goal
@@ -51,6 +51,22 @@ returns-in-Ask-Some-clause-replies g c =
     something_asked (users_of counters) (fixeds_of counters) c.args.who c.in-Ask-Some.place (meaning_of c.args.request) c.in-Ask-Some.text.now
     (text_of c.line_reply.result) (reply_of c.ask_at-reply.result) (passes_in c.args.passes.now) (passes_in c.ask_at-reply.new.passes)
     c.in-Ask-Some.is-1 (ap meaning_of c.in-Ask-Some.is-0) c.line_reply.ensures c.ask_at-reply.ensures.asked
+
+pub returns-in-List-None-clause-replies : goal.returns-in-List-None-clause-replies
+returns-in-List-None-clause-replies g c =
+    let counters = c.args.counters.now in
+    let passes = passes_in c.args.passes.now in
+    nothing_asked (users_of counters) (fixeds_of counters) c.args.who None None None (meaning_of c.args.request)
+    (list_for c.in-List-None.count-0 c.in-List-None.text-0.now) (text_of (Code 25)) passes
+    c.requires.place (passes_kept passes counters.counters.items c.requires.passes.are) c.in-List-None.is-1 refl (ap meaning_of c.in-List-None.is-0) not_listed
+
+pub returns-in-List-Some-clause-replies : goal.returns-in-List-Some-clause-replies
+returns-in-List-Some-clause-replies g c = record {
+  who_is = c.in-List-Some.is-1;
+  next_is = c.in-List-Some.is-1;
+  request_is = ap meaning_of c.in-List-Some.is-0;
+  same = refl;
+}
 
 pub returns-in-Quit-default-clause-replies : goal.returns-in-Quit-default-clause-replies
 returns-in-Quit-default-clause-replies g c =

@@ -1,12 +1,15 @@
 use Rattle.std.proofs.Common.{◌++◌, refl, sym, ap, subst, ◌∙◌, arith}
+use Rattle.std.specs.Prelude.{IsErr}
 use Rattle.outside.proofs.Rises.{rose_since}
 use Rattle.line_protocol.specs.Buffer.{unread}
-use Rattle.line_protocol.specs.Replies.{text_of}
 use Rattle.line_protocol.specs.Requests.{request_of}
 use Rattle.session_core.specs.Heard.{is_quit}
 use Rattle.session_core.specs.Members.{users_of, fixeds_of, passes_in}
-use Rattle.session_core.specs.Asked.{Replies, IsShort}
-use Rattle.session_core.proofs.Talking.{short_request}
+use Rattle.session_core.specs.Talks.{Answers}
+use Rattle.session_core.specs.Desks.{AsksOf, schemas_of}
+use Rattle.session_core.specs.Asked.{IsWithin}
+use Rattle.session_core.specs.Sessions.{Spoken}
+use Rattle.session_core.proofs.Talking.{request_within}
 use Rattle.session_core.proofs.Legality.{desks_counted, owners_are, all_hide}
 use Rattle.session_core.proofs.Passing.{passes_kept}
 use Rattle.session_core.proofs.Serving.{nothing_yet, turns_left, ends_input, ends_read, ends_many, ends_long, goes_on_more, ends_quit, ends_cut}
@@ -49,41 +52,45 @@ returns-in-ReadFault-clause-session g c = ends_read _ _ _ _ _ _ _ _ _ _ _ _ c.lo
 pub returns-in-ReadFault-clause-read_cause : goal.returns-in-ReadFault-clause-read_cause
 returns-in-ReadFault-clause-read_cause g c = λ is. rose_since _ _ _ c.loop.invariant.source_later (c.in-ReadFault.ensures.cause refl)
 
-pub reply_to-next-requires-clause-turns : goal.reply_to-next-requires-clause-turns
-reply_to-next-requires-clause-turns g c κs within =
+pub write_answer-next-requires-clause-turns : goal.write_answer-next-requires-clause-turns
+write_answer-next-requires-clause-turns g c κs within =
     turns_left _ _ _ _ _ _ _ _ _ _ _ _ c.loop.invariant.so_far (omega (arith, c.loop-test.true)) c.requires.turns
 
-pub reply_to-next-requires-clause-short : goal.reply_to-next-requires-clause-short
-reply_to-next-requires-clause-short g c κs within = subst IsShort (sym c.read_request-request.ensures) (short_request c.line.result.now c.line.ensures.short)
+pub write_answer-next-requires-clause-within : goal.write_answer-next-requires-clause-within
+write_answer-next-requires-clause-within g c κs within =
+    subst IsWithin (sym c.read_request-request.ensures) (request_within c.line.result.now c.line.ensures.short)
 
 pub returns-in-Err-clause-session : goal.returns-in-Err-clause-session
 returns-in-Err-clause-session g c =
     let counters = c.args.counters.now in
     let same = c.read_request-request.ensures ∙ ap (λ l. request_of l) c.line.ensures.line in
-    ends_cut _ _ _ _ _ _ _ _ _ _ _ _ c.loop.invariant.so_far
-    (unread c.read_line.new.buffer (g.S.Source.left c.read_line.new.source)) c.read_line.new.buffer.line c.reply_to-next.result.0
-    (text_of c.reply_to-next.result.1) (passes_in c.reply_to-next.new.passes)
-    (g.K.Sink.written c.write_reply.new.sink) (desks_counted (users_of counters) (fixeds_of counters) c.loop.invariant.so_far.own)
+    ends_cut _ _ _ _ _ _ _ _ _ _ _ _ c.loop.invariant.so_far c.write_answer-next.result.1
+    (unread c.read_line.new.buffer (g.S.Source.left c.read_line.new.source)) c.read_line.new.buffer.line c.write_answer-next.result.0
+    (passes_in c.write_answer-next.new.passes) (g.K.Sink.written c.write_answer-next.new.sink)
+    (desks_counted (users_of counters) (fixeds_of counters) c.loop.invariant.so_far.own)
     (passes_kept (passes_in c.args.passes.now) counters.counters.items c.requires.passes.are) (omega (arith, c.loop-test.true))
     (λ s. c.in-Line.ensures.reads s)
-    (subst (λ r. Replies (users_of counters) (fixeds_of counters) c.loop.who r c.reply_to-next.result.0 (text_of c.reply_to-next.result.1)
-    (passes_in c.loop.passes) (passes_in c.reply_to-next.new.passes)) same c.reply_to-next.ensures.replies) c.in-Err.ensures.part
+    (subst (λ r. Spoken g.K.Sink.tells (Answers (users_of counters) (schemas_of (fixeds_of counters)) c.loop.who r c.write_answer-next.result.0)
+    (AsksOf c.loop.who (fixeds_of counters) (passes_in c.loop.passes) (passes_in c.write_answer-next.new.passes)) c.write_answer-next.result.1
+    (g.K.Sink.written c.loop.sink) (g.K.Sink.written c.write_answer-next.new.sink)) same c.write_answer-next.ensures.spoken) _ c.in-Err.is
 
 pub returns-in-Err-clause-write_cause : goal.returns-in-Err-clause-write_cause
-returns-in-Err-clause-write_cause g c = λ is. rose_since _ _ _ c.loop.invariant.sink_later (c.in-Err.ensures.cause.failed refl)
+returns-in-Err-clause-write_cause g c = λ is.
+    rose_since _ _ _ c.loop.invariant.sink_later (c.write_answer-next.ensures.cause.failed (subst IsErr (sym c.in-Err.is) refl))
 
 pub returns-then-is_quit-clause-session : goal.returns-then-is_quit-clause-session
 returns-then-is_quit-clause-session g c =
     let counters = c.args.counters.now in
     let same = c.read_request-request.ensures ∙ ap (λ l. request_of l) c.line.ensures.line in
-    ends_quit _ _ _ _ _ _ _ _ _ _ _ _ c.loop.invariant.so_far
-    (unread c.read_line.new.buffer (g.S.Source.left c.read_line.new.source)) c.read_line.new.buffer.line c.reply_to-next.result.0
-    (text_of c.reply_to-next.result.1) (passes_in c.reply_to-next.new.passes)
-    (g.K.Sink.written c.write_reply.new.sink) (desks_counted (users_of counters) (fixeds_of counters) c.loop.invariant.so_far.own)
+    ends_quit _ _ _ _ _ _ _ _ _ _ _ _ c.loop.invariant.so_far c.write_answer-next.result.1
+    (unread c.read_line.new.buffer (g.S.Source.left c.read_line.new.source)) c.read_line.new.buffer.line c.write_answer-next.result.0
+    (passes_in c.write_answer-next.new.passes) (g.K.Sink.written c.write_answer-next.new.sink)
+    (desks_counted (users_of counters) (fixeds_of counters) c.loop.invariant.so_far.own)
     (passes_kept (passes_in c.args.passes.now) counters.counters.items c.requires.passes.are) (omega (arith, c.loop-test.true))
     (λ s. c.in-Line.ensures.reads s)
-    (subst (λ r. Replies (users_of counters) (fixeds_of counters) c.loop.who r c.reply_to-next.result.0 (text_of c.reply_to-next.result.1)
-    (passes_in c.loop.passes) (passes_in c.reply_to-next.new.passes)) same c.reply_to-next.ensures.replies) c.in-Ok.ensures.all
+    (subst (λ r. Spoken g.K.Sink.tells (Answers (users_of counters) (schemas_of (fixeds_of counters)) c.loop.who r c.write_answer-next.result.0)
+    (AsksOf c.loop.who (fixeds_of counters) (passes_in c.loop.passes) (passes_in c.write_answer-next.new.passes)) c.write_answer-next.result.1
+    (g.K.Sink.written c.loop.sink) (g.K.Sink.written c.write_answer-next.new.sink)) same c.write_answer-next.ensures.spoken) _ c.in-Ok.is
     (sym (ap is_quit same) ∙ sym c.is_quit.ensures ∙ c.if-is_quit.true)
 
 pub loop-preserved : goal.loop-preserved
@@ -92,22 +99,23 @@ loop-preserved g c =
     let same = c.read_request-request.ensures ∙ ap (λ l. request_of l) c.line.ensures.line in
     let before = c.loop.invariant in
     record {
-      so_far = goes_on_more _ _ _ _ _ _ _ _ _ _ _ _ before.so_far
-          (unread c.read_line.new.buffer (g.S.Source.left c.read_line.new.source)) c.read_line.new.buffer.line c.reply_to-next.result.0
-          (text_of c.reply_to-next.result.1) (passes_in c.reply_to-next.new.passes)
-          (g.K.Sink.written c.write_reply.new.sink) (desks_counted (users_of counters) (fixeds_of counters) c.loop.invariant.so_far.own)
+      so_far = goes_on_more _ _ _ _ _ _ _ _ _ _ _ _ c.loop.invariant.so_far c.write_answer-next.result.1
+          (unread c.read_line.new.buffer (g.S.Source.left c.read_line.new.source)) c.read_line.new.buffer.line c.write_answer-next.result.0
+          (passes_in c.write_answer-next.new.passes) (g.K.Sink.written c.write_answer-next.new.sink)
+          (desks_counted (users_of counters) (fixeds_of counters) c.loop.invariant.so_far.own)
           (passes_kept (passes_in c.args.passes.now) counters.counters.items c.requires.passes.are) (omega (arith, c.loop-test.true))
           (λ s. c.in-Line.ensures.reads s)
-          (subst (λ r. Replies (users_of counters) (fixeds_of counters) c.loop.who r c.reply_to-next.result.0 (text_of c.reply_to-next.result.1)
-          (passes_in c.loop.passes) (passes_in c.reply_to-next.new.passes)) same c.reply_to-next.ensures.replies) c.in-Ok.ensures.all
+          (subst (λ r. Spoken g.K.Sink.tells (Answers (users_of counters) (schemas_of (fixeds_of counters)) c.loop.who r c.write_answer-next.result.0)
+          (AsksOf c.loop.who (fixeds_of counters) (passes_in c.loop.passes) (passes_in c.write_answer-next.new.passes)) c.write_answer-next.result.1
+          (g.K.Sink.written c.loop.sink) (g.K.Sink.written c.write_answer-next.new.sink)) same c.write_answer-next.ensures.spoken) _ c.in-Ok.is
           (sym (ap is_quit same) ∙ sym c.is_quit.ensures ∙ c.if-is_quit.false);
-      passes = c.reply_to-next.ensures.passes;
-      place = c.reply_to-next.ensures.place;
+      passes = c.write_answer-next.ensures.passes;
+      place = c.write_answer-next.ensures.place;
       left = λ told bytes ends. c.in-Line.ensures.left told bytes (before.left told bytes ends);
       held = c.in-Line.ensures.held ∙ before.held;
-      answers = c.write_reply.ensures.answers ∙ before.answers;
+      answers = c.write_answer-next.ensures.answers ∙ before.answers;
       source_later = omega (arith, before.source_later, c.in-Line.ensures.later);
-      sink_later = omega (arith, before.sink_later, c.in-Ok.ensures.cause.later);
+      sink_later = omega (arith, before.sink_later, c.write_answer-next.ensures.cause.later);
     }
 
 pub returns-clause-session : goal.returns-clause-session
@@ -125,11 +133,11 @@ returns-in-ReadFault-clause-hides g c = all_hide c.law_hides.ensures (fixeds_of 
 
 pub returns-in-Err-clause-hides : goal.returns-in-Err-clause-hides
 returns-in-Err-clause-hides g c =
-    all_hide c.law_hides.ensures (fixeds_of c.args.counters.now) (passes_in c.reply_to-next.new.passes) c.reply_to-next.ensures.passes.legal
+    all_hide c.law_hides.ensures (fixeds_of c.args.counters.now) (passes_in c.write_answer-next.new.passes) c.write_answer-next.ensures.passes.legal
 
 pub returns-then-is_quit-clause-hides : goal.returns-then-is_quit-clause-hides
 returns-then-is_quit-clause-hides g c =
-    all_hide c.law_hides.ensures (fixeds_of c.args.counters.now) (passes_in c.reply_to-next.new.passes) c.reply_to-next.ensures.passes.legal
+    all_hide c.law_hides.ensures (fixeds_of c.args.counters.now) (passes_in c.write_answer-next.new.passes) c.write_answer-next.ensures.passes.legal
 
 pub returns-clause-hides : goal.returns-clause-hides
 returns-clause-hides g c = all_hide c.law_hides.ensures (fixeds_of c.args.counters.now) (passes_in c.loop.passes) c.loop.invariant.passes.legal

@@ -1,4 +1,4 @@
-use Rattle.std.proofs.Common.{◌≡◌, ◌≤◌, nat_le, true, [], sym, ap, subst, ◌∙◌, arith}
+use Rattle.std.proofs.Common.{◌≡◌, ◌≤◌, nat_le, true, sym, ap, subst, ◌∙◌, arith}
 use Rattle.std.proofs.lemmas.List.{length-map}
 use Rattle.std.proofs.lemmas.Bool.{leb-true}
 use Rattle.cqe_base.specs.Formula.{formula_of, nodes, is_sentence_of}
@@ -8,10 +8,9 @@ use Rattle.two_worlds.proofs.worlds.ground_guard.Goals as goal
 
 pub new-requires-clause-sentence : goal.new-requires-clause-sentence
 new-requires-clause-sentence c =
-    let user = profile_of c.args.user.now in
-    let fits = c.law_limits.ensures.probes c.args.schema.now user c.requires.limits in
+    let fits = c.requires.fits in
     ap (is_sentence_of c.args.schema.now) c.in_ok-sentence.ensures
-    ∙ guard_passes c.args.schema.now user [] c.args.secret
+    ∙ guard_passes (profile_of c.args.user.now) c.args.secret
     (omega (
       arith,
       length-map c.args.user.now.secrets.items formula_of,
@@ -21,10 +20,9 @@ new-requires-clause-sentence c =
 
 pub new-requires-clause-small : goal.new-requires-clause-small
 new-requires-clause-small c =
-    let user = profile_of c.args.user.now in
-    let fits = c.law_limits.ensures.probes c.args.schema.now user c.requires.limits in
+    let fits = c.requires.fits in
     subst (λ s. nodes c.args.schema.now s ≤ 40000) (sym c.in_ok-sentence.ensures) (leb-true _ 40000
-    (guard_passes c.args.schema.now user [] c.args.secret
+    (guard_passes (profile_of c.args.user.now) c.args.secret
     (omega (
       arith,
       length-map c.args.user.now.secrets.items formula_of,

@@ -3,16 +3,16 @@ use Rattle.std.proofs.lemmas.List.{append-nil}
 use Rattle.std.specs.Prelude.{IfOk}
 use Rattle.cqe_base.specs.Formula.{nodes, is_sentence_of}
 use Rattle.cqe_base.specs.History.{profile_of}
-use Rattle.cqe_base.specs.Limits.{KeepsLimits}
+use Rattle.cqe_base.specs.Limits.{FitsProbes}
 use Rattle.entailment.specs.Logs.{log_nodes}
 use Rattle.entailment.specs.Views.{LogView, schema_of, log_of, IsViewWithin}
 use Rattle.entailment.specs.GroundSentences.{sentence_of, IsGroundOver}
 use Rattle.censors.specs.Found.{HasFindings}
 use Rattle.user_log.proofs.log.found_after.Goals as goal
 
-pub examine-found-requires-clause-limits : goal.examine-found-requires-clause-limits
-examine-found-requires-clause-limits c =
-    subst (λ s. KeepsLimits s (profile_of c.args.user.now)) (sym c.in_ok-view.ensures.schema) c.requires.limits
+pub examine-found-requires-clause-fits : goal.examine-found-requires-clause-fits
+examine-found-requires-clause-fits c =
+    subst (λ s. FitsProbes s (profile_of c.args.user.now)) (sym c.in_ok-view.ensures.schema) c.requires.fits
 
 pub examine-found-requires-clause-guards_schema : goal.examine-found-requires-clause-guards_schema
 examine-found-requires-clause-guards_schema c = c.requires.guards_schema ∙ sym c.in_ok-view.ensures.schema

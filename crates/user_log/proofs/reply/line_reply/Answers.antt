@@ -26,3 +26,7 @@ returns-in-Sealed c =
 pub returns-in-Memory : goal.returns-in-Memory
 returns-in-Memory c =
     ap (λ digits. codes "error " ++ digits) (two_digits 50 (omega arith) (omega arith)) ∙ sym (ap (λ r. reply_text (reply_of r)) c.in-Memory.is)
+
+pub returns-in-Secrets : goal.returns-in-Secrets
+returns-in-Secrets c =
+    ap (λ digits. codes "error " ++ digits) (two_digits 27 (omega arith) (omega arith)) ∙ sym (ap (λ r. reply_text (reply_of r)) c.in-Secrets.is)

@@ -30,11 +30,6 @@ returns-clause-kept g c =
     ap (λ (d : Desk g.row.D.Denot g.D.Disk). fixed_of d) c.into_desk-desk.ensures
     ∙ one_fixed _ (fixed_in c.close.result) (kept_by c.args.self) c.close.ensures.fixed c.requires.pass.kept
 
-pub returns-clause-sizes : goal.returns-clause-sizes
-returns-clause-sizes g c =
-    closed_sizes c.into_desk-desk.result (kept_by c.args.self) (seen c.args.pass) (returns-clause-kept g c) (returns-clause-history g c)
-    (returns-clause-in_flight g c) c.known.ensures.sizes
-
 pub returns-clause-whole : goal.returns-clause-whole
 returns-clause-whole g c =
     closed_whole c.into_desk-desk.result (kept_by c.args.self) (seen c.args.pass) (returns-clause-kept g c) (returns-clause-history g c)
@@ -52,6 +47,7 @@ returns-clause-closed g c =
     record {
       holds = closed_images desk kept pairs same history flies g.D.Disk known.images;
       legal = closed_legal desk kept pairs same history flies known.legal;
+      sizes = closed_sizes desk kept pairs same history flies known.sizes;
       added = sym c.close.ensures.entries ∙ c.close.ensures.added;
       items = subst (λ ps. items_of ps ≡ items_with (history_of ps) (flying ps)) c.close.ensures.entries (items_in c.close.result);
       idle = closed_idle desk kept pairs same history flies known.none known.idle;

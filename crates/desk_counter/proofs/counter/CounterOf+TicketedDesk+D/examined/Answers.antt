@@ -1,15 +1,15 @@
 use Rattle.std.proofs.Common.{◌≤◌, ◌+◌, sym, ◌∙◌, subst}
 use Rattle.cqe_base.specs.Formula.{nodes}
-use Rattle.cqe_base.specs.History.{log}
 use Rattle.entailment.specs.Logs.{log_nodes}
-use Rattle.entailment.specs.Views.{log_of, IsLogBeginning}
+use Rattle.entailment.specs.Views.{log_of}
 use Rattle.entailment.specs.GroundSentences.{sentence_of}
 use Rattle.turnstile.specs.Passes.{seen}
 use Rattle.user_log.specs.Examiners.{examiner_schema, examiner_user}
+use Rattle.user_log.specs.Examining.{lent_view, IsLent}
 use Rattle.desk_counter.specs.Items.{history_of}
 use Rattle.desk_counter.specs.Counters.{kept_by}
 use Rattle.desk_counter.proofs.Asking.{looked_not}
-use Rattle.desk_counter.proofs.Examining.{log_behind, examined_behind}
+use Rattle.desk_counter.proofs.Examining.{first_behind, examined_behind}
 use Rattle.desk_counter.proofs.counter.CounterOf+TicketedDesk+D.examined.Goals as goal
 
 pub returns-then-shares-eq-ALL_SHARES-clause-looked : goal.returns-then-shares-eq-ALL_SHARES-clause-looked
@@ -29,17 +29,17 @@ examine-requires-clause-fits g c κs within =
     let self = c.args.self.now in
     let lent = c.in_ok-lent.ensures.lent in
     let query = sentence_of c.in_ok-query.query in
-    subst (λ s. log_nodes s (log_of c.in_ok-lent.lent) + nodes s query ≤ 60000) (sym self.schemed)
+    subst (λ s. log_nodes s (log_of (lent_view c.in_ok-lent.lent)) + nodes s query ≤ 60000) (sym self.schemed)
     (subst (λ told. log_nodes (kept_by self).schema told + nodes (kept_by self).schema query ≤ 60000) (sym lent.log_is) lent.fits)
 
 pub returns-clause-examined : goal.returns-clause-examined
 returns-clause-examined g c =
     let self = c.args.self.now in
-    let lent = c.in_ok-lent.ensures.lent in
-    let grow = c.law_logs.ensures.grows in
+    let query = sentence_of c.in_ok-query.query in
+    let before = history_of (seen c.lend.new.pass) in
+    let lent = subst (λ s. IsLent s (examiner_user self.examiner) before query c.in_ok-lent.lent) (sym self.schemed)
+    (subst (λ u. IsLent (kept_by self).schema u before query c.in_ok-lent.lent) (sym self.owned) c.in_ok-lent.ensures.lent) in
     examined_behind (kept_by self) (seen c.lend.new.pass) c.args.text.now c.examine.result (examiner_schema self.examiner) (examiner_user self.examiner)
     self.schemed self.owned
-    (λ later prefix. c.examine.ensures (history_of later) c.args.text.now c.in_ok-query.ensures.read
-    (subst (λ told. IsLogBeginning told (log (examiner_user self.examiner) (history_of later))) (sym lent.log_is)
-    (subst (λ u. IsLogBeginning (log (kept_by self).user (history_of (seen c.lend.new.pass))) (log u (history_of later))) (sym self.owned)
-    (log_behind grow (kept_by self).user (seen c.lend.new.pass) later prefix))))
+    (λ later prefix. c.examine.ensures before (history_of later) c.args.text.now c.in_ok-query.ensures.read lent
+    (first_behind (seen c.lend.new.pass) later prefix))

@@ -1,15 +1,16 @@
 use Rattle.std.proofs.Common.{sym, subst}
+use Rattle.cqe_base.specs.declared.user.Purpose.TheVariants.{Asking}
 use Rattle.turnstile.specs.Passes.{seen}
 use Rattle.user_desk.specs.Lives.{IsState}
 use Rattle.desk_counter.specs.declared.item.Fixed.{Fixed}
 use Rattle.desk_counter.specs.Desks.{state_shown}
 use Rattle.desk_counter.specs.Sole.{kept_in}
-use Rattle.desk_counter.proofs.Lives.{adds_ask}
+use Rattle.desk_counter.proofs.Lives.{adds_call}
 use Rattle.desk_counter.proofs.sole.SoleOf+TicketedDesk+D.ask.Goals as goal
 
 pub returns-clause-settled : goal.returns-clause-settled
 returns-clause-settled g c state is =
     let kept : Fixed g.row.D.Denot = kept_in c.args.self.now in
     let asked = c.ask-reply.ensures.asked in
-    adds_ask kept c.args.text.now asked.found (seen c.ask-reply.new.pass) state
+    adds_call kept Asking c.args.text.now asked.found (seen c.ask-reply.new.pass) state
     (subst (λ ps. IsState kept.standing (state_shown kept ps) state) (sym (asked.whole c.args.self.now.all)) is) c.ask-reply.result asked.adds

@@ -18,7 +18,8 @@ settle-reply-requires-clause-examined g c =
     c.requires.examined
 
 pub returns-then-broken-clause-adds : goal.returns-then-broken-clause-adds
-returns-then-broken-clause-adds g c = broken_adds c.args.self.now c.args.ticket c.args.text.now (sym c.broken.ensures ∙ c.if-broken.true) c.known.ensures.idle
+returns-then-broken-clause-adds g c = broken_adds c.args.self.now c.args.ticket c.args.purpose c.args.text.now (sym c.broken.ensures
+    ∙ c.if-broken.true) c.known.ensures.idle
 
 pub returns-then-broken-clause-broken : goal.returns-then-broken-clause-broken
 returns-then-broken-clause-broken g c =
@@ -30,13 +31,13 @@ returns-then-broken-clause-broken g c =
 pub returns-then-broken-clause-moments : goal.returns-then-broken-clause-moments
 returns-then-broken-clause-moments g c told served c' here =
     let desk = c.args.self.now.desk in
-    broken_stops desk c.args.text.now (sym c.broken.ensures ∙ c.if-broken.true) c.known.ensures.idle c'
+    broken_stops desk c.args.purpose c.args.text.now (sym c.broken.ensures ∙ c.if-broken.true) c.known.ensures.idle c'
     (c.known.ensures.images told served c' (g.met.D.Disk.only_now (desk_disk desk) c' here))
 
 pub returns-then-is_err-clause-moments : goal.returns-then-is_err-clause-moments
 returns-then-is_err-clause-moments g c told served c' here =
     let desk = c.args.self.now.desk in
-    whole_stops desk c.args.text.now (sym c.broken.ensures ∙ c.if-broken.false) c'
+    whole_stops desk c.args.purpose c.args.text.now (sym c.broken.ensures ∙ c.if-broken.false) c'
     (c.known.ensures.images told served c' (g.met.D.Disk.only_now (desk_disk desk) c' here))
 
 pub returns-then-is_err-clause-adds : goal.returns-then-is_err-clause-adds
@@ -57,11 +58,11 @@ pub invariant_of-self-in-Mark : goal.invariant_of-self-in-Mark
 invariant_of-self-in-Mark g c =
     let value = c.args.self.now in
     let whole = sym c.broken.ensures ∙ c.if-broken.false in
-    let changed = desk_changes value.desk c.settle-reply.new.self c.args.text.now c.settle-reply.result _ _ c.settle-reply.ensures.same
+    let changed = desk_changes value.desk c.settle-reply.new.self c.args.purpose c.args.text.now c.settle-reply.result _ _ c.settle-reply.ensures.same
     c.settle-reply.ensures.settled c.known.ensures.none c.known-2.ensures.none whole c.known-2.ensures.idle in
     record {
       counted = ap length (c.push_reserved.ensures.items ∙ ap (λ ts. ts ++ c.args.ticket ∷ []) c.reserve.ensures.items)
-          ∙ counted_mark value.desk c.settle-reply.new.self value.tickets.items value.broke c.args.ticket c.args.text.now value.counted whole
+          ∙ counted_mark value.desk c.settle-reply.new.self value.tickets.items value.broke c.args.ticket c.args.purpose c.args.text.now value.counted whole
           (rw c.in-Mark.is at changed);
     }
 
@@ -69,12 +70,12 @@ pub invariant_of-self-in-Broken : goal.invariant_of-self-in-Broken
 invariant_of-self-in-Broken g c =
     let value = c.args.self.now in
     let whole = sym c.broken.ensures ∙ c.if-broken.false in
-    let changed = desk_changes value.desk c.settle-reply.new.self c.args.text.now c.settle-reply.result _ _ c.settle-reply.ensures.same
+    let changed = desk_changes value.desk c.settle-reply.new.self c.args.purpose c.args.text.now c.settle-reply.result _ _ c.settle-reply.ensures.same
     c.settle-reply.ensures.settled c.known.ensures.none c.known-2.ensures.none whole c.known-2.ensures.idle in
     record {
       counted =
           ap length c.reserve.ensures.items
-          ∙ counted_broke value.desk c.settle-reply.new.self value.tickets.items value.broke c.args.ticket c.args.text.now value.counted whole
+          ∙ counted_broke value.desk c.settle-reply.new.self value.tickets.items value.broke c.args.ticket c.args.purpose c.args.text.now value.counted whole
           (rw c.in-Broken.is at changed);
     }
 
@@ -82,11 +83,11 @@ pub invariant_of-self-in_default : goal.invariant_of-self-in_default
 invariant_of-self-in_default g c =
     let value = c.args.self.now in
     let whole = sym c.broken.ensures ∙ c.if-broken.false in
-    let changed = desk_changes value.desk c.settle-reply.new.self c.args.text.now c.settle-reply.result _ _ c.settle-reply.ensures.same
+    let changed = desk_changes value.desk c.settle-reply.new.self c.args.purpose c.args.text.now c.settle-reply.result _ _ c.settle-reply.ensures.same
     c.settle-reply.ensures.settled c.known.ensures.none c.known-2.ensures.none whole c.known-2.ensures.idle in
     record {
       counted = ap length c.reserve.ensures.items
-          ∙ counted_none value.desk c.settle-reply.new.self value.tickets.items value.broke c.args.ticket c.args.text.now value.counted whole
+          ∙ counted_none value.desk c.settle-reply.new.self value.tickets.items value.broke c.args.ticket c.args.purpose c.args.text.now value.counted whole
           (not_mark c.settle-reply.result c.in_default.not-Mark) changed;
     }
 
@@ -95,15 +96,16 @@ returns-in-Mark-clause-adds g c =
     let value = c.args.self.now in
     let new = c.settle-reply.new.self in
     let whole = sym c.broken.ensures ∙ c.if-broken.false in
-    let changed = desk_changes value.desk new c.args.text.now c.settle-reply.result _ _ c.settle-reply.ensures.same c.settle-reply.ensures.settled
-    c.known.ensures.none c.known-2.ensures.none whole c.known-2.ensures.idle in
-    let adds = desk_adds_mark value.desk new value.tickets.items value.broke c.args.ticket c.args.text.now value.counted whole (rw c.in-Mark.is at changed) in
+    let changed = desk_changes value.desk new c.args.purpose c.args.text.now c.settle-reply.result _ _ c.settle-reply.ensures.same
+    c.settle-reply.ensures.settled c.known.ensures.none c.known-2.ensures.none whole c.known-2.ensures.idle in
+    let adds = desk_adds_mark value.desk new value.tickets.items value.broke c.args.ticket c.args.purpose c.args.text.now value.counted whole
+    (rw c.in-Mark.is at changed) in
     let pushed = c.push_reserved.ensures.items ∙ ap (λ (ts : List ℕ). ts ++ c.args.ticket ∷ []) c.reserve.ensures.items in
     let before = pairs_of value.tickets.items (desk_history value.desk) value.broke (entry_in_flight value.desk) in
     subst (λ (ts : List ℕ).
-    Adds (fixed_of value.desk) c.args.ticket c.args.text.now before
+    Adds (fixed_of value.desk) c.args.ticket c.args.purpose c.args.text.now before
     (pairs_of ts (desk_history new) value.broke (entry_in_flight new)) c.settle-reply.result) (sym pushed)
-    (subst (λ r. Adds (fixed_of value.desk) c.args.ticket c.args.text.now before
+    (subst (λ r. Adds (fixed_of value.desk) c.args.ticket c.args.purpose c.args.text.now before
     (pairs_of (value.tickets.items ++ c.args.ticket ∷ []) (desk_history new) value.broke (entry_in_flight new)) r) (sym c.in-Mark.is) adds)
 
 pub returns-in-Mark-clause-broken : goal.returns-in-Mark-clause-broken
@@ -120,15 +122,15 @@ returns-in-Broken-clause-adds g c =
     let value = c.args.self.now in
     let new = c.settle-reply.new.self in
     let whole = sym c.broken.ensures ∙ c.if-broken.false in
-    let changed = desk_changes value.desk new c.args.text.now c.settle-reply.result _ _ c.settle-reply.ensures.same c.settle-reply.ensures.settled
-    c.known.ensures.none c.known-2.ensures.none whole c.known-2.ensures.idle in
-    let adds = desk_adds_broke value.desk new value.tickets.items value.broke c.args.ticket c.args.text.now value.counted whole
+    let changed = desk_changes value.desk new c.args.purpose c.args.text.now c.settle-reply.result _ _ c.settle-reply.ensures.same
+    c.settle-reply.ensures.settled c.known.ensures.none c.known-2.ensures.none whole c.known-2.ensures.idle in
+    let adds = desk_adds_broke value.desk new value.tickets.items value.broke c.args.ticket c.args.purpose c.args.text.now value.counted whole
     (c.settle-reply.ensures.broken.0 c.in-Broken.is) (rw c.in-Broken.is at changed) in
     let before = pairs_of value.tickets.items (desk_history value.desk) value.broke (entry_in_flight value.desk) in
     subst (λ (ts : List ℕ).
-    Adds (fixed_of value.desk) c.args.ticket c.args.text.now before
+    Adds (fixed_of value.desk) c.args.ticket c.args.purpose c.args.text.now before
     (pairs_of ts (desk_history new) c.args.ticket (entry_in_flight new)) c.settle-reply.result) (sym c.reserve.ensures.items)
-    (subst (λ r. Adds (fixed_of value.desk) c.args.ticket c.args.text.now before
+    (subst (λ r. Adds (fixed_of value.desk) c.args.ticket c.args.purpose c.args.text.now before
     (pairs_of value.tickets.items (desk_history new) c.args.ticket (entry_in_flight new)) r) (sym c.in-Broken.is) adds)
 
 pub returns-in-Broken-clause-broken : goal.returns-in-Broken-clause-broken
@@ -145,14 +147,14 @@ returns-in_default g c =
     let value = c.args.self.now in
     let new = c.settle-reply.new.self in
     let whole = sym c.broken.ensures ∙ c.if-broken.false in
-    let changed = desk_changes value.desk new c.args.text.now c.settle-reply.result _ _ c.settle-reply.ensures.same c.settle-reply.ensures.settled
-    c.known.ensures.none c.known-2.ensures.none whole c.known-2.ensures.idle in
-    let adds = desk_adds_none value.desk new value.tickets.items value.broke c.args.ticket c.args.text.now value.counted whole
+    let changed = desk_changes value.desk new c.args.purpose c.args.text.now c.settle-reply.result _ _ c.settle-reply.ensures.same
+    c.settle-reply.ensures.settled c.known.ensures.none c.known-2.ensures.none whole c.known-2.ensures.idle in
+    let adds = desk_adds_none value.desk new value.tickets.items value.broke c.args.ticket c.args.purpose c.args.text.now value.counted whole
     (not_mark c.settle-reply.result c.in_default.not-Mark) c.in_default.not-Broken changed in
     record {
       fixed = same_fixed value.desk new c.settle-reply.ensures.same c.settle-reply.ensures.opening;
       adds = subst
-          (λ ts. Adds (fixed_of value.desk) c.args.ticket c.args.text.now
+          (λ ts. Adds (fixed_of value.desk) c.args.ticket c.args.purpose c.args.text.now
           (pairs_of value.tickets.items (desk_history value.desk) value.broke (entry_in_flight value.desk))
           (pairs_of ts (desk_history new) value.broke (entry_in_flight new)) c.settle-reply.result)
           (sym c.reserve.ensures.items) adds;

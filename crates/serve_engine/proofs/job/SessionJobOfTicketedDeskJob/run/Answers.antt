@@ -1,5 +1,6 @@
 use Rattle.std.proofs.Common.{length, refl, arith}
 use Rattle.session_core.specs.Members.{passes_in, counters_in, users_of, fixeds_of}
+use Rattle.session_core.specs.Desks.{schemas_of}
 use Rattle.session_core.proofs.Passing.{passes_many}
 use Rattle.session_core.proofs.Serving.{counts_few}
 use Rattle.session_core.proofs.Talking.{talks_few}
@@ -44,7 +45,7 @@ pub returns-clause-room : goal.returns-clause-room
 returns-clause-room g c =
     let job = c.args.self.now in
     let session = c.serve_session-ended.ensures.session in
-    let no_more = talks_few (users_of job.counters.now) session.talks in
+    let no_more = talks_few (users_of job.counters.now) (schemas_of (fixeds_of job.counters.now)) session.talks in
     of_room session.who (fixeds_of job.counters.now) (passes_in job.passes) (passes_in c.serve_session-ended.new.passes) session.asks
     (omega (arith, counts_few c.serve_session-ended.result (length session.lines) session.counted, no_more)) session.desks
 

@@ -61,10 +61,13 @@ split g c told =
 
 -- ---- where there was no room
 
+pub prepare-requires-clause-answer : goal.prepare-requires-clause-answer
+prepare-requires-clause-answer g c = (c.args.purpose, c.requires.answer)
+
 pub returns-then-is_err-clause-moments : goal.returns-then-is_err-clause-moments
 returns-then-is_err-clause-moments g c told c' here =
     let desk = c.args.self.now in
-    still_holds _ _ _ _ _ _ _ _ _ _ _ desk.kept c.known.ensures.legal c.known.ensures.sizes c.args.text.now
+    still_holds _ _ _ _ _ _ _ _ _ _ _ desk.kept c.known.ensures.legal c.known.ensures.sizes c.args.purpose c.args.text.now
     (ap is_sealed c.requires.opened) c.requires.whole told c'
     (g.met.D.Disk.only_now (stored_disk desk.store) c'
     (subst (λ d. g.D.Disk.image_since d (g.D.Disk.moment (stored_disk desk.store)) c') c.reserve.ensures.disk here))
@@ -101,7 +104,7 @@ invariant_of-self-in-Ok-append g c =
 
 pub returns-in-Ok-append-clause-moments : goal.returns-in-Ok-append-clause-moments
 returns-in-Ok-append-clause-moments g c told c' here =
-    moment_holds (grows g (goal.at.returns-in-Ok-append-clause-moments g c).After-append) c.args.text.now (formula_of c.args.query) c.args.mark
+    moment_holds (grows g (goal.at.returns-in-Ok-append-clause-moments g c).After-append) c.args.purpose c.args.text.now (formula_of c.args.query) c.args.mark
     c.requires.answer refl told c' (c.append.ensures.moments told c'
     (subst (λ d. g.D.Disk.image_since (stored_disk c.append.new.self) (g.D.Disk.moment d) c') (sym c.reserve.ensures.disk) here))
 
@@ -139,14 +142,14 @@ returns-in-Err-clause-settled g c =
     let rose = subst (λ d. Rose (g.D.Disk.faults d) (g.D.Disk.faults (stored_disk c.append.new.self))) c.reserve.ensures.disk c.in-Err.ensures.cause in
     let flies = ap (λ (h : History). shown h standing (Some (prepared_entry c.in-Ok.prepared))) c.in-Ok.ensures.unchanged
     ∙ ap (λ (e : AnsweredQuery). shown (kept_history desk.log) standing (Some e)) c.in-Ok.ensures.entry in
-    failure_settles (kept_schema desk.log) (kept_world desk.log) (kept_user desk.log) (state_of desk) _ c.args.text.now
+    failure_settles (kept_schema desk.log) (kept_world desk.log) (kept_user desk.log) (state_of desk) _ c.args.purpose c.args.text.now
     (formula_of c.args.query) c.args.mark _ _
     (ap standing_of c.requires.opened) (ap (λ (o : Option AnsweredQuery). is_some o) c.requires.whole) c.requires.answer rose
     (ap (λ (e : AnsweredQuery). shown (kept_history c.prepare.new.self) standing (Some e)) c.into_entry.ensures ∙ flies)
 
 pub returns-in-Err-clause-moments : goal.returns-in-Err-clause-moments
 returns-in-Err-clause-moments g c told c' here =
-    moment_holds (grows g (goal.at.returns-in-Err-clause-moments g c).After-append) c.args.text.now (formula_of c.args.query) c.args.mark
+    moment_holds (grows g (goal.at.returns-in-Err-clause-moments g c).After-append) c.args.purpose c.args.text.now (formula_of c.args.query) c.args.mark
     c.requires.answer refl told c' (c.append.ensures.moments told c'
     (subst (λ d. g.D.Disk.image_since (stored_disk c.append.new.self) (g.D.Disk.moment d) c') (sym c.reserve.ensures.disk) here))
 

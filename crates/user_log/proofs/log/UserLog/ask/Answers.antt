@@ -1,5 +1,6 @@
 use Rattle.std.proofs.Common.{sym, subst}
 use Rattle.std.specs.Prelude.{IfSome}
+use Rattle.cqe_base.specs.declared.user.Purpose.TheVariants.{Asking}
 use Rattle.user_log.specs.Asked.{IsAsked}
 use Rattle.user_log.specs.Examining.{IsExamined}
 use Rattle.user_log.specs.Replies.{reply_of}
@@ -18,7 +19,7 @@ returns-clause-same g c = subst (λ (l : UserLog). IsOfSame l c.settle.new.self)
 
 pub returns-clause-asked : goal.returns-clause-asked
 returns-clause-asked g c =
-    subst (λ (l : UserLog). IsAsked (kept_schema l) (kept_world l) (kept_user l) (kept_history l) (kept_history c.settle.new.self) c.args.text.now
+    subst (λ (l : UserLog). IsAsked (kept_schema l) (kept_world l) (kept_user l) (kept_history l) (kept_history c.settle.new.self) Asking c.args.text.now
     (reply_of c.settle.result))
     c.examined-examined.ensures.same c.settle.ensures.asked
 

@@ -1,12 +1,12 @@
 use Rattle.std.proofs.Common.{◌≤◌, ◌+◌, ◌++◌, arith, sym, ap, subst, ◌∙◌}
 use Rattle.std.proofs.lemmas.Grind.{common_steps}
 use Rattle.cqe_base.specs.Formula.{formula_of, nodes, is_sentence_of}
-use Rattle.cqe_base.specs.History.{log, told_by, signed_nodes}
+use Rattle.cqe_base.specs.History.{profile_of, log, told_by, signed_nodes}
 use Rattle.entailment.specs.Logs.{log_nodes}
 use Rattle.entailment.specs.Views.{log_of}
 use Rattle.user_log.specs.Prepared.{prepared_entry}
 use Rattle.user_log.specs.UserLogs.{kept_schema, kept_user, kept_history}
-use Rattle.user_log.proofs.Keeping.{kept_push}
+use Rattle.user_log.proofs.Keeping.{kept_push, amended_behind}
 use Rattle.user_log.proofs.log.UserLog.commit.Goals as goal
 
 pub tell-requires-clause-sentence : goal.tell-requires-clause-sentence
@@ -37,9 +37,11 @@ invariant_of-self c =
     let before = c.args.self.now in
     let entry = prepared_entry c.args.prepared in
     record {
-      kept = kept_push _ _ _ _ _ entry _ _ _ _ _ _ _ _ before.kept c.law_legal_grows.ensures.grows c.law_logs.ensures.grows c.requires.sizes
-          c.requires.mark
+      kept = kept_push _ _ _ _ _ entry _ _ _ _ _ _ _ _ before.kept c.law_legal_grows.ensures.grows c.law_logs.ensures.grows
+          c.law_added_secrets.ensures.grows c.requires.sizes c.requires.legal
           (grind (arith, common_steps)) c.tell.ensures.schema
           (c.tell.ensures.told ∙ ap (λ q. log_of before.views ++ told_by entry.mark q) c.requires.told) c.from.ensures c.requires.nodes;
-      guarding = before.guarding;
+      amended = amended_behind (kept_schema before) (kept_user before) (kept_history before) _ entry c.args.prepared.amended
+          (profile_of before.current) (profile_of c.amend.new.current) before.guards c.amend.new.guarding c.law_added_secrets.ensures.grows
+          (grind (arith, common_steps)) c.requires.amended c.amend.ensures before.amended;
     }

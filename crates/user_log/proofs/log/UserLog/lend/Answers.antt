@@ -1,28 +1,12 @@
-use Rattle.std.proofs.Common.{true, ◌∙◌}
+use Rattle.std.proofs.Common.{subst}
+use Rattle.std.specs.Prelude.{IfSome}
 use Rattle.entailment.specs.GroundSentences.{sentence_of}
+use Rattle.user_log.specs.Examining.{IsLentTo}
 use Rattle.user_log.specs.UserLogs.{kept_schema, kept_user, kept_history}
-use Rattle.user_log.proofs.SameLogs.{kept_with, same_log}
 use Rattle.user_log.proofs.log.UserLog.lend.Goals as goal
 
-pub invariant_of-self : goal.invariant_of-self
-invariant_of-self c = record {
-  kept = kept_with c.args.self.now c.lend.new.views c.lend.ensures.same;
-  guarding = c.args.self.now.guarding;
-}
-
-pub returns-in-Ok-clause-same : goal.returns-in-Ok-clause-same
-returns-in-Ok-clause-same c = same_log c.args.self.now c.lend.new.views c.lend.ensures.same _ _
-
-pub returns-in-Ok-clause-lent : goal.returns-in-Ok-clause-lent
-returns-in-Ok-clause-lent c =
+pub returns-clause-lent : goal.returns-clause-lent
+returns-clause-lent c =
     let self = c.args.self.now in
-    let fits = c.law_limits.ensures.queries (kept_schema self) (kept_user self) (kept_history self) (sentence_of c.args.query.now)
-    self.kept.limits c.in_default.ensures.small in
-    record {
-      schema_is = c.in-Ok.ensures.schema ∙ self.kept.schema_is;
-      log_is = c.in-Ok.ensures.log ∙ self.kept.log_is;
-      fits = fits.log_nodes true;
-    }
-
-pub returns-in-Err-clause-same : goal.returns-in-Err-clause-same
-returns-in-Err-clause-same c = same_log c.args.self.now c.lend.new.views c.lend.ensures.same _ _
+    subst (λ now. IfSome c.lend_views.result (IsLentTo (kept_schema self) (kept_user self) now (kept_history self) (sentence_of c.args.query.now)))
+    (c.has_more_secrets.ensures c.if-has_more_secrets.false) c.lend_views.ensures.lent

@@ -1,6 +1,7 @@
 use Rattle.std.proofs.Common.{◌≤◌, ◌+◌, true, map, sym, subst, ◌∙◌}
 use Rattle.cqe_base.specs.Formula.{nodes}
-use Rattle.cqe_base.specs.History.{profile_of, answered_query_of}
+use Rattle.cqe_base.specs.History.{profile_of, answered_query_of, user_at}
+use Rattle.cqe_base.specs.Limits.{FitsProbes}
 use Rattle.entailment.specs.Logs.{log_nodes}
 use Rattle.entailment.specs.Views.{log_of}
 use Rattle.entailment.specs.GroundSentences.{sentence_of, IsGroundOver}
@@ -20,8 +21,18 @@ found_after-requires-clause-all_nodes c =
     subst (λ s. log_nodes s (log_of c.args.self.now.views) + nodes s query ≤ 60000) (sym kept.schema_is)
     (subst (λ told. log_nodes schema told + nodes schema query ≤ 60000) (sym kept.log_is) (fits.log_nodes true))
 
+pub found_after-requires-clause-fits : goal.found_after-requires-clause-fits
+found_after-requires-clause-fits c =
+    let self = c.args.self.now in
+    subst (λ s. FitsProbes s (profile_of self.current)) (sym self.kept.schema_is)
+    (subst (FitsProbes (kept_schema self)) (sym self.amended.current_is)
+    (c.law_amended_limits.ensures.probes (kept_schema self) (kept_user self) (kept_history self) self.kept.limits self.kept.sizes))
+
 pub found_after-requires-clause-guards_schema : goal.found_after-requires-clause-guards_schema
-found_after-requires-clause-guards_schema c = c.args.self.now.guarding.schema_is ∙ sym c.args.self.now.kept.schema_is
+found_after-requires-clause-guards_schema c = c.args.self.now.amended.guarding.schema_is ∙ sym c.args.self.now.kept.schema_is
+
+pub found_after-requires-clause-guarded : goal.found_after-requires-clause-guarded
+found_after-requires-clause-guarded c = c.args.self.now.amended.guarding.guarded_are
 
 pub found_after-requires-clause-grounded : goal.found_after-requires-clause-grounded
 found_after-requires-clause-grounded c = subst (λ s. IsGroundOver s c.args.query.now) (sym c.args.self.now.kept.schema_is) c.requires.grounded
@@ -29,7 +40,7 @@ found_after-requires-clause-grounded c = subst (λ s. IsGroundOver s c.args.quer
 pub invariant_of-self : goal.invariant_of-self
 invariant_of-self c = record {
   kept = kept_with c.args.self.now c.found_after.new.views c.found_after.ensures.same;
-  guarding = c.args.self.now.guarding;
+  amended = c.args.self.now.amended;
 }
 
 pub returns-in_err-findings-clause-same : goal.returns-in_err-findings-clause-same
@@ -40,9 +51,10 @@ returns-clause-same c = same_log c.args.self.now c.found_after.new.views c.found
 
 pub returns-clause-rule : goal.returns-clause-rule
 returns-clause-rule c =
-    let kept = c.args.self.now.kept in
+    let self = c.args.self.now in
     c.decided.ensures
-    ∙ decided _ _ _ _ _ _ _ _ _ _ _ kept.schema_is kept.log_is c.law_findings_decide.ensures c.in_ok-findings.ensures.findings
+    ∙ decided _ _ _ (user_at (kept_user self) (kept_history self)) _ _ _ _ _ _ _ _ self.kept.schema_is self.amended.current_is self.kept.log_is
+    c.law_findings_decide.ensures c.in_ok-findings.ensures.findings
 
 pub returns-clause-undecided : goal.returns-clause-undecided
 returns-clause-undecided c =

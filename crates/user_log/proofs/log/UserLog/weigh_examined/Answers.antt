@@ -1,25 +1,25 @@
-use Rattle.std.proofs.Common.{◌≡◌, length, sym, ap, subst, ◌∙◌}
+use Rattle.std.proofs.Common.{◌≡◌, length, sym, subst, ◌∙◌}
 use Rattle.std.proofs.lemmas.Bool.{eqb-true}
+use Rattle.std.proofs.lemmas.List.{length-map}
+use Rattle.cqe_base.specs.History.{answered_query_of}
 use Rattle.entailment.specs.Views.{log_of, IsViewWithin}
 use Rattle.entailment.specs.GroundSentences.{sentence_of}
-use Rattle.censors.specs.Found.{HasFindings}
 use Rattle.user_log.specs.UserLogs.{kept_schema, kept_world, kept_user, kept_history}
 use Rattle.user_log.proofs.Asking.{answer_weighed}
-use Rattle.user_log.proofs.Examining.{whole-log}
 use Rattle.user_log.proofs.SameLogs.{kept_with, same_log}
 use Rattle.user_log.proofs.log.UserLog.weigh_examined.Goals as goal
 
 pub put-requires : goal.put-requires
 put-requires c =
     let self = c.args.self.now in
-    let lent = c.args.examined.lent in
+    let lent = c.args.examined.views in
     subst (λ s. IsViewWithin s (log_of self.views) lent) (sym self.kept.schema_is)
     (subst (λ told. IsViewWithin (kept_schema self) told lent) (sym self.kept.log_is) c.requires.examined.within)
 
 pub invariant_of-self : goal.invariant_of-self
 invariant_of-self c = record {
   kept = kept_with c.args.self.now c.put.new.views c.put.ensures;
-  guarding = c.args.self.now.guarding;
+  amended = c.args.self.now.amended;
 }
 
 pub mark_with-requires-clause-sentence : goal.mark_with-requires-clause-sentence
@@ -31,11 +31,8 @@ mark_with-requires-clause-grounded c = c.requires.examined.grounded
 pub mark_with-requires-clause-found : goal.mark_with-requires-clause-found
 mark_with-requires-clause-found c whole =
     let self = c.args.self.now in
-    let examined = c.args.examined in
-    let given = c.requires.examined in
-    let long : length (log_of examined.lent) ≡ length (log_of self.views) = sym c.len.ensures ∙ eqb-true _ _ whole ∙ c.len-2.ensures in
-    subst (λ told. HasFindings (kept_schema self) (kept_user self) told (sentence_of examined.query) examined.findings)
-    (whole-log _ _ given.within.1 (long ∙ ap length self.kept.log_is)) given.findings
+    let many : length self.entries.items ≡ length (kept_history self) = sym (length-map self.entries.items answered_query_of) in
+    c.requires.examined.findings (eqb-true _ _ whole ∙ c.len.ensures ∙ self.entries.ok.0 ∙ many)
 
 pub returns-in-Some-clause-same : goal.returns-in-Some-clause-same
 returns-in-Some-clause-same c = same_log c.args.self.now c.put.new.views c.put.ensures _ _

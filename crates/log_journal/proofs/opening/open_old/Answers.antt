@@ -1,0 +1,25 @@
+use Rattle.std.proofs.Common.{map}
+use Rattle.log_journal.specs.Opening.{header_bytes, old_header, recorded}
+use Rattle.log_journal.proofs.Refusals.{unrefused, outside_only, none_older}
+use Rattle.log_journal.proofs.opening.open_old.Goals as goal
+
+pub returns-in-Ok-clause-opened : goal.returns-in-Ok-clause-opened
+returns-in-Ok-clause-opened g c told = c.in-Ok.ensures.opened told
+
+pub returns-in-Ok-clause-sound : goal.returns-in-Ok-clause-sound
+returns-in-Ok-clause-sound g c told why =
+    unrefused 4 (old_header (header_bytes c.args.header.now)) (map recorded c.in-Ok.records.items) (g.D.Disk.reads c.args.disk)
+    (c.in-Ok.ensures.opened told) why
+
+pub returns-in-Err-clause-refused : goal.returns-in-Err-clause-refused
+returns-in-Err-clause-refused g c = c.in-Err.ensures.refused
+
+pub returns-in-Err-clause-good : goal.returns-in-Err-clause-good
+returns-in-Err-clause-good g c told all journal =
+    outside_only 4 (old_header (header_bytes c.args.header.now)) all (g.D.Disk.reads c.args.disk) journal g.D.Disk.tells
+    (g.D.Disk.faults c.args.disk) (g.D.Disk.faults c.read_synced.new.disk) c.in-Err.why told c.in-Err.ensures.refused
+
+pub returns-in-Err-clause-oldest : goal.returns-in-Err-clause-oldest
+returns-in-Err-clause-oldest g c =
+    none_older g.D.Disk.tells c.args.header.now (g.D.Disk.reads c.args.disk) (g.D.Disk.faults c.args.disk) (g.D.Disk.faults c.read_synced.new.disk)
+    c.in-Err.why c.in-Err.ensures.refused

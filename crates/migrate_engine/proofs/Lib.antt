@@ -1,0 +1,4 @@
+pub mod Apart
+pub mod Halves
+pub mod Filling
+pub mod Running

@@ -1,0 +1,55 @@
+use Rattle.std.proofs.Common.{map, sym, subst, ◌∙◌, arith}
+use Rattle.std.proofs.lemmas.Result.{IfErr-weaker, on_ok_weaker}
+use Rattle.outside.proofs.Taken.{taken_reads}
+use Rattle.outside.specs.Shelf.{bytes_on}
+use Rattle.log_journal.specs.Opening.{header_bytes, recorded}
+use Rattle.init_engine.proofs.Reasons.{held_stays, none_rose}
+use Rattle.init_engine.proofs.Visiting.{untouched}
+use Rattle.init_engine.specs.Stops.{Stays}
+use Rattle.migrate_engine.proofs.Filling.{held_filled}
+use Rattle.migrate_engine.proofs.Halves.{unfilled_wide}
+use Rattle.migrate_engine.proofs.target.fill_target.Goals as goal
+
+pub returns-in-Ok-clause-filled : goal.returns-in-Ok-clause-filled
+returns-in-Ok-clause-filled g c = λ told.
+    let shelf = g.F.Shelf in
+    let target = c.args.target.now in
+    on_ok_weaker c.fill-disk.result.1
+    (held_filled g.F.D.Disk (header_bytes c.args.header.now) (map recorded c.args.records.now) (shelf.disk c.args.shelf.now target)
+    (shelf.disk c.give_disk.new.self target) c.in-Ok.disk c.fill-disk.result.0 (c.in-Ok.ensures.taken told) (c.give_disk.ensures.held told))
+    (c.fill-disk.ensures.filled (g.met.F.Shelf.tells_disks told))
+
+pub returns-in-Ok-clause-reason : goal.returns-in-Ok-clause-reason
+returns-in-Ok-clause-reason g c =
+    let shelf = g.F.Shelf in
+    let disk = g.F.D.Disk in
+    let target = c.args.target.now in
+    let held = shelf.disk c.args.shelf.now target in
+    let count = c.in-Ok.ensures.count in
+    let back = c.give_disk.ensures.count in
+    IfErr-weaker c.fill-disk.result.1 _ _
+    (λ why. unfilled_wide disk.tells shelf.tells (header_bytes c.args.header.now) (disk.reads c.in-Ok.disk) (bytes_on disk.reads held)
+    (disk.faults c.in-Ok.disk) (shelf.disk_faults c.args.shelf.now target) (disk.faults c.fill-disk.result.0) (shelf.disk_faults c.give_disk.new.self target)
+    g.met.F.Shelf.tells_disks (λ told. taken_reads disk.reads disk.image held c.in-Ok.disk (c.in-Ok.ensures.taken told)) (omega (arith, count))
+    (omega (arith, back))
+    0 (shelf.faults c.args.shelf.now) 0 (shelf.faults c.give_disk.new.self) none_rose why) c.fill-disk.ensures.reason
+
+pub returns-in-Ok-clause-stays : goal.returns-in-Ok-clause-stays
+returns-in-Ok-clause-stays g c = λ told some.
+    let disk = g.F.D.Disk in
+    let held = g.F.Shelf.disk c.args.shelf.now c.args.target.now in
+    let taken = c.in-Ok.ensures.taken told in
+    subst (λ o. Stays disk held o) (sym (c.give_disk.ensures.held told))
+    (held_stays disk c.fill-disk.result.0 held c.in-Ok.disk taken
+    (c.fill-disk.ensures.stays (g.met.F.Shelf.tells_disks told)
+    (λ none. some (sym (taken_reads disk.reads disk.image held c.in-Ok.disk taken) ∙ none))))
+
+pub returns-in-Err-Failed-clause-stays : goal.returns-in-Err-Failed-clause-stays
+returns-in-Err-Failed-clause-stays g c = λ told some.
+    untouched g.F.D.Disk g.met.F.D.Disk.only_now (g.F.Shelf.disk c.args.shelf.now c.args.target.now)
+    (g.F.Shelf.disk c.take_disk.new.self c.args.target.now) (c.in-Err-Failed.ensures.refused_disks c.args.target.now)
+
+pub returns-in-Err-clause-stays : goal.returns-in-Err-clause-stays
+returns-in-Err-clause-stays g c = λ told some.
+    untouched g.F.D.Disk g.met.F.D.Disk.only_now (g.F.Shelf.disk c.args.shelf.now c.args.target.now)
+    (g.F.Shelf.disk c.take_disk.new.self c.args.target.now) (c.in-Err.ensures.refused_disks c.args.target.now)
