@@ -1,8 +1,8 @@
 //! Tests of one user's desk, of a desk that sessions share, of sessions and of a worker's job.
 //!
 //! They call the libraries as any other crate does. A module is named for what it tests: `desks` of
-//! `user_desk`, `counters` of `desk_counter`, `examining` of `censors`, `sessions` of
-//! `session_core`, `service` of `serve_engine`. They share a small `clinic`. Bytes and replies that
+//! `user_desk`, `counters` of `desk_counter`, `examining` of `censors`, `dossiers` of `dossier`,
+//! `sessions` of `session_core`, `service` of `serve_engine`. They share a small `clinic`. Bytes and replies that
 //! are compared were worked out by hand.
 #![tactic(auto)]
 
@@ -12,6 +12,8 @@ mod clinic;
 mod counters;
 #[cfg(test)]
 mod desks;
+#[cfg(test)]
+mod dossiers;
 #[cfg(test)]
 mod examining;
 #[cfg(test)]

@@ -1,28 +1,79 @@
 //! The records of a journal, gone through as the entries of a user.
-ghost use Rattle.std.specs.Prelude.{◌≡◌, true, IfOk, Some, All, map, ◌↔◌, IsTrue};
-ghost use Rattle.cqe_base.specs.History.{profile_of};
+ghost use Rattle.std.specs.Prelude.{◌≡◌, true, List, IfOk, Some, All, map, ◌↔◌, IsTrue};
+ghost use Rattle.cqe_base.specs.Schema.{DatabaseSchema};
+ghost use Rattle.cqe_base.specs.Facts.{FactSet};
+ghost use Rattle.cqe_base.specs.History.{UserProfile, profile_of};
 ghost use Rattle.cqe_base.specs.Limits.{KeepsLimits};
 ghost use Rattle.cqe_base.specs.Censor.{admitted};
 ghost use Rattle.censors.specs.Admitting.{admission_of};
+ghost use Rattle.log_journal.specs.Records.{Recorded};
 ghost use Rattle.log_journal.specs.Opening.{recorded, IsRecord};
 ghost use Rattle.user_log.specs.UserLogs.{kept_schema, kept_world, kept_user, kept_history};
 ghost use Rattle.user_log.specs.UserLogs.{IsOfSame};
 ghost use Rattle.user_desk.specs.Causes.{IsReplay};
-ghost use Rattle.user_desk.specs.Replays.{IsLogOf, IsTaken, refused_by};
+ghost use Rattle.user_desk.specs.Replays.{IsLogOf, IsTaken, IsReplayed, refused_by};
 
 use crate::kinds::{mark_of, purpose_by};
 use crate::standing::{DeskError, Standing};
-use censors::Admission;
+use censors::{Admission, admit};
 use cqe_base::schema::Schema;
-use cqe_base::user::{Mark, User};
+use cqe_base::user::{Item, Mark, User};
 use cqe_base::world::World;
 use log_journal::Record;
 use sentence_text::laws::law_sentences_are_ascii;
 use std::alloc::{AllocError, Global};
 use user_log::{Reply, UserLog, Weighed};
 
+/// What the records of a user's journal are to him.
+#[derive(Drop)]
+pub enum Replayed {
+    /// They are these items, a legal history of a user who is admitted.
+    Open(Vec<Item>),
+    /// He isn't admitted, by this test, and there is no record.
+    Closed(Admission),
+    /// They are refused.
+    Sealed(DeskError),
+}
+
+/// The records of a user's journal as an opening goes through them, without the disk and without a
+/// desk: by the same rules, and with the same refusals.
+pub fn replay<'w>(
+    alloc: Global,
+    schema: &'w Schema,
+    world: &'w World,
+    user: &'w User,
+    records: &[Record],
+) -> Result<Replayed, AllocError>
+    requires limits { KeepsLimits schema.now (profile_of user.now) }
+    requires each { All (IsRecord 5) records.now }
+    ensures { IfOk result
+        (IsReplayed schema.now world.now (profile_of user.now) (map recorded records.now)) }
+{
+    let admission = admit(alloc, schema, world, user)?;
+    match replay_log(alloc, schema, world, user, admission, records) {
+        Ok((log, standing)) => Ok(replayed(log, standing)),
+        Err(error) => Err(error),
+    }
+}
+
+// What the log of a replay and its standing are without the log.
+fn replayed(log: UserLog<'_>, standing: Standing) -> Replayed
+    ensures { (schema : DatabaseSchema) (world : FactSet) (user : UserProfile)
+        (all : List Recorded)
+        → IsLogOf schema world user log.entry
+        → IsReplay schema world user all (kept_history log.entry) standing
+        → IsReplayed schema world user all result }
+{
+    log.known();
+    match standing {
+        Standing::Open => Replayed::Open(log.into_entries()),
+        Standing::Closed(admission) => Replayed::Closed(admission),
+        Standing::Sealed(why) => Replayed::Sealed(why),
+    }
+}
+
 /// The log of a user with these records, and his standing. Where he isn't served the log is empty.
-pub(crate) fn replay<'w>(
+pub(crate) fn replay_log<'w>(
     alloc: Global,
     schema: &'w Schema,
     world: &'w World,

@@ -1,0 +1,14 @@
+mod Lines
+mod Spelling
+mod Colons
+mod Worlds
+mod Shown
+mod Reads
+mod BlockReads
+mod Kept
+mod Items
+mod ItemLines
+mod Each
+mod Probing
+mod Asking
+mod Whole

@@ -1,0 +1,57 @@
+use Rattle.std.proofs.Common.{[], ◌∷◌, ◌++◌, Some, None, Ok, Err, map, sym, ap, ◌∙◌, arith, rules, tests}
+use Rattle.std.proofs.lemmas.List.{map-append}
+use Rattle.clause_store.specs.PlainLines.{line_of}
+use Rattle.dossier.specs.Checked.{step}
+use Rattle.dossier.specs.Reading.{answer}
+use Rattle.dossier.specs.declared.error.DossierError.TheVariants as refused
+use Rattle.dossier.proofs.Reads.{answer-end}
+use Rattle.dossier.proofs.BlockReads.{step-more, step-ends, step-form}
+use Rattle.dossier.proofs.blocks.read_refutation.Goals as goal
+
+pub loop-field-init : goal.loop-field-init
+loop-field-init c = record {
+  reads = λ schema world name user showing.
+      ap (λ lines. answer schema world name user (Ok (step showing (map line_of lines))) c.args.lines.now) (sym c.new-read.ensures.items);
+  less = omega arith;
+}
+
+-- one more line
+pub loop-field-preserved : goal.loop-field-preserved
+loop-field-preserved c = record {
+  reads = λ schema world name user showing.
+      c.loop-field.invariant.reads schema world name user showing
+      ∙ step-more schema world name user showing (map line_of c.loop-field.read.items) c.loop-field.lines c.take_field.new.self
+      c.in-Some.field (rw c.in-Some.is at c.take_field.ensures) (Some (line_of c.in-Some-line.line)) (search (rules, tests)) (search rules)
+      ∙ ap (λ lines. answer schema world name user (Ok (step showing lines)) c.take_field.new.self)
+      (sym (ap (map line_of) c.in_ok-push.ensures.pushed ∙ map-append line_of c.loop-field.read.items (c.in-Some-line.line ∷ [])));
+  less = omega (arith, c.loop-field.invariant.less);
+}
+
+-- which writes none
+pub returns-in-None-clause-reads : goal.returns-in-None-clause-reads
+returns-in-None-clause-reads c schema world name user showing =
+    c.loop-field.invariant.reads schema world name user showing
+    ∙ step-more schema world name user showing (map line_of c.loop-field.read.items) c.loop-field.lines c.take_field.new.self
+    c.in-Some.field (rw c.in-Some.is at c.take_field.ensures) None (search (rules, tests)) (search rules)
+
+-- the end
+pub returns-then-is_alone-clause-reads : goal.returns-then-is_alone-clause-reads
+returns-then-is_alone-clause-reads c schema world name user showing =
+    c.loop-field.invariant.reads schema world name user showing
+    ∙ step-ends schema world name user showing (map line_of c.loop-field.read.items) c.loop-field.lines c.take_field.new.self
+    c.in-Some.field (rw c.in-Some.is at c.take_field.ensures) (search (rules, tests)) (search (rules, tests))
+
+-- neither
+pub returns-else-is_alone-clause-reads : goal.returns-else-is_alone-clause-reads
+returns-else-is_alone-clause-reads c schema world name user showing =
+    c.loop-field.invariant.reads schema world name user showing
+    ∙ step-form schema world name user showing (map line_of c.loop-field.read.items) c.loop-field.lines c.take_field.new.self
+    c.in-Some.field (rw c.in-Some.is at c.take_field.ensures) (search (rules, tests)) (search (rules, tests))
+
+-- the end is missing
+pub returns-clause-reads : goal.returns-clause-reads
+returns-clause-reads c schema world name user showing =
+    c.loop-field.invariant.reads schema world name user showing
+    ∙ answer-end schema world name user (step showing (map line_of c.loop-field.read.items)) c.loop-field.lines c.take_field.new.self
+    (rw c.in_default.is at c.take_field.ensures)
+    ∙ ap (λ n. Err (refused.Form n)) (search rules)

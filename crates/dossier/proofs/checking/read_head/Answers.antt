@@ -1,0 +1,55 @@
+use Rattle.std.proofs.Common.{refl, sym, ◌∙◌, arith, rules, tests}
+use Rattle.std.specs.Prelude.{string_bytes}
+use Rattle.cqe_base.specs.History.{profile_of}
+use Rattle.dossier.specs.Checked.{head}
+use Rattle.dossier.specs.Reading.{field_said}
+use Rattle.dossier.proofs.ItemLines.{line-missing, line-says, head-form, head-open, head-closed, head-sealed, head-other}
+use Rattle.dossier.proofs.checking.read_head.Goals as goal
+
+pub returns-in_err-field-clause-reads : goal.returns-in_err-field-clause-reads
+returns-in_err-field-clause-reads c schema world =
+    line-missing schema world (string_bytes c.args.user.now.name) (profile_of c.args.user.now) head c.args.lines.now c.take_line.new.self _ _ refl
+    c.in_err-field.ensures
+
+-- the line isn't that of a user
+pub returns-then-ne-clause-reads : goal.returns-then-ne-clause-reads
+returns-then-ne-clause-reads c schema world =
+    line-says schema world (string_bytes c.args.user.now.name) (profile_of c.args.user.now) head c.args.lines.now c.take_line.new.self
+    c.in_ok-field.field _ c.in_ok-field.ensures
+    (head-form schema world _ _ (field_said c.in_ok-field.field) (search (rules, tests)))
+
+-- he is this one, and open
+pub returns-then-says_head-clause-reads : goal.returns-then-says_head-clause-reads
+returns-then-says_head-clause-reads c schema world =
+    line-says schema world (string_bytes c.args.user.now.name) (profile_of c.args.user.now) head c.args.lines.now c.take_line.new.self
+    c.in_ok-field.field _ c.in_ok-field.ensures
+    (head-open schema world _ _ (field_said c.in_ok-field.field) (search (rules, tests))
+    (sym (c.in_ok-says_head.ensures schema world) ∙ search (rules, tests)))
+
+-- closed, or sealed
+pub returns-then-closed-clause-reads : goal.returns-then-closed-clause-reads
+returns-then-closed-clause-reads c schema world =
+    line-says schema world (string_bytes c.args.user.now.name) (profile_of c.args.user.now) head c.args.lines.now c.take_line.new.self
+    c.in_ok-field.field _ c.in_ok-field.ensures
+    (head-closed schema world _ _ (field_said c.in_ok-field.field) (search (rules, tests))
+    (sym (c.in_ok-says_head.ensures schema world) ∙ search (rules, tests))
+    (sym (c.in_ok-closed.ensures schema world) ∙ search (rules, tests)))
+
+pub returns-then-sealed-clause-reads : goal.returns-then-sealed-clause-reads
+returns-then-sealed-clause-reads c schema world =
+    line-says schema world (string_bytes c.args.user.now.name) (profile_of c.args.user.now) head c.args.lines.now c.take_line.new.self
+    c.in_ok-field.field _ c.in_ok-field.ensures
+    (head-sealed schema world _ _ (field_said c.in_ok-field.field) (search (rules, tests))
+    (sym (c.in_ok-says_head.ensures schema world) ∙ search (rules, tests))
+    (sym (c.in_ok-closed.ensures schema world) ∙ search (rules, tests))
+    (sym (c.in_ok-sealed.ensures schema world) ∙ search (rules, tests)))
+
+-- the line of another user, or of none
+pub returns-clause-reads : goal.returns-clause-reads
+returns-clause-reads c schema world =
+    line-says schema world (string_bytes c.args.user.now.name) (profile_of c.args.user.now) head c.args.lines.now c.take_line.new.self
+    c.in_ok-field.field _ c.in_ok-field.ensures
+    (head-other schema world _ _ (field_said c.in_ok-field.field) (search (rules, tests))
+    (sym (c.in_ok-says_head.ensures schema world) ∙ search (rules, tests))
+    (sym (c.in_ok-closed.ensures schema world) ∙ search (rules, tests))
+    (sym (c.in_ok-sealed.ensures schema world) ∙ search (rules, tests)))

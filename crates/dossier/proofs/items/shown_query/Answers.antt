@@ -1,0 +1,83 @@
+use Rattle.std.proofs.Common.{◌≡◌, ◌≢◌, ◌≤◌, true, refl, sym, ap, subst, ◌∙◌, arith, rules, tests}
+use Rattle.cqe_base.specs.declared.user.Mark.TheVariants.{Undecided}
+use Rattle.cqe_base.specs.Formula.{formula_of, nodes, is_sentence_of}
+use Rattle.cqe_base.specs.Truth.{true_in}
+use Rattle.cqe_base.specs.Censor.{mark_by}
+use Rattle.cqe_base.specs.Limits.{FitsLog}
+use Rattle.dossier.specs.Checked.{asking}
+use Rattle.dossier.specs.Reading.{answer}
+use Rattle.dossier.specs.Logs.{past_schema, past_user, past_history}
+use Rattle.dossier.proofs.Asking.{asked-undecided, shown-refused, shown-mark, other-mark}
+use Rattle.dossier.proofs.items.shown_query.Goals as goal
+
+-- ---- the query is what it was, with its ground formula
+
+pub new-requires-clause-small : goal.new-requires-clause-small
+new-requires-clause-small c = let small : nodes (past_schema c.args.past.now) (formula_of c.args.query) ≤ 20000 = c.requires.fits.query_nodes in omega arith
+
+pub read_findings-requires-clause-sentence : goal.read_findings-requires-clause-sentence
+read_findings-requires-clause-sentence c =
+    subst (λ s. is_sentence_of (past_schema c.args.past.now) (formula_of s) ≡ true) (sym c.in_ok-query.ensures.same) c.requires.sentence
+
+pub read_findings-requires-clause-fits : goal.read_findings-requires-clause-fits
+read_findings-requires-clause-fits c =
+    let past = c.args.past.now in
+    subst (λ s. FitsLog (past_schema past) (past_user past) (past_history past) (formula_of s)) (sym c.in_ok-query.ensures.same) c.requires.fits
+
+pub holds-requires : goal.holds-requires
+holds-requires c =
+    subst (λ schema. is_sentence_of schema (formula_of c.in_ok-query.query.sentence) ≡ true) (sym c.read_findings.ensures.same.0.schema)
+    (subst (λ s. is_sentence_of (past_schema c.args.past.now) (formula_of s) ≡ true) (sym c.in_ok-query.ensures.same) c.requires.sentence)
+
+-- ---- what is read
+
+-- an undecided ask shows nothing
+pub returns-then-eq-clause-reads : goal.returns-then-eq-clause-reads
+returns-then-eq-clause-reads c name size =
+    let past = c.args.past.now in
+    ap (λ x. answer (past_schema past) c.args.world.now name (past_user past) x c.args.lines.now)
+    (asked-undecided (past_schema past) c.args.world.now name (past_user past) (past_history past) c.args.line (formula_of c.args.query) size c.args.mark
+    (search (rules, tests)))
+
+pub returns-in_err-findings-clause-reads : goal.returns-in_err-findings-clause-reads
+returns-in_err-findings-clause-reads c name size =
+    let past = c.args.past.now in
+    let isnt : c.args.mark ≢ Undecided = search (rules, tests) in
+    shown-refused (past_schema past) c.args.world.now name (past_user past) (past_history past) c.args.line (formula_of c.args.query) size c.args.mark isnt
+    c.args.lines.now c.read_findings.new.lines _ _
+    (rw c.in_ok-query.ensures.same at
+    c.in_err-findings.ensures.reads c.args.world.now name (asking c.args.line c.args.mark (formula_of c.args.query) size) refl)
+
+-- the mark is another
+pub returns-then-ne-clause-reads : goal.returns-then-ne-clause-reads
+returns-then-ne-clause-reads c name size =
+    let past = c.args.past.now in
+    let isnt : c.args.mark ≢ Undecided = search (rules, tests) in
+    let same = c.read_findings.ensures.same.0 in
+    let findings = c.in_ok-findings.findings in
+    let truth : c.holds.result ≡ true_in (past_schema past) c.args.world.now (formula_of c.args.query) =
+    c.holds.ensures ∙ (λ i. true_in (same.schema i) c.args.world.now (formula_of (c.in_ok-query.ensures.same i))) in
+    let decides = c.decide.ensures
+    ∙ (λ i. mark_by (same.user i).method findings.spent findings.implied findings.yes_harm findings.no_harm (truth i)) in
+    other-mark (past_schema past) c.args.world.now name (past_user past) (past_history past) c.args.line (formula_of c.args.query) size c.args.mark isnt
+    c.args.lines.now c.read_findings.new.lines c.in_ok-findings.findings c.decide.result decides
+    (rw c.in_ok-query.ensures.same at
+    c.in_ok-findings.ensures.reads c.args.world.now name (asking c.args.line c.args.mark (formula_of c.args.query) size) refl)
+    (search (rules, tests))
+
+-- or the one that was decided
+pub returns-clause-reads : goal.returns-clause-reads
+returns-clause-reads c name size =
+    let past = c.args.past.now in
+    let isnt : c.args.mark ≢ Undecided = search (rules, tests) in
+    let same = c.read_findings.ensures.same.0 in
+    let findings = c.in_ok-findings.findings in
+    let truth : c.holds.result ≡ true_in (past_schema past) c.args.world.now (formula_of c.args.query) =
+    c.holds.ensures ∙ (λ i. true_in (same.schema i) c.args.world.now (formula_of (c.in_ok-query.ensures.same i))) in
+    let decides = c.decide.ensures
+    ∙ (λ i. mark_by (same.user i).method findings.spent findings.implied findings.yes_harm findings.no_harm (truth i)) in
+    shown-mark (past_schema past) c.args.world.now name (past_user past) (past_history past) c.args.line (formula_of c.args.query) size c.args.mark isnt
+    c.args.lines.now c.read_findings.new.lines c.in_ok-findings.findings c.decide.result decides
+    (rw c.in_ok-query.ensures.same at
+    c.in_ok-findings.ensures.reads c.args.world.now name (asking c.args.line c.args.mark (formula_of c.args.query) size) refl)
+    (search (rules, tests))
