@@ -15,7 +15,7 @@ _cqe_options() {
 # The users of the policy that the words name so far.
 _cqe_users() {
     local place file=
-    for ((place = 2; place < COMP_CWORD; place++)); do
+    for ((place = 1; place < COMP_CWORD; place++)); do
         [[ ${COMP_WORDS[place]} == --policy ]] || continue
         file=${COMP_WORDS[place + 1]}
         [[ $file == = ]] && file=${COMP_WORDS[place + 2]}
@@ -104,6 +104,8 @@ _cqe() {
     if [[ ${COMP_WORDS[0]##*/} == cqe-ask ]]; then
         choices="--phrase-file --history --connect-timeout --reply-timeout --tls --ca --cert --key --help"
         [[ $current == -* ]] || return
+    elif [[ ${COMP_WORDS[0]##*/} == cqe-lrat ]]; then
+        choices="--policy --facts --user --to --help"
     elif ((COMP_CWORD == 1)); then
         choices="case init batch audit selfrun serve migrate"
     else
@@ -113,4 +115,4 @@ _cqe() {
     mapfile -t COMPREPLY < <(compgen -W "$(_cqe_unused $choices)" -- "$current")
 }
 
-complete -F _cqe cqe cqe-ask cqe-check cqe-explain cqe-lab cqe-ready
+complete -F _cqe cqe cqe-ask cqe-check cqe-explain cqe-lab cqe-lrat cqe-ready

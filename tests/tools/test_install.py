@@ -234,6 +234,15 @@ class Completion(Temporary):
         self.assertEqual(self.completed("cqe-ready", ""), ["127.0.0.1:7007"])
         self.assertEqual(self.completed("cqe-ready", "127.0.0.1:7007", ""), [])
 
+    def test_the_words_of_cqe_lrat(self) -> None:
+        (self.place / "a.policy").write_text('[[users]]\nname = "nurse"\n')
+        (self.place / "pairs").mkdir()
+        said = self.run_at(TOP / "tools/cqe-lrat", "--help").stdout.partition("options:")[2]
+        self.assertEqual(set(self.completed("cqe-lrat", "--")), set(re.findall(r"--[a-z]+", said)))
+        self.assertEqual(self.completed("cqe-lrat", "--policy", "a.p"), ["a.policy"])
+        self.assertEqual(self.completed("cqe-lrat", "--policy", "a.policy", "--user", ""), ["nurse"])
+        self.assertEqual(self.completed("cqe-lrat", "--to", "p"), ["pairs"])
+
     def test_the_words_of_cqe_explain(self) -> None:
         said = self.run_at(TOP / "tools/cqe-explain", "--help").stdout.partition("options:")[2]
         self.assertEqual(set(self.completed("cqe-explain", "--")), set(re.findall(r"--[a-z]+", said)))
