@@ -2,6 +2,8 @@ mod Lines
 mod Spelling
 mod Colons
 mod Worlds
+mod Listings
+mod Truths
 mod Shown
 mod Reads
 mod BlockReads
@@ -11,4 +13,5 @@ mod ItemLines
 mod Each
 mod Probing
 mod Asking
+mod Asks
 mod Whole

@@ -1,8 +1,9 @@
 -- Lists that are read one after the other, each part of which may be missing.
 use Rattle.std.proofs.Common.{◌≡◌, ℕ, ◌+◌, ◌<◌, ◌≤◌, List, [], ◌∷◌, ◌++◌, map, drop, length, get_or, Option, Some, None, refl}
-use Rattle.std.proofs.Common.{sym, ap, ◌∙◌, append_assoc, append-nil}
+use Rattle.std.proofs.Common.{true, sym, ap, ◌∙◌, append_assoc, append-nil, arith}
 use Rattle.std.proofs.lemmas.List.{drop_more, drop_all}
-use Rattle.dossier.specs.Words.{with_first, all_some}
+use Rattle.cqe_base.specs.Literal.{Literal}
+use Rattle.dossier.specs.Words.{with_first, all_some, line_by}
 
 -- what was read before, with the rest behind it
 abbrev pub behind : {X : Type 0} → List X → Option (List X) → Option (List X)
@@ -51,3 +52,9 @@ module _ {W X Y : Type 0} (now : W → X) (read : X → Option Y) (words : List 
   -- all words are read
   pub all-read : (before : List Y) (i : ℕ) → length words ≤ i → behind before (from i) ≡ Some before
   all-read before i past = ap (λ rest. behind before (all_some (map read (map now rest)))) (drop_all i words past) ∙ behind-all before
+
+-- a line whose chain has a number
+pub chain-some : (clause : List Literal) (chain : List ℕ) → 1 ≤ length chain
+    → line_by true (Some clause) (Some chain) ≡ Some (record { clause = clause; chain = chain })
+chain-some clause [] some = absurd (omega (arith, some))
+chain-some clause (first ∷ chain) some = refl

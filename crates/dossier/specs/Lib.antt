@@ -7,3 +7,4 @@ pub mod Logs
 pub mod Blocks
 pub mod Items
 pub mod Written
+pub mod Told

@@ -1,5 +1,6 @@
 //! Blocks: what shows whether the premises of a probe entail its goal.
-ghost use Rattle.std.specs.Prelude.{◌≡◌, ◌≤◌, ◌+◌, ◌++◌, [], true, Bool, List, length, map, Ok};
+ghost use Rattle.std.specs.Prelude.{◌≡◌, ◌≤◌, ◌+◌, ◌++◌, ◌&&◌, not, [], true, Bool, List, length, map};
+ghost use Rattle.std.specs.Prelude.{Ok};
 ghost use Rattle.std.specs.Prelude.{nat_le, All};
 ghost use Rattle.std.specs.List.{list_all};
 ghost use Rattle.cqe_base.specs.Schema.{DatabaseSchema, Text};
@@ -24,10 +25,9 @@ ghost use Rattle.dossier.specs.Blocks.{Probed, reason_of, probe_over, MayFollow,
 use crate::error::DossierError;
 use crate::fields::{Field, FieldIter};
 use crate::listed::{facts_listed, world_of};
-use crate::past::{knows_truth, tells_truth};
+use crate::past::{is_truth, knows_truth, tells_truth};
 use crate::words::line_in;
 use clause_store::refutation::Refutation;
-use cqe_base::laws::law_logs;
 use cqe_base::schema::Schema;
 use cqe_base::user::{Item, User};
 use cqe_base::world::World;
@@ -166,10 +166,17 @@ fn is_countermodel(told: Told<'_>, world: &World, probe: &Probe<'_>) -> bool
         (probe_over (log (profile_of told.entry.user.now)
         (map answered_query_of told.entry.entries.now)) probe.now) world.now }
 {
-    law_logs();
-    told.is_true_in(world)
-        && premise_holds(told.schema, world, probe.premise)
-        && !signed_holds(told.schema, world, probe.goal)
+    let first = told.is_true_in(world);
+    let premise = premise_holds(told.schema, world, probe.premise);
+    let goal = signed_holds(told.schema, world, probe.goal);
+    shows_open(first, premise, goal)
+}
+
+/// Whether the log and the premise are true and the goal isn't.
+fn shows_open(first: bool, premise: bool, goal: bool) -> bool
+    ensures { result ≡ ((first && premise) && not goal) }
+{
+    first && premise && !goal
 }
 
 /// Whether a further premise, if there is one, is true in a world.
@@ -193,7 +200,7 @@ fn signed_holds(schema: &Schema, world: &World, signed: (&GroundSentence, bool))
     ensures { result ≡ holds_in schema.now world.now (signed_at signed.entry) }
 {
     let (sentence, yes) = signed;
-    holds(schema, world, &sentence.sentence) == yes
+    is_truth(holds(schema, world, &sentence.sentence), yes)
 }
 
 /// Reads the lines of a refutation, and answers it with the number of its last line.

@@ -93,7 +93,7 @@ fn says_head(
         (profile_of user.now) standing.now)) }
 {
     let expected = head_rest(alloc, user, standing)?;
-    Ok(expected == rest)
+    Ok(rest == expected.as_str())
 }
 
 /// What stands behind `dossier` in the line of a user with this standing.

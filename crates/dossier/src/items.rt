@@ -57,10 +57,10 @@ pub(crate) fn read_ask(
     if text.is_empty() {
         return Err(DossierError::Form(field.line));
     }
-    let Some(query) = past.sentence_in(alloc, Purpose::Asking, text)? else {
+    let Some(asked) = past.sentence_in(alloc, Purpose::Asking, text)? else {
         return Err(DossierError::Text(field.line));
     };
-    let query = shown_query(alloc, world, past, query, mark, field.line, lines)?;
+    let query = shown_query(alloc, world, past, asked, mark, field.line, lines)?;
     let length = text.len() as u32;
     past.add_answered(
         alloc,
@@ -294,8 +294,8 @@ pub(crate) fn read_protect(
     let Some(secret) = past.sentence_in(alloc, Purpose::Protecting, text)? else {
         return Err(DossierError::Text(field.line));
     };
-    let goal = guard_with(alloc, &past.current, &secret)?;
-    let goal = GroundSentence::new(alloc, past.schema, goal)?;
+    let guarded = guard_with(alloc, &past.current, &secret)?;
+    let goal = GroundSentence::new(alloc, past.schema, guarded)?;
     let told = Told {
         schema: past.schema,
         user: past.user,

@@ -1,8 +1,9 @@
 //! The facts of a world, as a block lists them.
-ghost use Rattle.std.specs.Prelude.{◌≡◌, ◌++◌, true, Some, map, option_map, codes, string_bytes};
+ghost use Rattle.std.specs.Prelude.{◌≡◌, ◌++◌, ◌∷◌, true, Some, map, option_map, codes, string_bytes};
 ghost use Rattle.std.specs.Prelude.{IfOk, IfSome};
 ghost use Rattle.std.specs.List.{list_all};
-ghost use Rattle.cqe_base.specs.Facts.{is_fact_of};
+ghost use Rattle.std.specs.Ordering.{is_lt};
+ghost use Rattle.cqe_base.specs.Facts.{is_fact_of, fact_cmp};
 ghost use Rattle.audit_text.specs.Text.{world_text};
 ghost use Rattle.audit_print.specs.Said.{world_said};
 ghost use Rattle.dossier.specs.Fields.{ended_parts};
@@ -30,7 +31,7 @@ pub(crate) fn facts_listed(
     schema: &Schema,
     text: &str,
 ) -> Result<Option<Vec<Fact>>, AllocError>
-    ensures listed { IfOk result (λ read. option_map (λ facts. facts.items) read
+    ensures { IfOk result (λ read. option_map (λ facts. facts.items) read
         ≡ facts_listed schema.now text.now) }
 {
     if text == "-" {
@@ -91,24 +92,45 @@ fn is_listing(
     requires { list_all (is_fact_of schema.now) facts.now ≡ true }
     ensures { IfOk result (λ yes. yes ≡ is_listing schema.now text.now facts.now) }
 {
-    if facts.len() > FACTS || !ascends(facts) {
+    if facts.len() > FACTS {
+        return Ok(false);
+    }
+    if !ascends(facts) {
         return Ok(false);
     }
     let printed = listing(alloc, schema, facts)?;
-    Ok(printed == text)
+    Ok(text == printed.as_str())
 }
 
 /// Whether each fact stands behind the one before it.
 fn ascends(facts: &[Fact]) -> bool
     ensures { result ≡ ascends facts.now }
 {
-    for index in 1..facts.len() {
-        let follows = facts[index - 1] < facts[index];
-        if !follows {
+    match facts {
+        [] => true,
+        [first, others @ ..] => ascends_from(*first, others),
+    }
+}
+
+/// Whether each of these facts stands behind the one before it, the first of them behind this one.
+fn ascends_from(first: Fact, others: &[Fact]) -> bool
+    ensures { result ≡ ascends (first ∷ others.now) }
+{
+    let mut last = first;
+    for fact in others {
+        if !stands_before(&last, fact) {
             return false;
         }
+        last = *fact;
     }
     true
+}
+
+/// Whether a fact stands before another in the order of facts.
+fn stands_before(first: &Fact, second: &Fact) -> bool
+    ensures { result ≡ is_lt (fact_cmp first.now second.now) }
+{
+    first < second
 }
 
 /// These facts, as an audit lists them.

@@ -1,7 +1,9 @@
 //! What is kept of the items that were read so far.
-ghost use Rattle.std.specs.Prelude.{◌≡◌, ◌≤◌, [], true, false, map, option_map, IfOk, OnOk};
+ghost use Rattle.std.specs.Prelude.{◌≡◌, ◌≤◌, ◌||◌, [], true, false, map, option_map, IfOk, OnOk};
 ghost use Rattle.cqe_base.specs.Facts.{FactSet};
 ghost use Rattle.cqe_base.specs.Formula.{formula_of, is_sentence_of};
+ghost use Rattle.std.specs.List.{list_all};
+ghost use Rattle.cqe_base.specs.Truth.{true_in, same_truth};
 ghost use Rattle.cqe_base.specs.Entailment.{all_hold_in};
 ghost use Rattle.cqe_base.specs.History.{profile_of, answered_query_of, known, told, told_by};
 ghost use Rattle.cqe_base.specs.History.{is_added, is_user_of, is_history_of};
@@ -10,6 +12,8 @@ ghost use Rattle.cqe_base.specs.Run.{is_full, is_too_large, is_too_large_secret,
 ghost use Rattle.user_desk.specs.Causes.{is_beyond};
 ghost use Rattle.dossier.specs.Checked.{sentence_in};
 ghost use Rattle.dossier.specs.Logs.{past_schema, past_user, past_history, IsKept, HasAdded};
+ghost use Rattle.dossier.specs.Told.{sign_told};
+ghost use Rattle.dossier.specs.Logs.{IsPastOfSame};
 
 use censors::Guards;
 use cqe_base::laws::{law_added_secrets, law_amended_limits, law_limits, law_logs};
@@ -102,11 +106,12 @@ impl<'w> Past<'w> {
         text: &str,
     ) -> Result<Option<Sentence>, AllocError>
         requires { IsKept self.now }
-        ensures read { IfOk result (λ read. (world : FactSet) → option_map formula_of read
+        ensures { IfOk result (λ read. (world : FactSet) → option_map formula_of read
             ≡ sentence_in (past_schema self.now) world (past_user self.now)
             (past_history self.now) purpose text.now) }
     {
-        if text.len() > TEXT {
+        let length = text.len();
+        if length > TEXT {
             return Ok(None);
         }
         let sentence = match read_sentence(alloc, self.schema, text) {
@@ -114,7 +119,7 @@ impl<'w> Past<'w> {
             Err(ReadError::Text(_)) => return Ok(None),
             Err(ReadError::Memory) => return Err(AllocError),
         };
-        if self.is_beyond(purpose, text.len(), &sentence) {
+        if self.is_beyond(purpose, length, &sentence) {
             return Ok(None);
         }
         Ok(Some(sentence))
@@ -133,10 +138,26 @@ impl<'w> Past<'w> {
         }
         match purpose {
             Purpose::Asking => self.is_too_large(sentence),
-            Purpose::Protecting => {
-                self.is_too_large_secret(sentence) || self.current.secrets.len() >= SECRETS
-            }
+            Purpose::Protecting => self.has_no_room(sentence),
         }
+    }
+
+    /// Whether the sentence is too large for a secret, or there is no room for one.
+    fn has_no_room(&self, secret: &Sentence) -> bool
+        requires { IsKept self.now }
+        ensures { result ≡ (is_too_large_secret (past_schema self.now) (past_user self.now)
+            (past_history self.now) (formula_of secret.now)
+            || has_all_secrets (past_user self.now) (past_history self.now)) }
+    {
+        self.is_too_large_secret(secret) || self.has_all_secrets()
+    }
+
+    /// Whether the user has as many secrets as one can have.
+    fn has_all_secrets(&self) -> bool
+        requires { IsKept self.now }
+        ensures { result ≡ has_all_secrets (past_user self.now) (past_history self.now) }
+    {
+        self.current.secrets.len() >= SECRETS
     }
 
     /// Whether the items, or the texts with one of this length, are too many.
@@ -181,6 +202,7 @@ impl<'w> Past<'w> {
             (past_history self.old) (answered_query_of item) }
         ensures kept { OnOk result (IsKept self.new) }
         ensures added { OnOk result (HasAdded (answered_query_of item) self.old self.new) }
+        ensures same { IsPastOfSame self.old self.new }
     {
         law_logs();
         law_limits();
@@ -201,6 +223,7 @@ impl<'w> Past<'w> {
             (past_history self.old) (answered_query_of item) }
         ensures kept { OnOk result (IsKept self.new) }
         ensures added { OnOk result (HasAdded (answered_query_of item) self.old self.new) }
+        ensures same { IsPastOfSame self.old self.new }
     {
         law_logs();
         law_added_secrets();
@@ -220,9 +243,20 @@ pub(crate) fn knows_truth(schema: &Schema, world: &World, user: &User) -> bool
     requires { is_user_of schema.now (profile_of user.now) ≡ true }
     ensures { result ≡ all_hold_in schema.now world.now (known (profile_of user.now)) }
 {
-    user.know
-        .iter()
-        .all(|sentence| holds(schema, world, sentence))
+    all_true(schema, world, user.know.as_slice())
+}
+
+/// Whether all of these sentences are true in a world.
+fn all_true(schema: &Schema, world: &World, sentences: &[Sentence]) -> bool
+    requires { list_all (is_sentence_of schema.now) (map formula_of sentences.now) ≡ true }
+    ensures { result ≡ list_all (true_in schema.now world.now) (map formula_of sentences.now) }
+{
+    for sentence in sentences {
+        if !holds(schema, world, sentence) {
+            return false;
+        }
+    }
+    true
 }
 
 /// Whether all that these items tell is true in a world.
@@ -231,7 +265,12 @@ pub(crate) fn tells_truth(schema: &Schema, world: &World, entries: &[Item]) -> b
     ensures { result ≡ all_hold_in schema.now world.now
         (told (map answered_query_of entries.now)) }
 {
-    entries.iter().all(|entry| is_true_there(schema, world, entry))
+    for entry in entries {
+        if !is_true_there(schema, world, entry) {
+            return false;
+        }
+    }
+    true
 }
 
 /// Whether what an item tells is true in a world.
@@ -240,9 +279,26 @@ fn is_true_there(schema: &Schema, world: &World, entry: &Item) -> bool
     ensures { result ≡ all_hold_in schema.now world.now
         (told_by entry.now.mark (formula_of entry.now.query)) }
 {
-    match entry.mark {
-        Mark::Yes => holds(schema, world, &entry.query),
-        Mark::No => !holds(schema, world, &entry.query),
-        Mark::Refused | Mark::Undecided | Mark::Protected => true,
+    match sign_told(entry.mark) {
+        Some(yes) => is_truth(holds(schema, world, &entry.query), yes),
+        None => true,
     }
+}
+
+/// What an item with this mark tells of its query, if it tells anything: that it is true, or false.
+fn sign_told(mark: Mark) -> Option<bool>
+    ensures { result ≡ sign_told mark }
+{
+    match mark {
+        Mark::Yes => Some(true),
+        Mark::No => Some(false),
+        Mark::Refused | Mark::Undecided | Mark::Protected => None,
+    }
+}
+
+/// Whether this is the truth of a sentence, or where `false` stands beside it of its negation.
+pub(crate) fn is_truth(truth: bool, yes: bool) -> bool
+    ensures { result ≡ same_truth yes truth }
+{
+    if yes { truth } else { !truth }
 }

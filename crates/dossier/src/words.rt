@@ -1,6 +1,6 @@
 //! What the words of a dossier say: numbers, literals, lines of a refutation, and marks.
 ghost use Rattle.std.specs.Prelude.{◌≡◌, ◌<◌, ◌+◌, ◌^◌, true, map, position, option_map};
-ghost use Rattle.std.specs.Prelude.{IfOk, IfSome};
+ghost use Rattle.std.specs.Prelude.{Some, IfOk, IfSome};
 ghost use Rattle.clause_store.specs.PlainLines.{line_of};
 ghost use Rattle.dossier.specs.Words.{all_some, has_leading_zero, number_of, literal_of, is_colon};
 ghost use Rattle.dossier.specs.Words.{words_of, line_by, line_of_words, line_in, mark_named};
@@ -153,8 +153,17 @@ fn line_by(clause: Option<Vec<Lit>>, chain: Option<Vec<u32>>) -> Option<Line>
 {
     let clause = clause?;
     let chain = chain?;
+    line_with(clause, chain)
+}
+
+/// The line with this clause and this chain, if the chain isn't empty.
+fn line_with(clause: Vec<Lit>, chain: Vec<u32>) -> Option<Line>
+    ensures { option_map line_of result
+        ≡ line_by true (Some clause.items) (Some chain.items) }
+{
     if chain.is_empty() {
-        return None;
+        None
+    } else {
+        Some(Line { clause, chain })
     }
-    Some(Line { clause, chain })
 }

@@ -34,15 +34,15 @@ returns-in_err-read-clause-reads c world name user showing same of =
     (c.in_err-read.ensures.reads c.args.told.schema.now world name user showing)
 
 -- the refutation was confirmed, or wasn't
-pub returns-then-confirm-clause-reads : goal.returns-then-confirm-clause-reads
-returns-then-confirm-clause-reads c world name user showing same of =
+pub returns-then-branch-clause-reads : goal.returns-then-branch-clause-reads
+returns-then-branch-clause-reads c world name user showing same of =
     block-ended c.args.told.schema.now world name user showing c.args.lines.now c.take_line.new.self c.in_ok-field.field c.in_ok-field.ensures
     c.args.reason of (search (rules, tests)) (search (rules, tests)) c.read_refutation.new.lines c.in_ok-read.read.1 (lines_of c.in_ok-read.read.0) true
     c.in_ok-may_follow.ensures (c.in_ok-read.ensures.reads c.args.told.schema.now world name user showing)
     (search (rules, tests, same))
 
-pub returns-clause-reads : goal.returns-clause-reads
-returns-clause-reads c world name user showing same of =
+pub returns-else-branch-clause-reads : goal.returns-else-branch-clause-reads
+returns-else-branch-clause-reads c world name user showing same of =
     block-ended c.args.told.schema.now world name user showing c.args.lines.now c.take_line.new.self c.in_ok-field.field c.in_ok-field.ensures
     c.args.reason of (search (rules, tests)) (search (rules, tests)) c.read_refutation.new.lines c.in_ok-read.read.1 (lines_of c.in_ok-read.read.0) false
     c.in_ok-may_follow.ensures (c.in_ok-read.ensures.reads c.args.told.schema.now world name user showing)

@@ -19,8 +19,8 @@ returns-then-ne-clause-reads c schema world =
     (head-form schema world _ _ (field_said c.in_ok-field.field) (search (rules, tests)))
 
 -- he is this one, and open
-pub returns-then-says_head-clause-reads : goal.returns-then-says_head-clause-reads
-returns-then-says_head-clause-reads c schema world =
+pub returns-then-branch-clause-reads : goal.returns-then-branch-clause-reads
+returns-then-branch-clause-reads c schema world =
     line-says schema world (string_bytes c.args.user.now.name) (profile_of c.args.user.now) head c.args.lines.now c.take_line.new.self
     c.in_ok-field.field _ c.in_ok-field.ensures
     (head-open schema world _ _ (field_said c.in_ok-field.field) (search (rules, tests))

@@ -23,8 +23,8 @@ returns-in_err-field-clause-reads c name =
     (line-missing schema c.args.world.now name user (item so_far) c.loop-field.lines c.take_line.new.self _ _ refl c.in_err-field.ensures)
 
 -- the line of the end
-pub returns-then-says_done-clause-reads : goal.returns-then-says_done-clause-reads
-returns-then-says_done-clause-reads c name =
+pub returns-then-branch-clause-reads : goal.returns-then-branch-clause-reads
+returns-then-branch-clause-reads c name =
     items-done (past_schema c.args.past.now) c.args.world.now name (past_user c.args.past.now) (past_history c.args.past.now)
     (past_history c.loop-field.past) c.args.lines.now c.loop-field.lines c.take_line.new.self c.in_ok-field.field
     (c.loop-field.invariant.reads name) c.in_ok-field.ensures (sym c.in_ok-says_done.ensures ∙ search (rules, tests))
