@@ -1,6 +1,6 @@
 -- The lines of asks and additions: the sentence that stands in them, where it is within the limits.
 use Rattle.std.proofs.Common.{◌≡◌, ◌≤◌, ◌<◌, ℕ, Bool, true, false, [], ◌∷◌, ◌++◌, length, Some, None, Result, Ok, Err, refl, sym, ap, ◌∙◌, arith}
-use Rattle.std.specs.Prelude.{◌||◌, Option, if◌then◌else◌, nat_le, bytes_eq, codes}
+use Rattle.std.specs.Prelude.{◌||◌, Option, if◌then◌else◌, nat_le, nat_lt, bytes_eq, codes}
 use Rattle.std.proofs.lemmas.Bool.{or_left, or_parts}
 use Rattle.std.proofs.lemmas.Bool.Decides.{nat_tests}
 use Rattle.cqe_base.specs.declared.user.Mark.{Mark}
@@ -75,7 +75,7 @@ module _ (schema : DatabaseSchema) (world : FactSet) (user : UserProfile) (entri
 
   module _ (purpose : Purpose) (text : Text) where
     -- a text that is too long
-    pub too-long : 4096 < length text → None ≡ sentence_in schema world user entries purpose text
+    pub too-long : nat_lt 4096 (length text) ≡ true → None ≡ sentence_in schema world user entries purpose text
     too-long long =
         let test : nat_le (length text) 4096 ≡ false = grind (arith, nat_tests) in
         sym (ap (λ b. if b then within_limits schema world user entries purpose text (reading schema text) else None) test)

@@ -14,4 +14,5 @@ mod Each
 mod Probing
 mod Asking
 mod Asks
+mod Added
 mod Whole

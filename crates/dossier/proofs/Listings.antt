@@ -1,6 +1,6 @@
 -- Lists of facts as an audit lists them.
 use Rattle.std.proofs.Common.{◌≡◌, ◌≤◌, ◌<◌, ℕ, Bool, true, false, ◌&&◌, List, [], ◌∷◌, ◌++◌, length, Some, None, refl, sym, ap, ◌∙◌, arith}
-use Rattle.std.specs.Prelude.{Option, if◌then◌else◌, nat_le, bytes_eq, codes}
+use Rattle.std.specs.Prelude.{Option, if◌then◌else◌, nat_le, nat_lt, bytes_eq, codes}
 use Rattle.std.specs.List.{list_all}
 use Rattle.std.proofs.lemmas.Bool.Decides.{nat_tests}
 use Rattle.cqe_base.specs.declared.world.Fact.{Fact}
@@ -18,12 +18,12 @@ module _ (schema : DatabaseSchema) (text : Text) (facts : List Fact) (of_schema 
   by-parts few ascend few_is ascend_is = λ i. (of_schema i && (few_is i && ascend_is i)) && bytes_eq text (world_text (Some (world_said schema facts)))
 
   -- they are more than a world has
-  pub too-many : 100000 < length facts → false ≡ is_listing schema text facts
+  pub too-many : nat_lt 100000 (length facts) ≡ true → false ≡ is_listing schema text facts
   too-many many =
       let few : nat_le (length facts) 100000 ≡ false = grind (arith, nat_tests) in
       sym (by-parts false (ascends facts) few refl)
 
-  module _ (small : length facts ≤ 100000) where
+  module _ (small : nat_lt 100000 (length facts) ≡ false) where
     few_are : nat_le (length facts) 100000 ≡ true
     few_are = grind (arith, nat_tests)
 
@@ -56,12 +56,12 @@ module _ (schema : DatabaseSchema) (text : Text) where
       listed-otherwise other = sym (by-facts ∙ ap (if_listed schema text) (sym read) ∙ ap (λ b. if b then Some facts else None) other)
 
 -- the fact of a text that isn't too long
-pub fact-long : (schema : DatabaseSchema) (text : Text) → 4096 < length text → None ≡ fact_in schema text
+pub fact-long : (schema : DatabaseSchema) (text : Text) → nat_lt 4096 (length text) ≡ true → None ≡ fact_in schema text
 fact-long schema text long =
     let test : nat_le (length text) 4096 ≡ false = grind (arith, nat_tests) in
     sym (ap (λ b. if b then stated_fact schema text else None) test)
 
-pub fact-short : (schema : DatabaseSchema) (text : Text) → length text ≤ 4096 → stated_fact schema text ≡ fact_in schema text
+pub fact-short : (schema : DatabaseSchema) (text : Text) → nat_lt 4096 (length text) ≡ false → stated_fact schema text ≡ fact_in schema text
 fact-short schema text short =
     let test : nat_le (length text) 4096 ≡ true = grind (arith, nat_tests) in
     sym (ap (λ b. if b then stated_fact schema text else None) test)

@@ -21,7 +21,7 @@ use crate::blocks::{Reason, Told, read_block, read_each};
 use crate::error::DossierError;
 use crate::fields::{Field, FieldIter, first_word};
 use crate::past::Past;
-use crate::words::mark_named;
+use crate::words::{mark_named, size_of};
 use censors::{Findings, decide, guard_with};
 use cqe_base::laws::{law_amended_limits, law_limits, law_reading, law_sizes};
 use cqe_base::sentence::Sentence;
@@ -61,7 +61,7 @@ pub(crate) fn read_ask(
         return Err(DossierError::Text(field.line));
     };
     let query = shown_query(alloc, world, past, asked, mark, field.line, lines)?;
-    let length = text.len() as u32;
+    let length = size_of(text);
     past.add_answered(
         alloc,
         Item {
@@ -306,7 +306,7 @@ pub(crate) fn read_protect(
         goal: (&goal, true),
     };
     read_block(alloc, told, &mut past.view, &probe, Reason::Adding, lines)?;
-    let length = text.len() as u32;
+    let length = size_of(text);
     past.add_secret(
         alloc,
         Item {

@@ -1,6 +1,6 @@
 //! The facts of a world, as a block lists them.
 ghost use Rattle.std.specs.Prelude.{◌≡◌, ◌++◌, ◌∷◌, true, Some, map, option_map, codes, string_bytes};
-ghost use Rattle.std.specs.Prelude.{IfOk, IfSome};
+ghost use Rattle.std.specs.Prelude.{nat_lt, length, IfOk, IfSome};
 ghost use Rattle.std.specs.List.{list_all};
 ghost use Rattle.std.specs.Ordering.{is_lt};
 ghost use Rattle.cqe_base.specs.Facts.{is_fact_of, fact_cmp};
@@ -11,6 +11,7 @@ ghost use Rattle.dossier.specs.Words.{fact_in, facts_in, ascends, is_listing, wo
 ghost use Rattle.dossier.specs.Words.{facts_listed};
 
 use crate::fields::first_part;
+use crate::words::is_long;
 use audit_print::fact_text;
 use audit_text::push_facts;
 use cqe_base::schema::Schema;
@@ -20,9 +21,6 @@ use std::alloc::{AllocError, Global};
 
 /// A world holds at most so many facts.
 const FACTS: usize = 100_000;
-
-/// A fact has at most so many bytes.
-const FACT_BYTES: usize = 4_096;
 
 /// The facts that a text lists as an audit does: `-` where there are none. There is nothing where
 /// it is no such text.
@@ -75,7 +73,7 @@ fn fact_in(alloc: Global, schema: &Schema, part: &str) -> Result<Option<Fact>, A
 {
     let mut text = String::from_str(alloc, part)?;
     text.push_str(")")?;
-    if text.len() > FACT_BYTES {
+    if is_long(&text) {
         return Ok(None);
     }
     let fact = stated_fact(alloc, schema, &text)?;
@@ -92,7 +90,7 @@ fn is_listing(
     requires { list_all (is_fact_of schema.now) facts.now ≡ true }
     ensures { IfOk result (λ yes. yes ≡ is_listing schema.now text.now facts.now) }
 {
-    if facts.len() > FACTS {
+    if are_many(facts) {
         return Ok(false);
     }
     if !ascends(facts) {
@@ -100,6 +98,13 @@ fn is_listing(
     }
     let printed = listing(alloc, schema, facts)?;
     Ok(text == printed.as_str())
+}
+
+/// Whether these are more facts than a world holds.
+fn are_many(facts: &[Fact]) -> bool
+    ensures { result ≡ nat_lt 100000 (length facts.now) }
+{
+    facts.len() > FACTS
 }
 
 /// Whether each fact stands behind the one before it.

@@ -15,6 +15,7 @@ ghost use Rattle.dossier.specs.Logs.{past_schema, past_user, past_history, IsKep
 ghost use Rattle.dossier.specs.Told.{sign_told};
 ghost use Rattle.dossier.specs.Logs.{IsPastOfSame};
 
+use crate::words::{is_long, size_of};
 use censors::Guards;
 use cqe_base::laws::{law_added_secrets, law_amended_limits, law_limits, law_logs};
 use cqe_base::schema::Schema;
@@ -27,9 +28,6 @@ use std::alloc::{AllocError, Global};
 use truth_eval::holds;
 use two_worlds::tell;
 use user_log::told_nodes;
-
-/// A text has at most so many bytes.
-const TEXT: usize = 4_096;
 
 /// A history has at most so many items.
 const ENTRIES: usize = 4_096;
@@ -110,8 +108,7 @@ impl<'w> Past<'w> {
             ≡ sentence_in (past_schema self.now) world (past_user self.now)
             (past_history self.now) purpose text.now) }
     {
-        let length = text.len();
-        if length > TEXT {
+        if is_long(text) {
             return Ok(None);
         }
         let sentence = match read_sentence(alloc, self.schema, text) {
@@ -119,7 +116,8 @@ impl<'w> Past<'w> {
             Err(ReadError::Text(_)) => return Ok(None),
             Err(ReadError::Memory) => return Err(AllocError),
         };
-        if self.is_beyond(purpose, length, &sentence) {
+        let length = size_of(text);
+        if self.is_beyond(purpose, length as usize, &sentence) {
             return Ok(None);
         }
         Ok(Some(sentence))

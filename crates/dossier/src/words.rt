@@ -1,6 +1,6 @@
 //! What the words of a dossier say: numbers, literals, lines of a refutation, and marks.
-ghost use Rattle.std.specs.Prelude.{◌≡◌, ◌<◌, ◌+◌, ◌^◌, true, map, position, option_map};
-ghost use Rattle.std.specs.Prelude.{Some, IfOk, IfSome};
+ghost use Rattle.std.specs.Prelude.{◌≡◌, ◌<◌, ◌≤◌, ◌+◌, ◌^◌, true, nat_lt, length, map, position};
+ghost use Rattle.std.specs.Prelude.{option_map, Some, IfOk, IfSome};
 ghost use Rattle.clause_store.specs.PlainLines.{line_of};
 ghost use Rattle.dossier.specs.Words.{all_some, has_leading_zero, number_of, literal_of, is_colon};
 ghost use Rattle.dossier.specs.Words.{words_of, line_by, line_of_words, line_in, mark_named};
@@ -13,6 +13,24 @@ use std::alloc::{AllocError, Global};
 
 /// The greatest number of a variable or a clause.
 const GREATEST: u64 = 2_147_483_646;
+
+/// The text of a sentence has at most so many bytes.
+const TEXT: usize = 4_096;
+
+/// Whether a text has more bytes than that of a sentence may have.
+pub(crate) fn is_long(text: &str) -> bool
+    ensures { result ≡ nat_lt 4096 (length text.now) }
+{
+    text.len() > TEXT
+}
+
+/// How many bytes the text of a sentence has.
+pub(crate) fn size_of(text: &str) -> u32
+    requires { length text.now ≤ 4096 }
+    ensures { result ≡ length text.now }
+{
+    text.len() as u32
+}
 
 /// The mark of an ask that a word names.
 pub(crate) fn mark_named(word: &str) -> Option<Mark>

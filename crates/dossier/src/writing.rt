@@ -27,6 +27,7 @@ ghost use Rattle.dossier.specs.Written.{AreLegal, AreUnspent, IsWithin, Grows, h
 use crate::checking::head_rest;
 use crate::past::Past;
 use crate::printed::push_block;
+use crate::words::size_of;
 use audit_print::AuditError;
 use censors::{ADMISSION_BUDGET, guard_with};
 use cqe_base::laws::{law_amended_limits, law_limits, law_reading};
@@ -184,7 +185,7 @@ fn push_item(
     let Ok(said) = str::from_utf8(&record.text) else {
         unreachable!()
     };
-    let length = said.len() as u32;
+    let length = size_of(said);
     match mark_of(record.kind) {
         Mark::Protected => {
             let secret = read_text(alloc, past, Purpose::Protecting, said)?;
