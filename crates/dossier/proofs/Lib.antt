@@ -15,4 +15,5 @@ mod Probing
 mod Asking
 mod Asks
 mod Added
+mod Opened
 mod Whole

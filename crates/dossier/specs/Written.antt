@@ -10,7 +10,7 @@ use Rattle.cqe_base.specs.declared.world.Fact.{Fact}
 use Rattle.cqe_base.specs.Schema.{DatabaseSchema, Text}
 use Rattle.cqe_base.specs.Facts.{FactSet, fact_cmp, is_fact_of}
 use Rattle.cqe_base.specs.Formula.{Formula}
-use Rattle.cqe_base.specs.Literal.{Literal, Positive, Negative}
+use Rattle.cqe_base.specs.Literal.{Literal, Positive, Negative, variable_of}
 use Rattle.cqe_base.specs.History.{UserProfile, AnsweredQuery, History, known, log, user_at}
 use Rattle.cqe_base.specs.Refutation.{RefutationLine, is_refutation}
 use Rattle.cqe_base.specs.Censor.{Probe, guarded, probes, probes_against, IsLegal}
@@ -28,10 +28,14 @@ use Rattle.dossier.specs.Checked.{is_countermodel, addition_probe}
 
 -- ---- blocks
 
--- a literal, with a blank behind it
+-- the sign of a literal
+abbrev pub sign_text : Literal → Text
+sign_text (Positive v) = codes "+"
+sign_text (Negative v) = codes "-"
+
+-- a literal: its sign and the number of its variable, with a blank behind it
 abbrev pub literal_text : Literal → Text
-literal_text (Positive v) = codes "+" ++ decimal v ++ codes " "
-literal_text (Negative v) = codes "-" ++ decimal v ++ codes " "
+literal_text literal = sign_text literal ++ decimal (variable_of literal) ++ codes " "
 
 -- a number, with a blank before it
 abbrev pub number_text : ℕ → Text

@@ -1,5 +1,6 @@
 //! Blocks as they are written.
-ghost use Rattle.std.specs.Prelude.{◌≡◌, ◌≢◌, ◌≤◌, ◌+◌, ◌++◌, map, string_bytes, OnOk};
+ghost use Rattle.std.specs.Prelude.{◌≡◌, ◌≢◌, ◌≤◌, ◌+◌, ◌++◌, map, codes, string_bytes, Some};
+ghost use Rattle.std.specs.Prelude.{OnOk};
 ghost use Rattle.std.specs.List.{flat_map};
 ghost use Rattle.cqe_base.specs.Facts.{IsWorldOf};
 ghost use Rattle.cqe_base.specs.Formula.{nodes, is_sentence_of};
@@ -11,13 +12,17 @@ ghost use Rattle.entailment.specs.Views.{schema_of, log_of};
 ghost use Rattle.entailment.specs.GroundSentences.{IsGroundOver};
 ghost use Rattle.entailment.specs.Probes.{premise_of, goal_of, IsGroundPremise};
 ghost use Rattle.dossier.specs.Blocks.{probe_over};
-ghost use Rattle.dossier.specs.Written.{literal_text, number_text, line_text, follows_text};
+ghost use Rattle.audit_text.specs.Text.{world_text};
+ghost use Rattle.dossier.specs.Written.{sign_text, literal_text, number_text, line_text};
+ghost use Rattle.dossier.specs.Written.{follows_text};
 ghost use Rattle.dossier.specs.Written.{IsOpenListing, IsBlock, Grows};
 
 use audit_print::fact_texts;
 use audit_text::push_facts;
 use clause_store::literal::Lit;
 use clause_store::refutation::{Line, Refutation};
+use cqe_base::laws::law_grounded_nodes;
+use cqe_base::machine_laws::{law_numbered_facts_are_few, law_variables_are_few};
 use cqe_base::schema::Schema;
 use cqe_base::world::World;
 use entailment::{Certified, Probe, View, certify};
@@ -47,6 +52,9 @@ pub(crate) fn push_block(
         (string_bytes text.old) (string_bytes text.new)) }
     ensures same { view.new ≡ view.old }
 {
+    law_variables_are_few();
+    law_numbered_facts_are_few();
+    law_grounded_nodes();
     match certify(alloc, view, probe, budget)? {
         Certified::Follows(refutation) => push_refutation(text, &refutation),
         Certified::Open(world) => push_world(alloc, text, schema, &world),
@@ -103,12 +111,15 @@ fn push_literal(text: &mut String, literal: Lit) -> Result<(), AllocError>
     ensures { OnOk result (string_bytes text.new
         ≡ string_bytes text.old ++ literal_text literal) }
 {
-    let variable = literal.variable();
-    if literal.is_positive() {
-        write!(text, "+{variable} ")
-    } else {
-        write!(text, "-{variable} ")
-    }
+    text.push_str(sign_of(literal))?;
+    write!(text, "{} ", literal.variable())
+}
+
+/// The sign of a literal.
+fn sign_of(literal: Lit) -> &'static str
+    ensures { result.now ≡ sign_text literal }
+{
+    if literal.is_positive() { "+" } else { "-" }
 }
 
 /// Appends the numbers of a chain with a blank before each.
@@ -134,7 +145,16 @@ fn push_world(
         (string_bytes text.new)) }
 {
     let facts = fact_texts(alloc, schema, world)?;
+    push_listed(text, &facts)?;
+    Ok(())
+}
+
+/// Appends the texts of a world's facts as a block.
+fn push_listed(text: &mut String, facts: &[String]) -> Result<(), AllocError>
+    ensures { OnOk result (string_bytes text.new ≡ string_bytes text.old
+        ++ (codes "open " ++ world_text (Some (map string_bytes facts.now)) ++ codes "\n")) }
+{
     text.push_str("open ")?;
-    push_facts(text, &facts)?;
+    push_facts(text, facts)?;
     text.push_str("\n")
 }
