@@ -51,20 +51,20 @@ module _ (schema : DatabaseSchema) (world : FactSet) (name : Text) (user : UserP
     head-form isnt = rw isnt refl
 
     module _ (is : bytes_eq field.word (codes "dossier") ≡ true) where
-      pub head-open : bytes_eq field.rest (head_rest schema world name user (codes "open")) ≡ true → head_line schema world name user field ≡ Ok admission
+      pub head-open : bytes_eq field.rest (head_rest name user (codes "open")) ≡ true → head_line schema world name user field ≡ Ok admission
       head-open open = rw is (rw open refl)
 
-      module _ (not_open : bytes_eq field.rest (head_rest schema world name user (codes "open")) ≡ false) where
-        pub head-closed : bytes_eq field.rest (head_rest schema world name user (codes "closed")) ≡ true
+      module _ (not_open : bytes_eq field.rest (head_rest name user (codes "open")) ≡ false) where
+        pub head-closed : bytes_eq field.rest (head_rest name user (codes "closed")) ≡ true
             → head_line schema world name user field ≡ Err (refused.Admission field.line)
         head-closed closed = rw is (rw not_open (rw closed refl))
 
-        module _ (not_closed : bytes_eq field.rest (head_rest schema world name user (codes "closed")) ≡ false) where
-          pub head-sealed : bytes_eq field.rest (head_rest schema world name user (codes "sealed")) ≡ true
+        module _ (not_closed : bytes_eq field.rest (head_rest name user (codes "closed")) ≡ false) where
+          pub head-sealed : bytes_eq field.rest (head_rest name user (codes "sealed")) ≡ true
               → head_line schema world name user field ≡ Err (refused.Admission field.line)
           head-sealed sealed = rw is (rw not_open (rw not_closed (rw sealed refl)))
 
-          pub head-other : bytes_eq field.rest (head_rest schema world name user (codes "sealed")) ≡ false
+          pub head-other : bytes_eq field.rest (head_rest name user (codes "sealed")) ≡ false
               → head_line schema world name user field ≡ Err (refused.Form field.line)
           head-other other = rw is (rw not_open (rw not_closed (rw other refl)))
 

@@ -1,13 +1,17 @@
 -- Findings from verdicts: the mark that they give.
-use Rattle.std.proofs.Common.{◌≡◌, ◌+◌, ℕ, Bool, true, false, List, [], ◌∷◌, ◌++◌, length, take, drop, Option, Some, None, sym, ap, ◌∙◌, arith}
+use Rattle.std.proofs.Common.{◌≡◌, ◌+◌, ℕ, Bool, true, false, List, [], ◌∷◌, ◌++◌, length, take, drop, Option, Some, None, refl, sym, ap, ◌∙◌, arith}
 use Rattle.std.specs.Prelude.{if◌then◌else◌}
 use Rattle.std.specs.List.{list_any}
 use Rattle.std.proofs.Math.Seq.{take-append_seam, drop-append_seam}
 use Rattle.cqe_base.specs.declared.user.Method.{Method}
 use Rattle.cqe_base.specs.declared.user.Method.TheVariants.{Lying, Refusal, Combined}
-use Rattle.cqe_base.specs.Censor.{mark_by}
+use Rattle.cqe_base.specs.Schema.{DatabaseSchema}
+use Rattle.cqe_base.specs.Facts.{FactSet}
+use Rattle.cqe_base.specs.Formula.{Formula}
+use Rattle.cqe_base.specs.Entailment.{Signed, all_hold_in}
+use Rattle.cqe_base.specs.Censor.{mark_by, knows_truth_by}
 use Rattle.soundness.specs.Verdicts.{first_found, others_found, mark_found}
-use Rattle.dossier.specs.Items.{implied_shown}
+use Rattle.dossier.specs.Items.{implied_shown, implied_probes, is_refusal}
 
 -- how many probes come before those against the guarded sentences
 abbrev pub first_count : Method → ℕ
@@ -38,3 +42,27 @@ module _ (count : ℕ) (asserted negated : List Bool) (many : length asserted �
   found-mark Combined [] yes_harm no_harm truth size y n =
       λ i. mark_by Combined false None ((y ∙ sym first-are) i) ((n ∙ sym others-are) i) truth
   found-mark Combined (v ∷ first) yes_harm no_harm truth size y n = absurd (omega (arith, size))
+
+-- ---- refusal alone
+
+pub refusal-is : (m : Method) → is_refusal m ≡ true → m ≡ Refusal
+refusal-is Lying is = absurd cc
+refusal-is Refusal is = refl
+refusal-is Combined is = absurd cc
+
+pub none-implied : (m : Method) (told : List Signed) (query : Formula) → is_refusal m ≡ false → implied_probes m told query ≡ []
+none-implied Lying told query isnt = refl
+none-implied Refusal told query isnt = absurd cc
+none-implied Combined told query isnt = refl
+
+pub knows-refusal : (m : Method) (schema : DatabaseSchema) (world : FactSet) (premises : List Signed) → is_refusal m ≡ true
+    → all_hold_in schema world premises ≡ knows_truth_by m schema world premises
+knows-refusal Lying schema world premises is = absurd cc
+knows-refusal Refusal schema world premises is = refl
+knows-refusal Combined schema world premises is = absurd cc
+
+pub knows-other : (m : Method) (schema : DatabaseSchema) (world : FactSet) (premises : List Signed) → is_refusal m ≡ false
+    → true ≡ knows_truth_by m schema world premises
+knows-other Lying schema world premises isnt = refl
+knows-other Refusal schema world premises isnt = absurd cc
+knows-other Combined schema world premises isnt = refl

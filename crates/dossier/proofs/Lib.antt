@@ -16,4 +16,5 @@ mod Asking
 mod Asks
 mod Added
 mod Opened
+mod Pushed
 mod Whole

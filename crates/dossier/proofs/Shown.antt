@@ -392,8 +392,8 @@ module _ (test : TestIsEntailment) (refutes : RefutationEntails) (empty : EmptyH
 
   head_good : (field : FieldSaid) → IsGoodResult (head_line schema world name user field)
   head_good field =
-      by (bytes_eq field.word (codes "dossier")) (bytes_eq field.rest (head_rest schema world name user (codes "open")))
-      (bytes_eq field.rest (head_rest schema world name user (codes "closed"))) (bytes_eq field.rest (head_rest schema world name user (codes "sealed")))
+      by (bytes_eq field.word (codes "dossier")) (bytes_eq field.rest (head_rest name user (codes "open")))
+      (bytes_eq field.rest (head_rest name user (codes "closed"))) (bytes_eq field.rest (head_rest name user (codes "sealed")))
     where
       by : (a b c d : Bool)
           → IsGoodResult

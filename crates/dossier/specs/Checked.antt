@@ -69,6 +69,11 @@ abbrev pub is_countermodel : DatabaseSchema → Probe → FactSet → Bool
 is_countermodel schema probe other =
     all_hold_in schema other probe.premises && not (holds_in schema other probe.goal)
 
+-- what follows `dossier` in the line of a user, with the word of his standing
+abbrev pub head_rest : Text → UserProfile → Text → Text
+head_rest name user standing =
+    codes "1 " ++ name ++ codes " " ++ method_word user.method ++ codes " " ++ standing
+
 module _ (schema : DatabaseSchema) (world : FactSet) (name : Text) (user : UserProfile) where
   -- ---- tasks
 
@@ -182,18 +187,13 @@ module _ (schema : DatabaseSchema) (world : FactSet) (name : Text) (user : UserP
 
   -- ---- lines
 
-  -- what follows `dossier` in the line of the user, with the word of his standing
-  abbrev pub head_rest : Text → Text
-  head_rest standing =
-      codes "1 " ++ name ++ codes " " ++ method_word user.method ++ codes " " ++ standing
-
   abbrev pub head_line : FieldSaid → Result Awaited DossierError
   head_line field =
       if not (bytes_eq field.word (codes "dossier")) then Err (refused.Form field.line)
-      else if bytes_eq field.rest (head_rest (codes "open")) then Ok admission
-      else if bytes_eq field.rest (head_rest (codes "closed"))
+      else if bytes_eq field.rest (head_rest name user (codes "open")) then Ok admission
+      else if bytes_eq field.rest (head_rest name user (codes "closed"))
       then Err (refused.Admission field.line)
-      else if bytes_eq field.rest (head_rest (codes "sealed"))
+      else if bytes_eq field.rest (head_rest name user (codes "sealed"))
       then Err (refused.Admission field.line)
       else Err (refused.Form field.line)
 

@@ -24,6 +24,12 @@ use Rattle.dossier.specs.declared.error.DossierError.TheVariants.{Memory}
 abbrev pub goal_probe : List Signed → Signed → Probed
 goal_probe log goal = record { premises = log; goal = goal }
 
+-- whether this is the method that probes the log against a query alone
+abbrev pub is_refusal : Method → Bool
+is_refusal Lying = false
+is_refusal Refusal = true
+is_refusal Combined = false
+
 -- the probes of a log against a query and against its negation, for refusal alone
 abbrev pub implied_probes : Method → List Signed → Formula → List Probed
 implied_probes Lying log query = []

@@ -16,13 +16,13 @@ ghost use Rattle.dossier.specs.Items.{ReadsItem, ReadsItems, EndsHere};
 use crate::blocks::{Reason, Told, read_each};
 use crate::error::DossierError;
 use crate::fields::{Field, FieldIter, fields};
-use crate::items::{read_ask, read_protect};
+use crate::items::{is_refusal, read_ask, read_protect};
 use crate::laws::{law_checked_is_sound, law_sound};
 use crate::past::{Past, knows_truth};
 use audit_print::method_word;
 use cqe_base::laws::{law_added_secrets, law_limits, law_logs};
 use cqe_base::schema::Schema;
-use cqe_base::user::{Method, User};
+use cqe_base::user::User;
 use cqe_base::world::World;
 use std::alloc::{AllocError, Global};
 
@@ -88,9 +88,8 @@ fn says_head(
     standing: &str,
     rest: &str,
 ) -> Result<bool, AllocError>
-    ensures { IfOk result (λ yes. (schema : DatabaseSchema) (world : FactSet) → yes
-        ≡ bytes_eq rest.now (head_rest schema world (string_bytes user.now.name)
-        (profile_of user.now) standing.now)) }
+    ensures { IfOk result (λ yes. yes ≡ bytes_eq rest.now
+        (head_rest (string_bytes user.now.name) (profile_of user.now) standing.now)) }
 {
     let expected = head_rest(alloc, user, standing)?;
     Ok(rest == expected.as_str())
@@ -98,9 +97,8 @@ fn says_head(
 
 /// What stands behind `dossier` in the line of a user with this standing.
 pub(crate) fn head_rest(alloc: Global, user: &User, standing: &str) -> Result<String, AllocError>
-    ensures { IfOk result (λ text. (schema : DatabaseSchema) (world : FactSet) → string_bytes text
-        ≡ head_rest schema world (string_bytes user.now.name) (profile_of user.now)
-        standing.now) }
+    ensures { IfOk result (λ text. string_bytes text
+        ≡ head_rest (string_bytes user.now.name) (profile_of user.now) standing.now) }
 {
     let mut text = String::from_str(alloc, "1 ")?;
     text.push_str(user.name.as_str())?;
@@ -160,9 +158,10 @@ fn knows_truth_by(past: &Past<'_>, world: &World) -> bool
     ensures { result ≡ knows_truth_by (past_user past.now).method (past_schema past.now)
         world.now (known (past_user past.now)) }
 {
-    match past.user.method {
-        Method::Refusal => knows_truth(past.schema, world, past.user),
-        Method::Lying | Method::Combined => true,
+    if is_refusal(past.user.method) {
+        knows_truth(past.schema, world, past.user)
+    } else {
+        true
     }
 }
 

@@ -15,7 +15,7 @@ ghost use Rattle.dossier.specs.Logs.{past_schema, past_user, past_history, IsKep
 ghost use Rattle.dossier.specs.Logs.{IsPastOfSame};
 ghost use Rattle.dossier.specs.Blocks.{Probed, reason_of};
 ghost use Rattle.dossier.specs.Items.{goal_probe, ReadsItem, ReadsShown, ReadsFindings};
-ghost use Rattle.dossier.specs.Items.{ReadsImplied};
+ghost use Rattle.dossier.specs.Items.{ReadsImplied, is_refusal};
 
 use crate::blocks::{Reason, Told, read_block, read_each};
 use crate::error::DossierError;
@@ -160,13 +160,21 @@ fn read_implied(
     ensures same { IsSamePast past.old past.new }
     ensures less { bytes_left lines.new ≤ bytes_left lines.old }
 {
-    match past.user.method {
-        Method::Refusal => {
-            let yes = read_goal(alloc, past, (query, true), lines)?;
-            let no = read_goal(alloc, past, (query, false), lines)?;
-            Ok(implied_answer(yes, no))
-        }
-        Method::Lying | Method::Combined => Ok(None),
+    if !is_refusal(past.user.method) {
+        return Ok(None);
+    }
+    let yes = read_goal(alloc, past, (query, true), lines)?;
+    let no = read_goal(alloc, past, (query, false), lines)?;
+    Ok(implied_answer(yes, no))
+}
+
+/// Whether this is the method that probes the log against a query alone.
+pub(crate) fn is_refusal(method: Method) -> bool
+    ensures { result ≡ is_refusal method }
+{
+    match method {
+        Method::Refusal => true,
+        Method::Lying | Method::Combined => false,
     }
 }
 

@@ -13,6 +13,9 @@ ghost use Rattle.cqe_base.specs.Censor.{IsLegalItem};
 ghost use Rattle.cqe_base.specs.Limits.{KeepsLimits, KeepsSizesAt, FitsLog, FitsAddition};
 ghost use Rattle.cqe_base.specs.Transcript.{mark_text};
 ghost use Rattle.log_journal.specs.Opening.{recorded, IsRecord};
+ghost use Rattle.std.specs.Prelude.{nat_le};
+ghost use Rattle.std.specs.List.{list_all};
+ghost use Rattle.entailment.specs.Views.{schema_of, log_of};
 ghost use Rattle.entailment.specs.Logs.{log_nodes, sentence_nodes};
 ghost use Rattle.entailment.specs.GroundSentences.{sentence_of, IsGroundOver};
 ghost use Rattle.entailment.specs.Probes.{premise_list, signed_at, IsGroundPremise};
@@ -25,6 +28,7 @@ ghost use Rattle.dossier.specs.Written.{IsBlock, AreBlocks, item_probes, IsItem,
 ghost use Rattle.dossier.specs.Written.{AreLegal, AreUnspent, IsWithin, Grows, head_text};
 
 use crate::checking::head_rest;
+use crate::items::is_refusal;
 use crate::past::Past;
 use crate::printed::push_block;
 use crate::words::size_of;
@@ -33,9 +37,9 @@ use censors::{ADMISSION_BUDGET, guard_with};
 use cqe_base::laws::{law_amended_limits, law_limits, law_reading};
 use cqe_base::schema::Schema;
 use cqe_base::sentence::Sentence;
-use cqe_base::user::{Item, Mark, Method, Purpose, User};
+use cqe_base::user::{Item, Mark, Purpose, User};
 use cqe_base::world::World;
-use entailment::{GroundSentence, Probe};
+use entailment::{GroundSentence, Probe, View};
 use log_journal::Record;
 use outside::{Failed, Sink, write_all};
 use sentence_text::laws::law_sentences_are_ascii;
@@ -318,13 +322,12 @@ fn push_implied(
     ensures kept { IsKept past.new }
     ensures same { IsSamePast past.old past.new }
 {
-    match past.user.method {
-        Method::Refusal => {
-            push_goal(alloc, text, past, (query, true), budget)?;
-            push_goal(alloc, text, past, (query, false), budget)
-        }
-        Method::Lying | Method::Combined => Ok(()),
+    if !is_refusal(past.user.method) {
+        return Ok(());
     }
+    push_goal(alloc, text, past, (query, true), budget)?;
+    push_goal(alloc, text, past, (query, false), budget)?;
+    Ok(())
 }
 
 /// Appends the block of the log against a goal.
@@ -338,7 +341,9 @@ fn push_goal(
     requires kept { IsKept past.old }
     requires sentence { is_sentence_of (past_schema past.old) (signed_at goal).0 ≡ true }
     requires grounded { IsGroundOver (past_schema past.old) goal.0.now }
-    requires nodes { nodes (past_schema past.old) (signed_at goal).0 ≤ 40000 }
+    requires all_nodes { log_nodes (past_schema past.old)
+        (log (past_user past.old) (past_history past.old))
+        + nodes (past_schema past.old) (signed_at goal).0 ≤ 100000 }
     requires budget { budget ≤ 4000000 }
     requires unspent { AreUnspent (past_schema past.old) budget
         (goal_probe (log (past_user past.old) (past_history past.old)) (signed_at goal) ∷ []) }
@@ -365,6 +370,8 @@ fn push_addition(
     requires kept { IsKept past.old }
     requires addition { FitsAddition (past_schema past.old)
         (user_at (past_user past.old) (past_history past.old)) (formula_of secret.now) }
+    requires room { log_nodes (past_schema past.old)
+        (log (past_user past.old) (past_history past.old)) ≤ 60000 }
     requires safe { safe_after (past_schema past.old) (past_user past.old) (past_history past.old)
         (formula_of secret.now) ≡ true }
     ensures block { OnOk result (Grows (IsBlock (past_schema past.old)
@@ -373,9 +380,10 @@ fn push_addition(
     ensures kept { IsKept past.new }
     ensures same { IsSamePast past.old past.new }
 {
-    let goal = guard_with(alloc, &past.current, secret)?;
-    let goal = GroundSentence::new(alloc, past.schema, goal)?;
-    push_goal(alloc, text, past, (&goal, true), ADMISSION_BUDGET)
+    let guarded = guard_with(alloc, &past.current, secret)?;
+    let goal = GroundSentence::new(alloc, past.schema, guarded)?;
+    push_goal(alloc, text, past, (&goal, true), ADMISSION_BUDGET)?;
+    Ok(())
 }
 
 /// Appends the blocks of the log with a further premise, if there is one, against each guarded
@@ -406,12 +414,45 @@ fn push_each(
     ensures same { IsSamePast past.old past.new }
 {
     law_amended_limits();
-    for goal in past.guards.sentences() {
+    let goals = past.guards.sentences();
+    push_goals(alloc, text, past.schema, &mut past.view, premise, goals, budget)
+}
+
+/// Appends the blocks of the view's log with a further premise, if there is one, against each of
+/// these goals.
+fn push_goals(
+    alloc: Global,
+    text: &mut String,
+    schema: &Schema,
+    view: &mut View<'_>,
+    premise: Option<(&GroundSentence, bool)>,
+    goals: &[GroundSentence],
+    budget: u64,
+) -> Result<(), AllocError>
+    requires schema { schema_of view.old ≡ schema.now }
+    requires premise { are_sentences_of schema.now (premise_list premise) ≡ true }
+    requires grounded { IsGroundPremise schema.now premise }
+    requires room { log_nodes schema.now (log_of view.old)
+        + sentence_nodes schema.now (premise_list premise) ≤ 60000 }
+    requires goals { list_all (is_sentence_of schema.now) (map sentence_of goals.now) ≡ true }
+    requires goal_nodes { list_all (λ goal. nat_le (nodes schema.now goal) 40000)
+        (map sentence_of goals.now) ≡ true }
+    requires grounded_goals { All (IsGroundOver schema.now) goals.now }
+    requires budget { budget ≤ 4000000 }
+    requires unspent { AreUnspent schema.now budget
+        (probes_against (log_of view.old ++ premise_list premise) (map sentence_of goals.now)) }
+    ensures blocks { OnOk result (Grows (AreBlocks schema.now
+        (probes_against (log_of view.old ++ premise_list premise.entry)
+        (map sentence_of goals.now)))
+        (string_bytes text.old) (string_bytes text.new)) }
+    ensures same { view.new ≡ view.old }
+{
+    for goal in goals {
         let probe = Probe {
             premise,
             goal: (goal, true),
         };
-        push_block(alloc, text, past.schema, &mut past.view, &probe, budget)?;
+        push_block(alloc, text, schema, view, &probe, budget)?;
     }
     Ok(())
 }

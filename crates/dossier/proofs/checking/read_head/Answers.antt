@@ -24,7 +24,7 @@ returns-then-branch-clause-reads c schema world =
     line-says schema world (string_bytes c.args.user.now.name) (profile_of c.args.user.now) head c.args.lines.now c.take_line.new.self
     c.in_ok-field.field _ c.in_ok-field.ensures
     (head-open schema world _ _ (field_said c.in_ok-field.field) (search (rules, tests))
-    (sym (c.in_ok-says_head.ensures schema world) ∙ search (rules, tests)))
+    (sym c.in_ok-says_head.ensures ∙ search (rules, tests)))
 
 -- closed, or sealed
 pub returns-then-closed-clause-reads : goal.returns-then-closed-clause-reads
@@ -32,17 +32,17 @@ returns-then-closed-clause-reads c schema world =
     line-says schema world (string_bytes c.args.user.now.name) (profile_of c.args.user.now) head c.args.lines.now c.take_line.new.self
     c.in_ok-field.field _ c.in_ok-field.ensures
     (head-closed schema world _ _ (field_said c.in_ok-field.field) (search (rules, tests))
-    (sym (c.in_ok-says_head.ensures schema world) ∙ search (rules, tests))
-    (sym (c.in_ok-closed.ensures schema world) ∙ search (rules, tests)))
+    (sym c.in_ok-says_head.ensures ∙ search (rules, tests))
+    (sym c.in_ok-closed.ensures ∙ search (rules, tests)))
 
 pub returns-then-sealed-clause-reads : goal.returns-then-sealed-clause-reads
 returns-then-sealed-clause-reads c schema world =
     line-says schema world (string_bytes c.args.user.now.name) (profile_of c.args.user.now) head c.args.lines.now c.take_line.new.self
     c.in_ok-field.field _ c.in_ok-field.ensures
     (head-sealed schema world _ _ (field_said c.in_ok-field.field) (search (rules, tests))
-    (sym (c.in_ok-says_head.ensures schema world) ∙ search (rules, tests))
-    (sym (c.in_ok-closed.ensures schema world) ∙ search (rules, tests))
-    (sym (c.in_ok-sealed.ensures schema world) ∙ search (rules, tests)))
+    (sym c.in_ok-says_head.ensures ∙ search (rules, tests))
+    (sym c.in_ok-closed.ensures ∙ search (rules, tests))
+    (sym c.in_ok-sealed.ensures ∙ search (rules, tests)))
 
 -- the line of another user, or of none
 pub returns-clause-reads : goal.returns-clause-reads
@@ -50,6 +50,6 @@ returns-clause-reads c schema world =
     line-says schema world (string_bytes c.args.user.now.name) (profile_of c.args.user.now) head c.args.lines.now c.take_line.new.self
     c.in_ok-field.field _ c.in_ok-field.ensures
     (head-other schema world _ _ (field_said c.in_ok-field.field) (search (rules, tests))
-    (sym (c.in_ok-says_head.ensures schema world) ∙ search (rules, tests))
-    (sym (c.in_ok-closed.ensures schema world) ∙ search (rules, tests))
-    (sym (c.in_ok-sealed.ensures schema world) ∙ search (rules, tests)))
+    (sym c.in_ok-says_head.ensures ∙ search (rules, tests))
+    (sym c.in_ok-closed.ensures ∙ search (rules, tests))
+    (sym c.in_ok-sealed.ensures ∙ search (rules, tests)))

@@ -1,10 +1,11 @@
-use Rattle.std.proofs.Common.{◌≡◌, true, false, [], ◌∷◌, refl, sym, ap, subst, ◌∙◌, rules}
+use Rattle.std.proofs.Common.{◌≡◌, true, false, [], ◌∷◌, refl, sym, ap, subst, ◌∙◌}
 use Rattle.cqe_base.specs.Formula.{is_sentence_of}
 use Rattle.cqe_base.specs.History.{log}
 use Rattle.entailment.specs.GroundSentences.{sentence_of, IsGroundOver}
 use Rattle.dossier.specs.Logs.{past_schema, past_user, past_history}
 use Rattle.dossier.specs.Checked.{awaited_for}
-use Rattle.dossier.specs.Items.{goal_probe, implied_probes}
+use Rattle.dossier.specs.Items.{goal_probe}
+use Rattle.dossier.proofs.Items.{refusal-is, none-implied}
 use Rattle.dossier.proofs.Probing.{implied-read, implied-none, implied-refused, goal-at, fits-at}
 use Rattle.dossier.proofs.items.read_implied.Goals as goal
 
@@ -26,24 +27,24 @@ read_goal-2-requires-clause-fits c =
 
 -- ---- refusal
 
-pub returns-in-Refusal-in_err-yes-clause-reads : goal.returns-in-Refusal-in_err-yes-clause-reads
-returns-in-Refusal-in_err-yes-clause-reads c world name task more of =
+pub returns-in_err-yes-clause-reads : goal.returns-in_err-yes-clause-reads
+returns-in_err-yes-clause-reads c world name task more of =
     let past = c.args.past.now in
     let query = sentence_of c.args.query.now in
     let told = log (past_user past) (past_history past) in
-    implied-refused (past_schema past) world name (past_user past) (past_history past) task query more (search rules)
+    implied-refused (past_schema past) world name (past_user past) (past_history past) task query more (refusal-is _ (sym c.is_refusal.ensures ∙ c.if-not-is_refusal.false))
     c.args.lines.now c.args.lines.now c.read_goal.new.lines
     (awaited_for (past_schema past) world name (past_user past) (past_history past) task
     (goal_probe told (query, true) ∷ (goal_probe told (query, false) ∷ more)) []) _ _ refl
     (c.in_err-yes.ensures.reads world name task (goal_probe told (query, false) ∷ more) [] of)
 
-pub returns-in-Refusal-in_err-no-clause-reads : goal.returns-in-Refusal-in_err-no-clause-reads
-returns-in-Refusal-in_err-no-clause-reads c world name task more of =
+pub returns-in_err-no-clause-reads : goal.returns-in_err-no-clause-reads
+returns-in_err-no-clause-reads c world name task more of =
     let past = c.args.past.now in
     let query = sentence_of c.args.query.now in
     let told = log (past_user past) (past_history past) in
     let same = c.read_goal.ensures.same in
-    implied-refused (past_schema past) world name (past_user past) (past_history past) task query more (search rules)
+    implied-refused (past_schema past) world name (past_user past) (past_history past) task query more (refusal-is _ (sym c.is_refusal.ensures ∙ c.if-not-is_refusal.false))
     c.args.lines.now c.read_goal.new.lines c.read_goal-2.new.lines
     (awaited_for (past_schema past) world name (past_user past) (past_history past) task (goal_probe told (query, false) ∷ more) (c.in_ok-yes.yes ∷ [])) _ _
     (c.in_ok-yes.ensures.reads world name task (goal_probe told (query, false) ∷ more) [] of)
@@ -51,14 +52,14 @@ returns-in-Refusal-in_err-no-clause-reads c world name task more of =
     same.0.schema same.0.user same.1
     (c.in_err-no.ensures.reads world name task more (c.in_ok-yes.yes ∷ []) of))
 
-pub returns-in-Refusal-clause-reads : goal.returns-in-Refusal-clause-reads
-returns-in-Refusal-clause-reads c world name task more of =
+pub returns-clause-reads : goal.returns-clause-reads
+returns-clause-reads c world name task more of =
     let past = c.args.past.now in
     let query = sentence_of c.args.query.now in
     let told = log (past_user past) (past_history past) in
     let same = c.read_goal.ensures.same in
     rw c.implied_answer.ensures
-    (implied-read (past_schema past) world name (past_user past) (past_history past) task query more (search rules)
+    (implied-read (past_schema past) world name (past_user past) (past_history past) task query more (refusal-is _ (sym c.is_refusal.ensures ∙ c.if-not-is_refusal.false))
     c.args.lines.now c.read_goal.new.lines c.read_goal-2.new.lines c.in_ok-yes.yes c.in_ok-no.no
     (c.in_ok-yes.ensures.reads world name task (goal_probe told (query, false) ∷ more) [] of)
     (goal-at (past_schema past) _ world name (past_user past) _ (past_history past) _ task (query, false) more (c.in_ok-yes.yes ∷ []) _ _ _
@@ -67,16 +68,10 @@ returns-in-Refusal-clause-reads c world name task more of =
 
 -- ---- the other methods
 
-pub returns-in-Lying-clause-reads : goal.returns-in-Lying-clause-reads
-returns-in-Lying-clause-reads c world name task more of =
+pub returns-then-not-is_refusal-clause-reads : goal.returns-then-not-is_refusal-clause-reads
+returns-then-not-is_refusal-clause-reads c world name task more of =
     let past = c.args.past.now in
     let query = sentence_of c.args.query.now in
     implied-none (past_schema past) world name (past_user past) (past_history past) task query more
-    (ap (λ m. implied_probes m (log (past_user past) (past_history past)) query) (search rules)) c.args.lines.now
-
-pub returns-in-Combined-clause-reads : goal.returns-in-Combined-clause-reads
-returns-in-Combined-clause-reads c world name task more of =
-    let past = c.args.past.now in
-    let query = sentence_of c.args.query.now in
-    implied-none (past_schema past) world name (past_user past) (past_history past) task query more
-    (ap (λ m. implied_probes m (log (past_user past) (past_history past)) query) (search rules)) c.args.lines.now
+    (none-implied (past_user past).method (log (past_user past) (past_history past)) query (sym c.is_refusal.ensures ∙ c.if-not-is_refusal.true))
+    c.args.lines.now
