@@ -1,5 +1,5 @@
 -- The lines of asks and additions: the sentence that stands in them, where it is within the limits.
-use Rattle.std.proofs.Common.{◌≡◌, ◌≤◌, ◌<◌, ℕ, Bool, true, false, [], ◌∷◌, ◌++◌, length, Some, None, Result, Ok, Err, refl, sym, ap, ◌∙◌, arith}
+use Rattle.std.proofs.Common.{◌≡◌, ◌≤◌, ◌<◌, ℕ, Bool, true, false, [], ◌∷◌, ◌++◌, length, Some, None, Result, Ok, Err, refl, sym, ap, subst, ◌∙◌, arith}
 use Rattle.std.specs.Prelude.{◌||◌, Option, if◌then◌else◌, nat_le, nat_lt, bytes_eq, codes}
 use Rattle.std.proofs.lemmas.Bool.{or_left, or_parts}
 use Rattle.std.proofs.lemmas.Bool.Decides.{nat_tests}
@@ -12,9 +12,12 @@ use Rattle.cqe_base.specs.Schema.{DatabaseSchema, Text}
 use Rattle.cqe_base.specs.Facts.{FactSet}
 use Rattle.cqe_base.specs.Formula.{Formula}
 use Rattle.cqe_base.specs.History.{UserProfile, History, is_added}
+use Rattle.cqe_base.specs.Limits.{KeepsSizesAt}
 use Rattle.cqe_base.specs.Reading.{Refusal, reading}
 use Rattle.cqe_base.specs.Run.{is_full, is_too_large, is_too_large_secret, has_all_secrets}
 use Rattle.user_desk.specs.Causes.{is_beyond}
+use Rattle.user_desk.specs.Entries.{purpose_by}
+use Rattle.dossier.specs.Written.{IsWithin}
 use Rattle.dossier.specs.Fields.{FieldSaid, first_word}
 use Rattle.dossier.specs.Words.{mark_named}
 use Rattle.dossier.specs.Checked.{Awaited, within_limits, sentence_in, asked, added, ask_line, protect_line, item_line, awaited_for, adding, addition_probe}
@@ -70,6 +73,19 @@ module _ (schema : DatabaseSchema) (world : FactSet) (user : UserProfile) (entri
     pub secret-beyond : is_beyond schema world user entries Protecting size sentence
         ≡ (is_too_large_secret schema user entries sentence || has_all_secrets user entries)
     secret-beyond = ap (λ b. b || (is_too_large_secret schema user entries sentence || has_all_secrets user entries)) isnt
+
+  module _ (size : ℕ) (sentence : Formula) where
+    -- an item that came within the limits isn't beyond them
+    pub not-beyond : (mark : Mark) → KeepsSizesAt schema user entries (record { query = sentence; mark = mark; length = size })
+        → is_beyond schema world user entries (purpose_by mark) size sentence ≡ false
+    not-beyond Yes sizes = λ i. sizes.room i || sizes.small i
+    not-beyond No sizes = λ i. sizes.room i || sizes.small i
+    not-beyond marked.Refused sizes = λ i. sizes.room i || sizes.small i
+    not-beyond Undecided sizes = λ i. sizes.room i || sizes.small i
+    not-beyond Protected sizes =
+        let large = sizes.small_secret refl in
+        let most = sizes.secret_room refl in
+        λ i. sizes.room i || (large i || most i)
 
   -- ---- the sentence of a text
 
@@ -129,6 +145,15 @@ module _ (schema : DatabaseSchema) (world : FactSet) (user : UserProfile) (entri
             → Some sentence ≡ (if b then within_limits schema world user entries purpose text (reading schema text) else None) → StandsWithin sentence
         by_length true short is = by_reading (reading schema text) (grind (arith, nat_tests)) refl is
         by_length false long is = absurd cc
+
+    -- the text of an item within the limits is a sentence there
+    pub none-within : (mark : Mark) → IsWithin schema user entries purpose mark text → None ≡ sentence_in schema world user entries purpose text → ⊥
+    none-within mark (query, reads, purpose_is, short, sizes) none =
+        let still : is_beyond schema world user entries purpose (length text) query ≡ false =
+        subst (λ p. is_beyond schema world user entries p (length text) query ≡ false) purpose_is
+        (not-beyond (length text) query mark sizes) in
+        let found : Some query ≡ None = within short query reads still ∙ sym none in
+        absurd cc
 
   -- ---- what is known of one within the limits
 

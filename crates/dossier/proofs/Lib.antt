@@ -17,4 +17,5 @@ mod Asks
 mod Added
 mod Opened
 mod Pushed
+mod Sayings
 mod Whole

@@ -8,3 +8,4 @@ pub mod Blocks
 pub mod Items
 pub mod Written
 pub mod Told
+pub mod Adding

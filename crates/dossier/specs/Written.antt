@@ -14,6 +14,7 @@ use Rattle.cqe_base.specs.Literal.{Literal, Positive, Negative, variable_of}
 use Rattle.cqe_base.specs.History.{UserProfile, AnsweredQuery, History, known, log, user_at}
 use Rattle.cqe_base.specs.Refutation.{RefutationLine, is_refutation}
 use Rattle.cqe_base.specs.Censor.{Probe, guarded, probes, probes_against, IsLegal}
+use Rattle.cqe_base.specs.Censor.{IsLegalItem}
 use Rattle.cqe_base.specs.Reading.{reading}
 use Rattle.cqe_base.specs.Outcome.{outcome, is_spent}
 use Rattle.cqe_base.specs.Limits.{KeepsSizesAt, KeepsSizes}
@@ -127,13 +128,18 @@ head_text name user standing =
 abbrev pub done_text : ℕ → Text
 done_text count = codes "done " ++ decimal count ++ codes "\n"
 
+-- the line and the blocks of a user's admission
+abbrev pub IsAdmission : DatabaseSchema → UserProfile → Text → Type 0
+IsAdmission schema user text =
+    (blocks : Text) × AreBlocks schema (probes_against (known user) (guarded user)) blocks
+    × (text ≡ codes "admission\n" ++ blocks)
+
 -- the dossier of a user with these records
 abbrev pub IsDossier : DatabaseSchema → Text → UserProfile → List Recorded → Text → Type 0
 IsDossier schema name user records text =
-    (blocks items : Text)
-    × AreBlocks schema (probes_against (known user) (guarded user)) blocks
+    (admission items : Text) × IsAdmission schema user admission
     × AreItems schema user [] records items
-    × (text ≡ head_text name user (codes "open") ++ codes "admission\n" ++ blocks ++ items
+    × (text ≡ head_text name user (codes "open") ++ admission ++ items
     ++ done_text (length records))
 
 -- none of these probes is spent at a budget
@@ -141,12 +147,19 @@ abbrev pub AreUnspent : DatabaseSchema → ℕ → List Probe → Type 0
 AreUnspent schema budget probes =
     list_any (λ probe. is_spent (outcome schema probe.premises probe.goal budget)) probes ≡ false
 
--- a text is that of some item within the limits, whose call was made for this purpose
-abbrev pub IsWithin : DatabaseSchema → UserProfile → History → Purpose → Text → Type 0
-IsWithin schema user before purpose text =
-    (entry : AnsweredQuery) × (reading schema text ≡ Ok entry.query)
-    × (purpose_by entry.mark ≡ purpose) × (entry.length ≡ length text) × (length text ≤ 4096)
-    × KeepsSizesAt schema user before entry
+-- a text is that of an item with this mark within the limits, whose call was made for this purpose
+abbrev pub IsWithin : DatabaseSchema → UserProfile → History → Purpose → Mark → Text → Type 0
+IsWithin schema user before purpose mark text =
+    (query : Formula) × (reading schema text ≡ Ok query) × (purpose_by mark ≡ purpose)
+    × (length text ≤ 4096)
+    × KeepsSizesAt schema user before
+    (record { query = query; mark = mark; length = length text })
+
+-- a record stands for an item that is legal behind these, and came within the limits
+abbrev pub IsNextLegal : DatabaseSchema → FactSet → UserProfile → History → Recorded → Type 0
+IsNextLegal schema world user before next =
+    (entry : AnsweredQuery) × (entry_of schema next ≡ Some entry)
+    × IsLegalItem schema world user before entry × KeepsSizesAt schema user before entry
 
 -- records stand for a legal history of a user within the limits
 abbrev pub AreLegal : DatabaseSchema → FactSet → UserProfile → List Recorded → Type 0

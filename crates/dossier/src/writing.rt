@@ -1,13 +1,13 @@
 //! The dossier of a legal history.
 ghost use Rattle.std.specs.Prelude.{◌≡◌, ◌≢◌, ◌≤◌, ◌+◌, ◌++◌, [], ◌∷◌, true, false, map, Some, Ok};
-ghost use Rattle.std.specs.Prelude.{Err, OnOk, IfOk, All, codes, string_bytes};
+ghost use Rattle.std.specs.Prelude.{Err, OnOk, IfOk, All, IsUtf8, codes, string_bytes};
 ghost use Rattle.outside.specs.Faults.{Rose};
 ghost use Rattle.outside.specs.Streams.{AppendsPart};
 ghost use Rattle.cqe_base.specs.Schema.{Text};
-ghost use Rattle.cqe_base.specs.Formula.{formula_of, is_sentence_of, nodes};
+ghost use Rattle.cqe_base.specs.Formula.{Formula, formula_of, is_sentence_of, nodes};
 ghost use Rattle.cqe_base.specs.Entailment.{are_sentences_of};
 ghost use Rattle.cqe_base.specs.Reading.{reading};
-ghost use Rattle.cqe_base.specs.History.{AnsweredQuery, profile_of, is_added, log, user_at};
+ghost use Rattle.cqe_base.specs.History.{profile_of, is_added, log, user_at};
 ghost use Rattle.cqe_base.specs.Censor.{admitted, guarded, probes, probes_against, safe_after};
 ghost use Rattle.cqe_base.specs.Censor.{IsLegalItem};
 ghost use Rattle.cqe_base.specs.Limits.{KeepsLimits, KeepsSizesAt, FitsLog, FitsAddition};
@@ -24,8 +24,10 @@ ghost use Rattle.dossier.specs.Checked.{addition_probe};
 ghost use Rattle.dossier.specs.Logs.{past_schema, past_user, past_history, IsKept, IsSamePast};
 ghost use Rattle.dossier.specs.Logs.{HasAdded};
 ghost use Rattle.dossier.specs.Items.{goal_probe, implied_probes};
-ghost use Rattle.dossier.specs.Written.{IsBlock, AreBlocks, item_probes, IsItem, IsDossier};
-ghost use Rattle.dossier.specs.Written.{AreLegal, AreUnspent, IsWithin, Grows, head_text};
+ghost use Rattle.dossier.specs.Written.{IsBlock, AreBlocks, item_probes, IsDossier};
+ghost use Rattle.dossier.specs.Written.{AreLegal, IsNextLegal, AreUnspent, IsWithin, Grows};
+ghost use Rattle.dossier.specs.Written.{IsAdmission, AreItems, head_text, done_text};
+ghost use Rattle.dossier.specs.Adding.{AddsItem, AddsSaid};
 
 use crate::checking::head_rest;
 use crate::items::is_refusal;
@@ -34,7 +36,7 @@ use crate::printed::push_block;
 use crate::words::size_of;
 use audit_print::AuditError;
 use censors::{ADMISSION_BUDGET, guard_with};
-use cqe_base::laws::{law_amended_limits, law_limits, law_reading};
+use cqe_base::laws::{law_added_secrets, law_amended_limits, law_limits, law_logs, law_reading};
 use cqe_base::schema::Schema;
 use cqe_base::sentence::Sentence;
 use cqe_base::user::{Item, Mark, Purpose, User};
@@ -150,17 +152,64 @@ fn dossier_text(
     ensures { IfOk result (λ text. IsDossier schema.now (string_bytes user.now.name)
         (profile_of user.now) (map recorded records.now) (string_bytes text)) }
 {
-    law_limits();
     let mut past = Past::new(alloc, schema, user)?;
     let mut text = head_text(alloc, user, "open")?;
-    text.push_str("admission\n")?;
-    push_each(alloc, &mut text, &mut past, None, ADMISSION_BUDGET)?;
-    for record in records {
-        push_item(alloc, world, &mut text, &mut past, record)?;
-    }
-    let count = records.len();
-    write!(text, "done {count}\n")?;
+    push_admission(alloc, world, &mut text, &mut past)?;
+    push_items(alloc, world, &mut text, &mut past, records)?;
+    push_done(&mut text, records.len())?;
     Ok(text)
+}
+
+/// Appends the line and the blocks of the admission, behind which there is no item yet.
+fn push_admission(
+    alloc: Global,
+    world: &World,
+    text: &mut String,
+    past: &mut Past<'_>,
+) -> Result<(), AllocError>
+    requires kept { IsKept past.old }
+    requires none { past_history past.old ≡ [] }
+    requires admitted { admitted (past_schema past.old) world.now (past_user past.old) ≡ true }
+    ensures blocks { OnOk result (Grows (IsAdmission (past_schema past.old) (past_user past.old))
+        (string_bytes text.old) (string_bytes text.new)) }
+    ensures kept { OnOk result (IsKept past.new) }
+    ensures same { IsSamePast past.old past.new }
+{
+    law_limits();
+    law_logs();
+    law_added_secrets();
+    text.push_str("admission\n")?;
+    push_each(alloc, text, past, None, ADMISSION_BUDGET)?;
+    Ok(())
+}
+
+/// Appends the items of records that are legal behind the items so far, and adds them to these.
+fn push_items(
+    alloc: Global,
+    world: &World,
+    text: &mut String,
+    past: &mut Past<'_>,
+    records: &[Record],
+) -> Result<(), AllocError>
+    requires kept { IsKept past.old }
+    requires none { past_history past.old ≡ [] }
+    requires each { All (IsRecord 5) records.now }
+    requires legal { AreLegal (past_schema past.old) world.now (past_user past.old)
+        (map recorded records.now) }
+    ensures items { OnOk result (Grows (AreItems (past_schema past.old) (past_user past.old) []
+        (map recorded records.now)) (string_bytes text.old) (string_bytes text.new)) }
+{
+    for record in records {
+        push_item(alloc, world, text, past, record)?;
+    }
+    Ok(())
+}
+
+/// Appends the last line, with the number of the items.
+fn push_done(text: &mut String, count: usize) -> Result<(), AllocError>
+    ensures { OnOk result (string_bytes text.new ≡ string_bytes text.old ++ done_text count) }
+{
+    write!(text, "done {count}\n")
 }
 
 /// Appends the item of a record, which is legal behind the items so far, and adds it to these.
@@ -173,51 +222,114 @@ fn push_item(
 ) -> Result<(), AllocError>
     requires kept { IsKept past.old }
     requires record { IsRecord 5 record.now }
-    requires legal { (entry : AnsweredQuery)
-        × (entry_of (past_schema past.old) (recorded record.now) ≡ Some entry)
-        × IsLegalItem (past_schema past.old) world.now (past_user past.old)
-        (past_history past.old) entry
-        × KeepsSizesAt (past_schema past.old) (past_user past.old) (past_history past.old) entry }
-    ensures item { OnOk result ((entry : AnsweredQuery)
-        × (entry_of (past_schema past.old) (recorded record.now) ≡ Some entry)
-        × Grows (IsItem (past_schema past.old) (past_user past.old) (past_history past.old) entry
-        (recorded record.now).1) (string_bytes text.old) (string_bytes text.new)
-        × HasAdded entry past.old past.new) }
+    requires legal { IsNextLegal (past_schema past.old) world.now (past_user past.old)
+        (past_history past.old) (recorded record.now) }
+    ensures item { OnOk result (AddsItem (recorded record.now) past.old past.new
+        (string_bytes text.old) (string_bytes text.new)) }
     ensures kept { OnOk result (IsKept past.new) }
 {
     law_sentences_are_ascii();
-    let Ok(said) = str::from_utf8(&record.text) else {
-        unreachable!()
-    };
-    let length = size_of(said);
-    match mark_of(record.kind) {
-        Mark::Protected => {
-            let secret = read_text(alloc, past, Purpose::Protecting, said)?;
-            push_line(text, "protect ", "", said)?;
-            push_addition(alloc, text, past, &secret)?;
-            past.add_secret(
-                alloc,
-                Item {
-                    query: secret,
-                    mark: Mark::Protected,
-                    length,
-                },
-            )
-        }
-        mark => {
-            let query = read_text(alloc, past, Purpose::Asking, said)?;
-            push_line(text, "ask ", mark_word(mark), said)?;
-            let query = push_probes(alloc, text, past, query, mark)?;
-            past.add_answered(
-                alloc,
-                Item {
-                    query,
-                    mark,
-                    length,
-                },
-            )
-        }
+    let said = said_in(record);
+    let mark = mark_of(record.kind);
+    if is_addition(mark) {
+        push_secret(alloc, text, past, said)
+    } else {
+        push_asked(alloc, text, past, mark, said)
     }
+}
+
+/// Whether this is the mark of a sentence that was added to the secrets.
+fn is_addition(mark: Mark) -> bool
+    ensures { result ≡ is_added mark }
+{
+    match mark {
+        Mark::Protected => true,
+        Mark::Yes | Mark::No | Mark::Refused | Mark::Undecided => false,
+    }
+}
+
+/// The text of a record that is one.
+fn said_in(record: &Record) -> &str
+    requires { IsUtf8 record.now.text.items }
+    ensures { result.now ≡ record.now.text.items }
+{
+    match str::from_utf8(&record.text) {
+        Ok(said) => said,
+        Err(_) => unreachable!(),
+    }
+}
+
+/// Appends an ask with this mark and adds it to the items.
+fn push_asked(
+    alloc: Global,
+    text: &mut String,
+    past: &mut Past<'_>,
+    mark: Mark,
+    said: &str,
+) -> Result<(), AllocError>
+    requires kept { IsKept past.old }
+    requires asked { is_added mark ≡ false }
+    requires within { IsWithin (past_schema past.old) (past_user past.old)
+        (past_history past.old) Purpose.Asking mark said.now }
+    requires unspent { mark ≢ Mark.Undecided → (query : Formula)
+        → reading (past_schema past.old) said.now ≡ Ok query
+        → AreUnspent (past_schema past.old) (past_user past.old).budget
+        (probes (user_at (past_user past.old) (past_history past.old))
+        (log (past_user past.old) (past_history past.old)) query) }
+    ensures item { OnOk result (AddsSaid mark said.now past.old past.new
+        (string_bytes text.old) (string_bytes text.new)) }
+    ensures kept { OnOk result (IsKept past.new) }
+{
+    law_reading();
+    law_limits();
+    let asked = read_text(alloc, past, Purpose::Asking, mark, said)?;
+    push_line(text, "ask ", mark_word(mark), said)?;
+    let query = push_probes(alloc, text, past, asked, mark)?;
+    let length = size_of(said);
+    past.add_answered(
+        alloc,
+        Item {
+            query,
+            mark,
+            length,
+        },
+    )?;
+    Ok(())
+}
+
+/// Appends a sentence that is added to the secrets and adds it to the items.
+fn push_secret(
+    alloc: Global,
+    text: &mut String,
+    past: &mut Past<'_>,
+    said: &str,
+) -> Result<(), AllocError>
+    requires kept { IsKept past.old }
+    requires within { IsWithin (past_schema past.old) (past_user past.old)
+        (past_history past.old) Purpose.Protecting Mark.Protected said.now }
+    requires safe { (secret : Formula) → reading (past_schema past.old) said.now ≡ Ok secret
+        → safe_after (past_schema past.old) (past_user past.old) (past_history past.old) secret
+        ≡ true }
+    ensures item { OnOk result (AddsSaid Mark.Protected said.now past.old past.new
+        (string_bytes text.old) (string_bytes text.new)) }
+    ensures kept { OnOk result (IsKept past.new) }
+{
+    law_reading();
+    law_limits();
+    law_amended_limits();
+    let secret = read_text(alloc, past, Purpose::Protecting, Mark::Protected, said)?;
+    push_line(text, "protect ", "", said)?;
+    push_addition(alloc, text, past, &secret)?;
+    let length = size_of(said);
+    past.add_secret(
+        alloc,
+        Item {
+            query: secret,
+            mark: Mark::Protected,
+            length,
+        },
+    )?;
+    Ok(())
 }
 
 /// The sentence that the text of a record is, which is within the limits.
@@ -225,11 +337,12 @@ fn read_text(
     alloc: Global,
     past: &Past<'_>,
     purpose: Purpose,
+    mark: Mark,
     said: &str,
 ) -> Result<Sentence, AllocError>
     requires kept { IsKept past.now }
     requires within { IsWithin (past_schema past.now) (past_user past.now)
-        (past_history past.now) purpose said.now }
+        (past_history past.now) purpose mark said.now }
     ensures { IfOk result (λ sentence. reading (past_schema past.now) said.now
         ≡ Ok (formula_of sentence)) }
 {
