@@ -17,5 +17,6 @@ mod Asks
 mod Added
 mod Opened
 mod Pushed
+mod SamePasts
 mod Sayings
 mod Whole

@@ -8,7 +8,10 @@ use Rattle.cqe_base.specs.Schema.{DatabaseSchema, Text}
 use Rattle.cqe_base.specs.Formula.{Formula}
 use Rattle.cqe_base.specs.Entailment.{Signed}
 use Rattle.cqe_base.specs.Outcome.{Outcome, Follows, Open, Spent, outcome, is_open, is_spent}
-use Rattle.cqe_base.specs.Censor.{Probe, probes_against}
+use Rattle.cqe_base.specs.declared.user.Method.{Method}
+use Rattle.cqe_base.specs.declared.user.Method.TheVariants.{Lying, Refusal, Combined}
+use Rattle.cqe_base.specs.Censor.{Probe, probes_against, probes_by}
+use Rattle.dossier.specs.Items.{implied_probes}
 use Rattle.dossier.specs.Written.{IsBlock, AreBlocks, AreUnspent, Grows}
 
 -- ---- growth
@@ -109,3 +112,11 @@ module _ (schema : DatabaseSchema) where
     pub goals-all : (i : ℕ) → length goals ≤ i → (old new : Text) → Grows (AreBlocks schema (probes_against premises (map said (take i goals)))) old new
         → Grows (AreBlocks schema (probes_against premises (map said goals))) old new
     goals-all i past old new = subst (λ gs. Grows (AreBlocks schema (probes_against premises (map said gs))) old new) (take_all i goals past)
+
+-- the probes of a query, one part after the other
+pub query-parts : (m : Method) (goals : List Formula) (told : List Signed) (query : Formula)
+    → probes_by m goals told query
+    ≡ implied_probes m told query ++ (probes_against (told ++ (query, true) ∷ []) goals ++ probes_against (told ++ (query, false) ∷ []) goals)
+query-parts Lying goals told query = refl
+query-parts Refusal goals told query = refl
+query-parts Combined goals told query = refl

@@ -23,6 +23,7 @@ use Rattle.log_journal.specs.Records.{Recorded}
 use Rattle.user_desk.specs.Entries.{mark_of, purpose_by, entry_by, entry_of}
 use Rattle.dossier.specs.Written.{item_head, item_probes, AreBlocks, IsItem, AreItems, AreUnspent, IsWithin, IsNextLegal, Grows}
 use Rattle.dossier.specs.Adding.{Adds, AddsItem, AddsSaid}
+use Rattle.dossier.specs.Told.{is_undecided}
 use Rattle.dossier.specs.Logs.{past_schema, past_user, past_history, HasAdded}
 use Rattle.dossier.specs.declared.past.Past.{Past}
 
@@ -41,6 +42,16 @@ asking-by No isnt = refl
 asking-by Refused isnt = refl
 asking-by Undecided isnt = refl
 asking-by Protected isnt = absurd cc
+
+pub undecided-is : (mark : Mark) → is_undecided mark ≡ true → mark ≡ Undecided
+undecided-is Yes is = absurd cc
+undecided-is No is = absurd cc
+undecided-is Refused is = absurd cc
+undecided-is Undecided is = refl
+undecided-is Protected is = absurd cc
+
+pub decided-is : (mark : Mark) → is_undecided mark ≡ false → mark ≢ Undecided
+decided-is mark isnt is = both_ways (is_undecided mark) isnt (ap is_undecided is)
 
 -- the line of an ask
 pub ask-head : (mark : Mark) (said : Text) → is_added mark ≡ false

@@ -10,3 +10,11 @@ sign_told No = Some false
 sign_told Refused = None
 sign_told Undecided = None
 sign_told Protected = None
+
+-- whether this is the mark of an ask that wasn't decided
+abbrev pub is_undecided : Mark → Bool
+is_undecided Yes = false
+is_undecided No = false
+is_undecided Refused = false
+is_undecided Undecided = true
+is_undecided Protected = false

@@ -28,6 +28,7 @@ ghost use Rattle.dossier.specs.Written.{IsBlock, AreBlocks, item_probes, IsDossi
 ghost use Rattle.dossier.specs.Written.{AreLegal, IsNextLegal, AreUnspent, IsWithin, Grows};
 ghost use Rattle.dossier.specs.Written.{IsAdmission, AreItems, head_text, done_text};
 ghost use Rattle.dossier.specs.Adding.{AddsItem, AddsSaid};
+ghost use Rattle.dossier.specs.Told.{is_undecided};
 
 use crate::checking::head_rest;
 use crate::items::is_refusal;
@@ -386,6 +387,7 @@ fn push_probes(
     mark: Mark,
 ) -> Result<Sentence, AllocError>
     requires kept { IsKept past.old }
+    requires asked { is_added mark ≡ false }
     requires sentence { is_sentence_of (past_schema past.old) (formula_of query) ≡ true }
     requires fits { FitsLog (past_schema past.old) (past_user past.old)
         (past_history past.old) (formula_of query) }
@@ -400,15 +402,78 @@ fn push_probes(
     ensures kept { IsKept past.new }
     ensures same { IsSamePast past.old past.new }
 {
-    if mark == Mark::Undecided {
+    if is_undecided(mark) {
         return Ok(query);
     }
+    push_query(alloc, text, past, query)
+}
+
+/// Whether this is the mark of an ask that wasn't decided.
+fn is_undecided(mark: Mark) -> bool
+    ensures { result ≡ is_undecided mark }
+{
+    match mark {
+        Mark::Undecided => true,
+        Mark::Yes | Mark::No | Mark::Refused | Mark::Protected => false,
+    }
+}
+
+/// Appends the blocks of a query's probes, and hands the query back.
+fn push_query(
+    alloc: Global,
+    text: &mut String,
+    past: &mut Past<'_>,
+    query: Sentence,
+) -> Result<Sentence, AllocError>
+    requires kept { IsKept past.old }
+    requires sentence { is_sentence_of (past_schema past.old) (formula_of query) ≡ true }
+    requires fits { FitsLog (past_schema past.old) (past_user past.old)
+        (past_history past.old) (formula_of query) }
+    requires unspent { AreUnspent (past_schema past.old) (past_user past.old).budget
+        (probes (user_at (past_user past.old) (past_history past.old))
+        (log (past_user past.old) (past_history past.old)) (formula_of query)) }
+    ensures blocks { OnOk result (Grows (AreBlocks (past_schema past.old)
+        (probes (user_at (past_user past.old) (past_history past.old))
+        (log (past_user past.old) (past_history past.old)) (formula_of query)))
+        (string_bytes text.old) (string_bytes text.new)) }
+    ensures query { IfOk result (λ back. back ≡ query) }
+    ensures kept { IsKept past.new }
+    ensures same { IsSamePast past.old past.new }
+{
     let budget = past.user.budget;
-    let query = GroundSentence::new(alloc, past.schema, query)?;
-    push_implied(alloc, text, past, &query, budget)?;
-    push_each(alloc, text, past, Some((&query, true)), budget)?;
-    push_each(alloc, text, past, Some((&query, false)), budget)?;
-    Ok(query.sentence)
+    let ground = GroundSentence::new(alloc, past.schema, query)?;
+    push_parts(alloc, text, past, &ground, budget)?;
+    Ok(ground.sentence)
+}
+
+/// Appends the blocks of a query's probes, in the order of the table.
+fn push_parts(
+    alloc: Global,
+    text: &mut String,
+    past: &mut Past<'_>,
+    query: &GroundSentence,
+    budget: u64,
+) -> Result<(), AllocError>
+    requires kept { IsKept past.old }
+    requires sentence { is_sentence_of (past_schema past.old) (sentence_of query.now) ≡ true }
+    requires grounded { IsGroundOver (past_schema past.old) query.now }
+    requires fits { FitsLog (past_schema past.old) (past_user past.old)
+        (past_history past.old) (sentence_of query.now) }
+    requires budget { budget ≤ 4000000 }
+    requires unspent { AreUnspent (past_schema past.old) budget
+        (probes (user_at (past_user past.old) (past_history past.old))
+        (log (past_user past.old) (past_history past.old)) (sentence_of query.now)) }
+    ensures blocks { OnOk result (Grows (AreBlocks (past_schema past.old)
+        (probes (user_at (past_user past.old) (past_history past.old))
+        (log (past_user past.old) (past_history past.old)) (sentence_of query.now)))
+        (string_bytes text.old) (string_bytes text.new)) }
+    ensures kept { IsKept past.new }
+    ensures same { IsSamePast past.old past.new }
+{
+    push_implied(alloc, text, past, query, budget)?;
+    push_each(alloc, text, past, Some((query, true)), budget)?;
+    push_each(alloc, text, past, Some((query, false)), budget)?;
+    Ok(())
 }
 
 /// For refusal, appends the blocks of the log against a query and against its negation.
