@@ -22,17 +22,17 @@ read_harm-requires-clause-fits c =
     c.read_implied.ensures.same.0.schema c.read_implied.ensures.same.0.user
     c.read_implied.ensures.same.1 c.requires.fits
 
-pub read_harm-2-requires-clause-sentence : goal.read_harm-2-requires-clause-sentence
-read_harm-2-requires-clause-sentence c =
+pub read_harm-requires-2-clause-sentence : goal.read_harm-requires-2-clause-sentence
+read_harm-requires-2-clause-sentence c =
     subst (λ s. is_sentence_of s (sentence_of c.args.query.now) ≡ true)
     (sym (c.read_harm.ensures.same.0.schema ∙ c.read_implied.ensures.same.0.schema)) c.requires.sentence
 
-pub read_harm-2-requires-clause-grounded : goal.read_harm-2-requires-clause-grounded
-read_harm-2-requires-clause-grounded c =
+pub read_harm-requires-2-clause-grounded : goal.read_harm-requires-2-clause-grounded
+read_harm-requires-2-clause-grounded c =
     subst (λ s. IsGroundOver s c.args.query.now) (sym (c.read_harm.ensures.same.0.schema ∙ c.read_implied.ensures.same.0.schema)) c.requires.grounded
 
-pub read_harm-2-requires-clause-fits : goal.read_harm-2-requires-clause-fits
-read_harm-2-requires-clause-fits c =
+pub read_harm-requires-2-clause-fits : goal.read_harm-requires-2-clause-fits
+read_harm-requires-2-clause-fits c =
     fits-at (past_schema c.args.past.now) _ (past_user c.args.past.now) _ (past_history c.args.past.now) _ (sentence_of c.args.query.now)
     (c.read_harm.ensures.same.0.schema ∙ c.read_implied.ensures.same.0.schema) (c.read_harm.ensures.same.0.user ∙ c.read_implied.ensures.same.0.user)
     (c.read_harm.ensures.same.1 ∙ c.read_implied.ensures.same.1) c.requires.fits

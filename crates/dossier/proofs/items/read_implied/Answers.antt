@@ -11,16 +11,16 @@ use Rattle.dossier.proofs.items.read_implied.Goals as goal
 
 -- ---- the second block is read behind the same items
 
-pub read_goal-2-requires-clause-sentence : goal.read_goal-2-requires-clause-sentence
-read_goal-2-requires-clause-sentence c =
+pub read_goal-requires-2-clause-sentence : goal.read_goal-requires-2-clause-sentence
+read_goal-requires-2-clause-sentence c =
     subst (λ s. is_sentence_of s (sentence_of c.args.query.now) ≡ true) (sym c.read_goal.ensures.same.0.schema) c.requires.sentence
 
-pub read_goal-2-requires-clause-grounded : goal.read_goal-2-requires-clause-grounded
-read_goal-2-requires-clause-grounded c =
+pub read_goal-requires-2-clause-grounded : goal.read_goal-requires-2-clause-grounded
+read_goal-requires-2-clause-grounded c =
     subst (λ s. IsGroundOver s c.args.query.now) (sym c.read_goal.ensures.same.0.schema) c.requires.grounded
 
-pub read_goal-2-requires-clause-fits : goal.read_goal-2-requires-clause-fits
-read_goal-2-requires-clause-fits c =
+pub read_goal-requires-2-clause-fits : goal.read_goal-requires-2-clause-fits
+read_goal-requires-2-clause-fits c =
     let same = c.read_goal.ensures.same in
     fits-at (past_schema c.args.past.now) _ (past_user c.args.past.now) _ (past_history c.args.past.now) _ (sentence_of c.args.query.now)
     same.0.schema same.0.user same.1 c.requires.fits

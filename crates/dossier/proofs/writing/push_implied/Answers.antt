@@ -39,15 +39,15 @@ push_goal-requires-clause-unspent c =
     (unspent-append (past_schema past) c.args.budget (goal_probe told (query, true) ∷ []) (goal_probe told (query, false) ∷ [])
     (subst (λ m. AreUnspent (past_schema past) c.args.budget (implied_probes m told query)) method c.requires.unspent)).0
 
-pub push_goal-2-requires-clause-sentence : goal.push_goal-2-requires-clause-sentence
-push_goal-2-requires-clause-sentence c =
+pub push_goal-requires-2-clause-sentence : goal.push_goal-requires-2-clause-sentence
+push_goal-requires-2-clause-sentence c =
     subst (λ s. is_sentence_of s (sentence_of c.args.query.now) ≡ true) (sym c.push_goal.ensures.same.0.schema) c.requires.sentence
 
-pub push_goal-2-requires-clause-grounded : goal.push_goal-2-requires-clause-grounded
-push_goal-2-requires-clause-grounded c = subst (λ s. IsGroundOver s c.args.query.now) (sym c.push_goal.ensures.same.0.schema) c.requires.grounded
+pub push_goal-requires-2-clause-grounded : goal.push_goal-requires-2-clause-grounded
+push_goal-requires-2-clause-grounded c = subst (λ s. IsGroundOver s c.args.query.now) (sym c.push_goal.ensures.same.0.schema) c.requires.grounded
 
-pub push_goal-2-requires-clause-all_nodes : goal.push_goal-2-requires-clause-all_nodes
-push_goal-2-requires-clause-all_nodes c =
+pub push_goal-requires-2-clause-all_nodes : goal.push_goal-requires-2-clause-all_nodes
+push_goal-requires-2-clause-all_nodes c =
     let past = c.args.past.now in
     let schema = past_schema past in
     let query = sentence_of c.args.query.now in
@@ -58,8 +58,8 @@ push_goal-2-requires-clause-all_nodes c =
     (subst (λ u. log_nodes schema (log u (past_history c.push_goal.new.past)) + nodes schema query ≤ 100000) (sym same.0.user)
     (subst (λ h. log_nodes schema (log (past_user past) h) + nodes schema query ≤ 100000) (sym same.1) all))
 
-pub push_goal-2-requires-clause-unspent : goal.push_goal-2-requires-clause-unspent
-push_goal-2-requires-clause-unspent c =
+pub push_goal-requires-2-clause-unspent : goal.push_goal-requires-2-clause-unspent
+push_goal-requires-2-clause-unspent c =
     let past = c.args.past.now in
     let told = log (past_user past) (past_history past) in
     let query = sentence_of c.args.query.now in

@@ -59,19 +59,19 @@ push_each-requires-clause-unspent c =
     (unspent-append (past_schema past) c.args.budget (probes_against (told ++ (query, true) ∷ []) goals)
     (probes_against (told ++ (query, false) ∷ []) goals) others).0
 
-pub push_each-2-requires-clause-premise : goal.push_each-2-requires-clause-premise
-push_each-2-requires-clause-premise c =
+pub push_each-requires-2-clause-premise : goal.push_each-requires-2-clause-premise
+push_each-requires-2-clause-premise c =
     let query = sentence_of c.args.query.now in
     at-same (λ s u h. are_sentences_of s ((query, false) ∷ []) ≡ true) c.args.past.now c.push_each.new.past
     (same-then c.args.past.now c.push_implied.new.past c.push_each.new.past c.push_implied.ensures.same c.push_each.ensures.same) (ap (λ b. b && true) c.requires.sentence)
 
-pub push_each-2-requires-clause-grounded : goal.push_each-2-requires-clause-grounded
-push_each-2-requires-clause-grounded c =
+pub push_each-requires-2-clause-grounded : goal.push_each-requires-2-clause-grounded
+push_each-requires-2-clause-grounded c =
     at-same (λ s u h. IsGroundOver s c.args.query.now) c.args.past.now c.push_each.new.past
     (same-then c.args.past.now c.push_implied.new.past c.push_each.new.past c.push_implied.ensures.same c.push_each.ensures.same) c.requires.grounded
 
-pub push_each-2-requires-clause-room : goal.push_each-2-requires-clause-room
-push_each-2-requires-clause-room c =
+pub push_each-requires-2-clause-room : goal.push_each-requires-2-clause-room
+push_each-requires-2-clause-room c =
     let past = c.args.past.now in
     let schema = past_schema past in
     let query = sentence_of c.args.query.now in
@@ -80,8 +80,8 @@ push_each-2-requires-clause-room c =
     at-same (λ s u h. log_nodes s (log u h) + sentence_nodes s ((query, false) ∷ []) ≤ 60000) past c.push_each.new.past
     (same-then c.args.past.now c.push_implied.new.past c.push_each.new.past c.push_implied.ensures.same c.push_each.ensures.same) (omega (arith, one, small))
 
-pub push_each-2-requires-clause-unspent : goal.push_each-2-requires-clause-unspent
-push_each-2-requires-clause-unspent c =
+pub push_each-requires-2-clause-unspent : goal.push_each-requires-2-clause-unspent
+push_each-requires-2-clause-unspent c =
     let past = c.args.past.now in
     let told = log (past_user past) (past_history past) in
     let goals = guarded (user_at (past_user past) (past_history past)) in
