@@ -19,4 +19,6 @@ mod Opened
 mod Pushed
 mod SamePasts
 mod Sayings
+mod Growing
+mod Recorded
 mod Whole

@@ -10,7 +10,11 @@ use Rattle.cqe_base.specs.Entailment.{Signed}
 use Rattle.cqe_base.specs.Outcome.{Outcome, Follows, Open, Spent, outcome, is_open, is_spent}
 use Rattle.cqe_base.specs.declared.user.Method.{Method}
 use Rattle.cqe_base.specs.declared.user.Method.TheVariants.{Lying, Refusal, Combined}
-use Rattle.cqe_base.specs.Censor.{Probe, probes_against, probes_by}
+use Rattle.cqe_base.specs.Facts.{FactSet}
+use Rattle.cqe_base.specs.History.{UserProfile, History, known, log, user_at, EmptyLogIsKnown, EmptyHistoryAddsNone}
+use Rattle.cqe_base.specs.Censor.{Probe, probes_against, probes_by, guarded, admitted, admission_budget, knows_truth_by}
+use Rattle.std.specs.List.{list_all}
+use Rattle.cqe_base.proofs.Truths.{and_first, and_second}
 use Rattle.dossier.specs.Items.{implied_probes}
 use Rattle.dossier.specs.Written.{IsBlock, AreBlocks, AreUnspent, Grows}
 
@@ -120,3 +124,31 @@ pub query-parts : (m : Method) (goals : List Formula) (told : List Signed) (quer
 query-parts Lying goals told query = refl
 query-parts Refusal goals told query = refl
 query-parts Combined goals told query = refl
+
+-- ---- the admission
+
+-- the probes of the admission are those of the log without items
+pub admission-goals : EmptyLogIsKnown → EmptyHistoryAddsNone → (user : UserProfile) (entries : History) → entries ≡ []
+    → probes_against (log user entries ++ []) (guarded (user_at user entries)) ≡ probes_against (known user) (guarded user)
+admission-goals empty_log empty_user user entries none =
+    let premises : log user entries ++ [] ≡ known user = append-nil (log user entries) ∙ ap (log user) none ∙ empty_log user in
+    let goals : guarded (user_at user entries) ≡ guarded user = ap (λ es. guarded (user_at user es)) none ∙ ap guarded (empty_user user) in
+    λ i. probes_against (premises i) (goals i)
+
+-- probes that are all open aren't spent
+open-all : (schema : DatabaseSchema) (premises : List Signed) (goals : List Formula)
+    → list_all (λ goal. is_open (outcome schema premises (goal, true) admission_budget)) goals ≡ true
+    → AreUnspent schema admission_budget (probes_against premises goals)
+open-all schema premises [] all = refl
+open-all schema premises (goal ∷ goals) all =
+    let first = open-unspent schema (outcome schema premises (goal, true) admission_budget) (and_first _ _ all) in
+    let here = (or_parts (is_spent (outcome schema premises (goal, true) admission_budget)) false first).0 in
+    let others = open-all schema premises goals (and_second _ _ all) in
+    λ i. here i || others i
+
+-- those of a user who is admitted
+pub admitted-unspent : (schema : DatabaseSchema) (world : FactSet) (user : UserProfile) → admitted schema world user ≡ true
+    → AreUnspent schema admission_budget (probes_against (known user) (guarded user))
+unfolding admitted
+admitted-unspent schema world user is =
+    open-all schema (known user) (guarded user) (and_second (knows_truth_by user.method schema world (known user)) _ is)

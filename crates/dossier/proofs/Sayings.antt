@@ -120,6 +120,11 @@ module _ (schema : DatabaseSchema) (kind : ℕ) (text : Text) (mark : Mark) (mar
         subst (IsWithin schema user before purpose mark) (sym said_is)
         (query, reads, purpose_is, short, subst (KeepsSizesAt schema user before) same sizes)
 
+    pub added-within : length text ≤ 4096 → is_added mark ≡ true → IsWithin schema user before Protecting Protected said
+    added-within short added =
+        subst (λ m. IsWithin schema user before Protecting m said) (added-is mark added)
+        (within-of short Protecting (ap purpose_by (added-is mark added)))
+
     -- the sentence of an addition is safe
     pub safe-of : is_added mark ≡ true → (secret : Formula) → reading schema said ≡ Ok secret → safe_after schema user before secret ≡ true
     safe-of added secret reads_said =
@@ -146,12 +151,26 @@ module _ (schema : DatabaseSchema) (kind : ℕ) (text : Text) (mark : Mark) (mar
         ∙ ap (mark_after schema world user before) sentence in
         rule-unspent schema world (user_at user before) (log user before) secret (λ undecided. isnt (mark_is ∙ undecided))
 
+-- the sentence of a text within the limits came within them
+pub read-within : (schema : DatabaseSchema) (user : UserProfile) (before : History) (purpose : Purpose) (mark : Mark) (said : Text)
+    → IsWithin schema user before purpose mark said → (query : Formula) → reading schema said ≡ Ok query
+    → KeepsSizesAt schema user before (record { query = query; mark = mark; length = length said })
+read-within schema user before purpose mark said (known, reads, purpose_is, short, sizes) query read =
+    let results : Ok known ≡ Ok query = sym reads ∙ read in
+    let same : known ≡ query = cc in
+    subst (λ q. KeepsSizesAt schema user before (record { query = q; mark = mark; length = length said })) same sizes
+
 -- what was added for its text was added for the record
 pub adds-item : (before after : Past) (kind : ℕ) (text : Text) (mark : Mark) (said old new : Text) → mark_of kind ≡ Some mark → said ≡ text
     → AddsSaid mark said before after old new → AddsItem (kind, text) before after old new
 adds-item before after kind text mark said old new marked said_is adds =
     let (query, reads, added) = subst (λ t. AddsSaid mark t before after old new) said_is adds in
     (record { query = query; mark = mark; length = length text }, entry-is (past_schema before) kind text mark marked query reads, added)
+
+pub adds-secret : (before after : Past) (kind : ℕ) (text : Text) (mark : Mark) (said old new : Text) → mark_of kind ≡ Some mark → said ≡ text
+    → is_added mark ≡ true → AddsSaid Protected said before after old new → AddsItem (kind, text) before after old new
+adds-secret before after kind text mark said old new marked said_is added adds =
+    adds-item before after kind text mark said old new marked said_is (subst (λ m. AddsSaid m said before after old new) (sym (added-is mark added)) adds)
 
 -- ---- the text of an item
 

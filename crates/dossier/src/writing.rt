@@ -197,11 +197,11 @@ fn push_items(
     requires each { All (IsRecord 5) records.now }
     requires legal { AreLegal (past_schema past.old) world.now (past_user past.old)
         (map recorded records.now) }
-    ensures items { OnOk result (Grows (AreItems (past_schema past.old) (past_user past.old) []
+    ensures { OnOk result (Grows (AreItems (past_schema past.old) (past_user past.old) []
         (map recorded records.now)) (string_bytes text.old) (string_bytes text.new)) }
 {
-    for record in records {
-        push_item(alloc, world, text, past, record)?;
+    for next in records {
+        push_item(alloc, world, text, past, next)?;
     }
     Ok(())
 }
@@ -230,8 +230,8 @@ fn push_item(
     ensures kept { OnOk result (IsKept past.new) }
 {
     law_sentences_are_ascii();
-    let said = said_in(record);
     let mark = mark_of(record.kind);
+    let said = said_in(record);
     if is_addition(mark) {
         push_secret(alloc, text, past, said)
     } else {
