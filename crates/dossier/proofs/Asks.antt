@@ -147,7 +147,8 @@ module _ (schema : DatabaseSchema) (world : FactSet) (user : UserProfile) (entri
         by_length false long is = absurd cc
 
     -- the text of an item within the limits is a sentence there
-    pub none-within : (mark : Mark) → IsWithin schema user entries purpose mark text → None ≡ sentence_in schema world user entries purpose text → ⊥
+    pub none-within : (mark : Mark) → IsWithin schema user entries purpose mark text → None ≡ sentence_in schema world user entries purpose text
+        → ⊥
     none-within mark (query, reads, purpose_is, short, sizes) none =
         let still : is_beyond schema world user entries purpose (length text) query ≡ false =
         subst (λ p. is_beyond schema world user entries p (length text) query ≡ false) purpose_is
@@ -179,7 +180,8 @@ module _ (schema : DatabaseSchema) (world : FactSet) (name : Text) (user : UserP
   asked-none line Undecided size = refl
   asked-none line Protected size = refl
 
-  module _ (is : field.word ≡ codes "ask") (word text : Text) (word_is : word ≡ (first_word field.rest).0) (text_is : text ≡ (first_word field.rest).1) where
+  module _ (is : field.word ≡ codes "ask") (word text : Text) (word_is : word ≡ (first_word field.rest).0)
+      (text_is : text ≡ (first_word field.rest).1) where
     ask-at : item_line schema world name user entries field ≡ ask_line schema world name user field.line entries (mark_named word) text
     ask-at =
         item-ask schema world name user field entries (ap (λ w. bytes_eq w (codes "ask")) is)

@@ -99,7 +99,8 @@ module _ (schema : DatabaseSchema) where
         → Grows (IsBlock schema (record { premises = premises; goal = (said goal, true) })) middle new
         → Grows (AreBlocks schema (probes_against premises (map said (take (i + 1) goals)))) old new
     goals-pushed i goal is low old middle new so_far one =
-        grows-then (AreBlocks schema (probes_against premises (map said (take i goals)))) (IsBlock schema (record { premises = premises; goal = (said goal, true) }))
+        grows-then (AreBlocks schema (probes_against premises (map said (take i goals))))
+        (IsBlock schema (record { premises = premises; goal = (said goal, true) }))
         (AreBlocks schema (probes_against premises (map said (take (i + 1) goals)))) old middle new so_far one
         (λ first second blocks block.
         subst (λ ps. AreBlocks schema ps (first ++ second)) (sym more)

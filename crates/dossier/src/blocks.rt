@@ -1,7 +1,6 @@
 //! Blocks: what shows whether the premises of a probe entail its goal.
-ghost use Rattle.std.specs.Prelude.{◌≡◌, ◌≤◌, ◌+◌, ◌++◌, ◌&&◌, not, [], true, Bool, List, length, map};
-ghost use Rattle.std.specs.Prelude.{Ok};
-ghost use Rattle.std.specs.Prelude.{nat_le, All};
+ghost use Rattle.std.specs.Prelude.{◌≡◌, ◌≤◌, ◌+◌, ◌++◌, ◌&&◌, not, [], true, Bool, List, length};
+ghost use Rattle.std.specs.Prelude.{map, Ok, nat_le, All};
 ghost use Rattle.std.specs.List.{list_all};
 ghost use Rattle.cqe_base.specs.Schema.{DatabaseSchema, Text};
 ghost use Rattle.cqe_base.specs.Facts.{FactSet};

@@ -1,6 +1,6 @@
 //! The facts of a world, as a block lists them.
-ghost use Rattle.std.specs.Prelude.{◌≡◌, ◌++◌, ◌∷◌, true, Some, map, option_map, codes, string_bytes};
-ghost use Rattle.std.specs.Prelude.{nat_lt, length, IfOk, IfSome};
+ghost use Rattle.std.specs.Prelude.{◌≡◌, ◌++◌, ◌∷◌, true, Some, map, option_map, codes};
+ghost use Rattle.std.specs.Prelude.{string_bytes, nat_lt, length, IfOk, IfSome};
 ghost use Rattle.std.specs.List.{list_all};
 ghost use Rattle.std.specs.Ordering.{is_lt};
 ghost use Rattle.cqe_base.specs.Facts.{is_fact_of, fact_cmp};

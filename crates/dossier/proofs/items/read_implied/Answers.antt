@@ -32,7 +32,8 @@ returns-in_err-yes-clause-reads c world name task more of =
     let past = c.args.past.now in
     let query = sentence_of c.args.query.now in
     let told = log (past_user past) (past_history past) in
-    implied-refused (past_schema past) world name (past_user past) (past_history past) task query more (refusal-is _ (sym c.is_refusal.ensures ∙ c.if-not-is_refusal.false))
+    implied-refused (past_schema past) world name (past_user past) (past_history past) task query more
+    (refusal-is _ (sym c.is_refusal.ensures ∙ c.if-not-is_refusal.false))
     c.args.lines.now c.args.lines.now c.read_goal.new.lines
     (awaited_for (past_schema past) world name (past_user past) (past_history past) task
     (goal_probe told (query, true) ∷ (goal_probe told (query, false) ∷ more)) []) _ _ refl
@@ -44,7 +45,8 @@ returns-in_err-no-clause-reads c world name task more of =
     let query = sentence_of c.args.query.now in
     let told = log (past_user past) (past_history past) in
     let same = c.read_goal.ensures.same in
-    implied-refused (past_schema past) world name (past_user past) (past_history past) task query more (refusal-is _ (sym c.is_refusal.ensures ∙ c.if-not-is_refusal.false))
+    implied-refused (past_schema past) world name (past_user past) (past_history past) task query more
+    (refusal-is _ (sym c.is_refusal.ensures ∙ c.if-not-is_refusal.false))
     c.args.lines.now c.read_goal.new.lines c.read_goal-2.new.lines
     (awaited_for (past_schema past) world name (past_user past) (past_history past) task (goal_probe told (query, false) ∷ more) (c.in_ok-yes.yes ∷ [])) _ _
     (c.in_ok-yes.ensures.reads world name task (goal_probe told (query, false) ∷ more) [] of)
@@ -59,7 +61,8 @@ returns-clause-reads c world name task more of =
     let told = log (past_user past) (past_history past) in
     let same = c.read_goal.ensures.same in
     rw c.implied_answer.ensures
-    (implied-read (past_schema past) world name (past_user past) (past_history past) task query more (refusal-is _ (sym c.is_refusal.ensures ∙ c.if-not-is_refusal.false))
+    (implied-read (past_schema past) world name (past_user past) (past_history past) task query more
+    (refusal-is _ (sym c.is_refusal.ensures ∙ c.if-not-is_refusal.false))
     c.args.lines.now c.read_goal.new.lines c.read_goal-2.new.lines c.in_ok-yes.yes c.in_ok-no.no
     (c.in_ok-yes.ensures.reads world name task (goal_probe told (query, false) ∷ more) [] of)
     (goal-at (past_schema past) _ world name (past_user past) _ (past_history past) _ task (query, false) more (c.in_ok-yes.yes ∷ []) _ _ _

@@ -12,4 +12,5 @@ returns c =
     let user = profile_of c.args.user.now in
     let made : string_bytes c.push_str-2.new.self ≡ (codes "dossier " ++ string_bytes c.in_ok-rest.rest) ++ codes "\n" = search (rules, tests) in
     made ∙ ap (λ rest. (codes "dossier " ++ rest) ++ codes "\n") c.in_ok-rest.ensures
-    ∙ regroup (codes "dossier ") (codes "1 ") (string_bytes c.args.user.now.name) (codes " ") (method_word user.method) (codes " ") c.args.standing.now (codes "\n")
+    ∙ regroup (codes "dossier ") (codes "1 ") (string_bytes c.args.user.now.name) (codes " ") (method_word user.method) (codes " ")
+    c.args.standing.now (codes "\n")

@@ -63,12 +63,14 @@ pub push_each-requires-2-clause-premise : goal.push_each-requires-2-clause-premi
 push_each-requires-2-clause-premise c =
     let query = sentence_of c.args.query.now in
     at-same (λ s u h. are_sentences_of s ((query, false) ∷ []) ≡ true) c.args.past.now c.push_each.new.past
-    (same-then c.args.past.now c.push_implied.new.past c.push_each.new.past c.push_implied.ensures.same c.push_each.ensures.same) (ap (λ b. b && true) c.requires.sentence)
+    (same-then c.args.past.now c.push_implied.new.past c.push_each.new.past c.push_implied.ensures.same c.push_each.ensures.same)
+    (ap (λ b. b && true) c.requires.sentence)
 
 pub push_each-requires-2-clause-grounded : goal.push_each-requires-2-clause-grounded
 push_each-requires-2-clause-grounded c =
     at-same (λ s u h. IsGroundOver s c.args.query.now) c.args.past.now c.push_each.new.past
-    (same-then c.args.past.now c.push_implied.new.past c.push_each.new.past c.push_implied.ensures.same c.push_each.ensures.same) c.requires.grounded
+    (same-then c.args.past.now c.push_implied.new.past c.push_each.new.past c.push_implied.ensures.same c.push_each.ensures.same)
+    c.requires.grounded
 
 pub push_each-requires-2-clause-room : goal.push_each-requires-2-clause-room
 push_each-requires-2-clause-room c =
@@ -78,7 +80,8 @@ push_each-requires-2-clause-room c =
     let one : sentence_nodes schema ((query, false) ∷ []) ≡ nodes schema query = omega arith in
     let small : log_nodes schema (log (past_user past) (past_history past)) + signed_nodes schema query true ≤ 60000 = c.requires.fits.log_nodes true in
     at-same (λ s u h. log_nodes s (log u h) + sentence_nodes s ((query, false) ∷ []) ≤ 60000) past c.push_each.new.past
-    (same-then c.args.past.now c.push_implied.new.past c.push_each.new.past c.push_implied.ensures.same c.push_each.ensures.same) (omega (arith, one, small))
+    (same-then c.args.past.now c.push_implied.new.past c.push_each.new.past c.push_implied.ensures.same c.push_each.ensures.same)
+    (omega (arith, one, small))
 
 pub push_each-requires-2-clause-unspent : goal.push_each-requires-2-clause-unspent
 push_each-requires-2-clause-unspent c =
@@ -90,7 +93,8 @@ push_each-requires-2-clause-unspent c =
     let others = (unspent-append (past_schema past) c.args.budget (implied_probes (past_user past).method told query)
     (probes_against (told ++ (query, true) ∷ []) goals ++ probes_against (told ++ (query, false) ∷ []) goals) all).1 in
     at-same (λ s u h. AreUnspent s c.args.budget (probes_against (log u h ++ (query, false) ∷ []) (guarded (user_at u h))))
-    past c.push_each.new.past (same-then c.args.past.now c.push_implied.new.past c.push_each.new.past c.push_implied.ensures.same c.push_each.ensures.same)
+    past c.push_each.new.past
+    (same-then c.args.past.now c.push_implied.new.past c.push_each.new.past c.push_implied.ensures.same c.push_each.ensures.same)
     (unspent-append (past_schema past) c.args.budget (probes_against (told ++ (query, true) ∷ []) goals)
     (probes_against (told ++ (query, false) ∷ []) goals) others).1
 
@@ -115,7 +119,9 @@ returns-clause-blocks c =
     past c.push_implied.new.past c.push_implied.ensures.same c.in_ok-push_each.ensures.blocks in
     let third : Grows (AreBlocks schema negated) two end =
     at-old (λ s u h. Grows (AreBlocks s (probes_against (log u h ++ (query, false) ∷ []) (guarded (user_at u h)))) two end)
-    past c.push_each.new.past (same-then c.args.past.now c.push_implied.new.past c.push_each.new.past c.push_implied.ensures.same c.push_each.ensures.same) c.in_ok-push_each-2.ensures.blocks in
+    past c.push_each.new.past
+    (same-then c.args.past.now c.push_implied.new.past c.push_each.new.past c.push_implied.ensures.same c.push_each.ensures.same)
+    c.in_ok-push_each-2.ensures.blocks in
     subst (λ ps. Grows (AreBlocks schema ps) start end) (sym (query-parts (past_user past).method goals told query))
     (grows-then (AreBlocks schema implied) (AreBlocks schema (asserted ++ negated)) (AreBlocks schema (implied ++ (asserted ++ negated))) start one end
     c.in_ok-push_implied.ensures.blocks
@@ -130,7 +136,12 @@ returns-in_err-push_each-clause-same c = same-then c.args.past.now c.push_implie
 
 pub returns-in_err-push_each-2-clause-same : goal.returns-in_err-push_each-2-clause-same
 returns-in_err-push_each-2-clause-same c =
-    same-then c.args.past.now c.push_each.new.past c.push_each-2.new.past (same-then c.args.past.now c.push_implied.new.past c.push_each.new.past c.push_implied.ensures.same c.push_each.ensures.same) c.push_each-2.ensures.same
+    same-then c.args.past.now c.push_each.new.past c.push_each-2.new.past
+    (same-then c.args.past.now c.push_implied.new.past c.push_each.new.past c.push_implied.ensures.same c.push_each.ensures.same)
+    c.push_each-2.ensures.same
 
 pub returns-clause-same : goal.returns-clause-same
-returns-clause-same c = same-then c.args.past.now c.push_each.new.past c.push_each-2.new.past (same-then c.args.past.now c.push_implied.new.past c.push_each.new.past c.push_implied.ensures.same c.push_each.ensures.same) c.push_each-2.ensures.same
+returns-clause-same c =
+    same-then c.args.past.now c.push_each.new.past c.push_each-2.new.past
+    (same-then c.args.past.now c.push_implied.new.past c.push_each.new.past c.push_implied.ensures.same c.push_each.ensures.same)
+    c.push_each-2.ensures.same

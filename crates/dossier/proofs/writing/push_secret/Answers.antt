@@ -31,7 +31,8 @@ push_addition-requires-clause-room c =
     let secret = formula_of c.in_ok-secret.secret in
     let sizes = read-within (past_schema past) (past_user past) (past_history past) _ Protected c.args.said.now c.requires.within
     secret c.in_ok-secret.ensures in
-    let room = (c.law_limits.ensures.queries (past_schema past) (past_user past) (past_history past) secret c.requires.kept.limits sizes.small).log_nodes true in
+    let fits = c.law_limits.ensures.queries (past_schema past) (past_user past) (past_history past) secret c.requires.kept.limits sizes.small in
+    let room = fits.log_nodes true in
     omega (arith, room)
 
 pub push_addition-requires-clause-safe : goal.push_addition-requires-clause-safe
