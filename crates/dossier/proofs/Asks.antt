@@ -126,7 +126,8 @@ module _ (schema : DatabaseSchema) (world : FactSet) (user : UserProfile) (entri
     some-within sentence is = by_length (nat_le (length text) 4096) refl is
       where
         by_limits : (read : Formula) → length text ≤ 4096 → reading schema text ≡ Ok read
-            → (b : Bool) → is_beyond schema world user entries purpose (length text) read ≡ b → Some sentence ≡ (if b then None else Some read) → StandsWithin sentence
+            → (b : Bool) → is_beyond schema world user entries purpose (length text) read ≡ b → Some sentence ≡ (if b then None else Some read)
+            → StandsWithin sentence
         by_limits read short reads true past is = absurd cc
         by_limits read short reads false past is =
             let same : sentence ≡ read = cc in (

@@ -132,7 +132,8 @@ returns-clause-blocks c =
 -- ---- the items are as they were
 
 pub returns-in_err-push_each-clause-same : goal.returns-in_err-push_each-clause-same
-returns-in_err-push_each-clause-same c = same-then c.args.past.now c.push_implied.new.past c.push_each.new.past c.push_implied.ensures.same c.push_each.ensures.same
+returns-in_err-push_each-clause-same c =
+    same-then c.args.past.now c.push_implied.new.past c.push_each.new.past c.push_implied.ensures.same c.push_each.ensures.same
 
 pub returns-in_err-push_each-2-clause-same : goal.returns-in_err-push_each-2-clause-same
 returns-in_err-push_each-2-clause-same c =
