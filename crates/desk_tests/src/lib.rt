@@ -2,8 +2,8 @@
 //!
 //! They call the libraries as any other crate does. A module is named for what it tests: `desks` of
 //! `user_desk`, `counters` of `desk_counter`, `examining` of `censors`, `dossiers` of `dossier`,
-//! `sessions` of `session_core`, `service` of `serve_engine`. They share a small `clinic`. Bytes and replies that
-//! are compared were worked out by hand.
+//! `shown` of it over a workload, `sessions` of `session_core`, `service` of `serve_engine`. They
+//! share a small `clinic`. Bytes and replies that are compared were worked out by hand.
 #![tactic(auto)]
 
 #[cfg(test)]
@@ -20,3 +20,5 @@ mod examining;
 mod service;
 #[cfg(test)]
 mod sessions;
+#[cfg(test)]
+mod shown;

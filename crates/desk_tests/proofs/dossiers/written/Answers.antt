@@ -3,9 +3,9 @@ use Rattle.cqe_base.specs.History.{answered_query_of}
 use Rattle.desk_tests.proofs.dossiers.written.Goals as goal
 
 pub write_dossier-requires-clause-admitted : goal.write_dossier-requires-clause-admitted
-write_dossier-requires-clause-admitted c = (rw c.in-Open.is at c.in_ok-replay.ensures).0.0
+write_dossier-requires-clause-admitted g c = (rw c.in-Open.is at c.in_ok-replay.ensures).0.0
 
 pub write_dossier-requires-clause-legal : goal.write_dossier-requires-clause-legal
-write_dossier-requires-clause-legal c =
+write_dossier-requires-clause-legal g c =
     let open = rw c.in-Open.is at c.in_ok-replay.ensures in
     (_, open.0.1, open.1, open.2)

@@ -1,0 +1,9 @@
+use Rattle.desk_tests.proofs.shown.dossier_of.Goals as goal
+
+pub write_dossier-requires-clause-admitted : goal.write_dossier-requires-clause-admitted
+write_dossier-requires-clause-admitted g c = (rw c.in-Open.is at c.in_ok-replay.ensures).0.0
+
+pub write_dossier-requires-clause-legal : goal.write_dossier-requires-clause-legal
+write_dossier-requires-clause-legal g c =
+    let open = rw c.in-Open.is at c.in_ok-replay.ensures in
+    (_, open.0.1, open.1, open.2)
