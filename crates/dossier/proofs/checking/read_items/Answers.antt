@@ -63,7 +63,7 @@ loop-field-preserved c = record {
 }
 
 -- a line that was taken makes what is left shorter
-pub decreases-loop-field-less : goal.decreases-loop-field-less
-decreases-loop-field-less c =
+pub loop-field-smaller : goal.loop-field-smaller
+loop-field-smaller c =
     let less = c.in_ok-field.ensures.3 in
     omega (arith, c.read_item.ensures.less)

@@ -40,8 +40,8 @@ loop-rest-preserved c = record {
       ∙ and_from _ _ c.loop-rest.invariant.of_schema (and_from _ _ (search (rules, tests)) refl);
 }
 
-pub decreases-loop-rest-less : goal.decreases-loop-rest-less
-decreases-loop-rest-less c = omega (arith, c.first_part.ensures.less)
+pub loop-rest-smaller : goal.loop-rest-smaller
+loop-rest-smaller c = omega (arith, c.first_part.ensures.less)
 
 -- nothing is left
 pub returns-clause-read : goal.returns-clause-read
