@@ -65,7 +65,8 @@ impl<'a> Iterator for FieldIter<'a> {
 impl<'a> FieldIter<'a> {
     /// The next line, which is passed.
     pub(crate) fn take_field(&mut self) -> Option<Field<'a>>
-        ensures { PassesLine self.old result self.new }
+        ensures passes { PassesLine self.old result self.new }
+        ensures less { bytes_left self.new ≤ bytes_left self.old }
     {
         if self.text.is_empty() {
             return None;
@@ -93,7 +94,8 @@ impl<'a> FieldIter<'a> {
 
     /// The next line, which has to be there.
     pub(crate) fn take_line(&mut self) -> Result<Field<'a>, DossierError>
-        ensures { TakesLine self.old result self.new }
+        ensures takes { TakesLine self.old result self.new }
+        ensures less { bytes_left self.new ≤ bytes_left self.old }
     {
         match self.take_field() {
             Some(field) => Ok(field),

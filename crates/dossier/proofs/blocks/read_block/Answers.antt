@@ -5,45 +5,52 @@ use Rattle.dossier.proofs.blocks.read_block.Goals as goal
 
 pub returns-in_err-field-clause-reads : goal.returns-in_err-field-clause-reads
 returns-in_err-field-clause-reads c world name user showing same of =
-    block-missing c.args.told.schema.now world name user showing c.args.lines.now c.take_line.new.self _ c.in_err-field.ensures
+    block-missing c.args.told.schema.now world name user showing c.args.lines.now c.take_line.new.self _ c.in_err-field.ensures.takes
 
 pub returns-in_err-read_open-clause-reads : goal.returns-in_err-read_open-clause-reads
 returns-in_err-read_open-clause-reads c world name user showing same of =
-    block-open-refused c.args.told.schema.now world name user showing c.args.lines.now c.take_line.new.self c.in_ok-field.field c.in_ok-field.ensures _ _
+    block-open-refused c.args.told.schema.now world name user showing c.args.lines.now c.take_line.new.self
+    c.in_ok-field.field c.in_ok-field.ensures.takes _ _
     same (search (rules, tests)) c.in_err-read_open.ensures
 
 pub returns-then-eq-clause-reads : goal.returns-then-eq-clause-reads
 returns-then-eq-clause-reads c world name user showing same of =
-    block-opens c.args.told.schema.now world name user showing c.args.lines.now c.take_line.new.self c.in_ok-field.field c.in_ok-field.ensures _
+    block-opens c.args.told.schema.now world name user showing c.args.lines.now c.take_line.new.self
+    c.in_ok-field.field c.in_ok-field.ensures.takes _
     same (search (rules, tests)) c.in_ok-read_open.ensures
 
 pub returns-then-not-is_alone-clause-reads : goal.returns-then-not-is_alone-clause-reads
 returns-then-not-is_alone-clause-reads c world name user showing same of =
-    block-form c.args.told.schema.now world name user showing c.args.lines.now c.take_line.new.self c.in_ok-field.field c.in_ok-field.ensures
+    block-form c.args.told.schema.now world name user showing c.args.lines.now c.take_line.new.self
+    c.in_ok-field.field c.in_ok-field.ensures.takes
     (search (rules, tests)) (search (rules, tests))
 
 pub returns-in_err-may_follow-clause-reads : goal.returns-in_err-may_follow-clause-reads
 returns-in_err-may_follow-clause-reads c world name user showing same of =
-    block-may-not c.args.told.schema.now world name user showing c.args.lines.now c.take_line.new.self c.in_ok-field.field c.in_ok-field.ensures
+    block-may-not c.args.told.schema.now world name user showing c.args.lines.now c.take_line.new.self
+    c.in_ok-field.field c.in_ok-field.ensures.takes
     c.args.reason of (search (rules, tests)) (search (rules, tests)) _ c.in_err-may_follow.ensures
 
 pub returns-in_err-read-clause-reads : goal.returns-in_err-read-clause-reads
 returns-in_err-read-clause-reads c world name user showing same of =
-    block-refused c.args.told.schema.now world name user showing c.args.lines.now c.take_line.new.self c.in_ok-field.field c.in_ok-field.ensures
+    block-refused c.args.told.schema.now world name user showing c.args.lines.now c.take_line.new.self
+    c.in_ok-field.field c.in_ok-field.ensures.takes
     c.args.reason of (search (rules, tests)) (search (rules, tests)) c.read_refutation.new.lines _ _ c.in_ok-may_follow.ensures
     (c.in_err-read.ensures.reads c.args.told.schema.now world name user showing)
 
 -- the refutation was confirmed, or wasn't
 pub returns-then-branch-clause-reads : goal.returns-then-branch-clause-reads
 returns-then-branch-clause-reads c world name user showing same of =
-    block-ended c.args.told.schema.now world name user showing c.args.lines.now c.take_line.new.self c.in_ok-field.field c.in_ok-field.ensures
+    block-ended c.args.told.schema.now world name user showing c.args.lines.now c.take_line.new.self
+    c.in_ok-field.field c.in_ok-field.ensures.takes
     c.args.reason of (search (rules, tests)) (search (rules, tests)) c.read_refutation.new.lines c.in_ok-read.read.1 (lines_of c.in_ok-read.read.0) true
     c.in_ok-may_follow.ensures (c.in_ok-read.ensures.reads c.args.told.schema.now world name user showing)
     (search (rules, tests, same))
 
 pub returns-else-branch-clause-reads : goal.returns-else-branch-clause-reads
 returns-else-branch-clause-reads c world name user showing same of =
-    block-ended c.args.told.schema.now world name user showing c.args.lines.now c.take_line.new.self c.in_ok-field.field c.in_ok-field.ensures
+    block-ended c.args.told.schema.now world name user showing c.args.lines.now c.take_line.new.self
+    c.in_ok-field.field c.in_ok-field.ensures.takes
     c.args.reason of (search (rules, tests)) (search (rules, tests)) c.read_refutation.new.lines c.in_ok-read.read.1 (lines_of c.in_ok-read.read.0) false
     c.in_ok-may_follow.ensures (c.in_ok-read.ensures.reads c.args.told.schema.now world name user showing)
     (search (rules, tests, same))

@@ -21,37 +21,41 @@ loop-field-preserved c = record {
   reads = λ schema world name user showing.
       c.loop-field.invariant.reads schema world name user showing
       ∙ step-more schema world name user showing (map line_of c.loop-field.read.items) c.loop-field.lines c.take_field.new.self
-      c.in-Some.field (rw c.in-Some.is at c.take_field.ensures) (Some (line_of c.in-Some-line.line)) (search (rules, tests)) (search rules)
+      c.in-Some.field (rw c.in-Some.is at c.take_field.ensures.passes) (Some (line_of c.in-Some-line.line)) (search (rules, tests)) (search rules)
       ∙ ap (λ lines. answer schema world name user (Ok (step showing lines)) c.take_field.new.self)
       (sym (ap (map line_of) c.in_ok-push.ensures.pushed ∙ map-append line_of c.loop-field.read.items (c.in-Some-line.line ∷ [])));
   less = omega (arith, c.loop-field.invariant.less);
 }
+
+-- a line that was taken makes what is left shorter
+pub loop-field-smaller : goal.loop-field-smaller
+loop-field-smaller c = let (here, at, next, less) = rw c.in-Some.is at c.take_field.ensures.passes in omega (arith, less)
 
 -- which writes none
 pub returns-in-None-clause-reads : goal.returns-in-None-clause-reads
 returns-in-None-clause-reads c schema world name user showing =
     c.loop-field.invariant.reads schema world name user showing
     ∙ step-more schema world name user showing (map line_of c.loop-field.read.items) c.loop-field.lines c.take_field.new.self
-    c.in-Some.field (rw c.in-Some.is at c.take_field.ensures) None (search (rules, tests)) (search rules)
+    c.in-Some.field (rw c.in-Some.is at c.take_field.ensures.passes) None (search (rules, tests)) (search rules)
 
 -- the end
 pub returns-then-is_alone-clause-reads : goal.returns-then-is_alone-clause-reads
 returns-then-is_alone-clause-reads c schema world name user showing =
     c.loop-field.invariant.reads schema world name user showing
     ∙ step-ends schema world name user showing (map line_of c.loop-field.read.items) c.loop-field.lines c.take_field.new.self
-    c.in-Some.field (rw c.in-Some.is at c.take_field.ensures) (search (rules, tests)) (search (rules, tests))
+    c.in-Some.field (rw c.in-Some.is at c.take_field.ensures.passes) (search (rules, tests)) (search (rules, tests))
 
 -- neither
 pub returns-else-is_alone-clause-reads : goal.returns-else-is_alone-clause-reads
 returns-else-is_alone-clause-reads c schema world name user showing =
     c.loop-field.invariant.reads schema world name user showing
     ∙ step-form schema world name user showing (map line_of c.loop-field.read.items) c.loop-field.lines c.take_field.new.self
-    c.in-Some.field (rw c.in-Some.is at c.take_field.ensures) (search (rules, tests)) (search (rules, tests))
+    c.in-Some.field (rw c.in-Some.is at c.take_field.ensures.passes) (search (rules, tests)) (search (rules, tests))
 
 -- the end is missing
 pub returns-clause-reads : goal.returns-clause-reads
 returns-clause-reads c schema world name user showing =
     c.loop-field.invariant.reads schema world name user showing
     ∙ answer-end schema world name user (step showing (map line_of c.loop-field.read.items)) c.loop-field.lines c.take_field.new.self
-    (rw c.in_default.is at c.take_field.ensures)
+    (rw c.in_default.is at c.take_field.ensures.passes)
     ∙ ap (λ n. Err (refused.Form n)) (search rules)

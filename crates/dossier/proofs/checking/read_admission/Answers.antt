@@ -72,12 +72,12 @@ read_each-requires-clause-grounded_goals c =
 pub returns-in_err-field-clause-reads : goal.returns-in_err-field-clause-reads
 returns-in_err-field-clause-reads c name =
     line-missing (past_schema c.args.past.now) c.args.world.now name (past_user c.args.past.now) admission c.args.lines.now c.take_line.new.self _ _ refl
-    c.in_err-field.ensures
+    c.in_err-field.ensures.takes
 
 pub returns-then-not-is_alone-clause-reads : goal.returns-then-not-is_alone-clause-reads
 returns-then-not-is_alone-clause-reads c name =
     line-says (past_schema c.args.past.now) c.args.world.now name (past_user c.args.past.now) admission c.args.lines.now c.take_line.new.self
-    c.in_ok-field.field _ c.in_ok-field.ensures
+    c.in_ok-field.field _ c.in_ok-field.ensures.takes
     (admission-form (past_schema c.args.past.now) c.args.world.now name (past_user c.args.past.now) (field_said c.in_ok-field.field)
     (search (rules, tests)))
 
@@ -85,7 +85,7 @@ returns-then-not-is_alone-clause-reads c name =
 pub returns-then-not-knows_truth_by-clause-reads : goal.returns-then-not-knows_truth_by-clause-reads
 returns-then-not-knows_truth_by-clause-reads c name =
     line-says (past_schema c.args.past.now) c.args.world.now name (past_user c.args.past.now) admission c.args.lines.now c.take_line.new.self
-    c.in_ok-field.field _ c.in_ok-field.ensures
+    c.in_ok-field.field _ c.in_ok-field.ensures.takes
     (admission-untrue (past_schema c.args.past.now) c.args.world.now name (past_user c.args.past.now) (field_said c.in_ok-field.field)
     (search (rules, tests)) (search (rules, tests)))
 
@@ -97,7 +97,7 @@ returns-in_err-read_each-clause-reads c name =
     let same : told ≡ past_history c.args.past.now = ap (map answered_query_of) c.as_slice.ensures.value in
     let are = c.sentences.ensures.sentences ∙ c.requires.kept.guarded_now ∙ ap (λ es. guarded (user_at user es)) (sym same) in
     admission-refused schema c.args.world.now name user c.args.lines.now c.take_line.new.self c.read_each.new.lines c.in_ok-field.field
-    c.in_ok-field.ensures (search (rules, tests)) (search (rules, tests)) (length c.sentences.result.now)
+    c.in_ok-field.ensures.takes (search (rules, tests)) (search (rules, tests)) (length c.sentences.result.now)
     (probes_against (log user told ++ []) (map sentence_of c.sentences.result.now) ++ [])
     (admission-probes c.law_logs.ensures.empty c.law_added_secrets.ensures.empty user told (map sentence_of c.sentences.result.now)
     (same ∙ c.requires.none) are) _
@@ -111,7 +111,7 @@ returns-clause-reads c name =
     let same : told ≡ past_history c.args.past.now = ap (map answered_query_of) c.as_slice.ensures.value in
     let are = c.sentences.ensures.sentences ∙ c.requires.kept.guarded_now ∙ ap (λ es. guarded (user_at user es)) (sym same) in
     admission-reads schema c.args.world.now name user c.args.lines.now c.take_line.new.self c.read_each.new.lines c.in_ok-field.field
-    c.in_ok-field.ensures (search (rules, tests)) (search (rules, tests)) (length c.sentences.result.now)
+    c.in_ok-field.ensures.takes (search (rules, tests)) (search (rules, tests)) (length c.sentences.result.now)
     (probes_against (log user told ++ []) (map sentence_of c.sentences.result.now) ++ [])
     (admission-probes c.law_logs.ensures.empty c.law_added_secrets.ensures.empty user told (map sentence_of c.sentences.result.now)
     (same ∙ c.requires.none) are) _

@@ -9,20 +9,20 @@ use Rattle.dossier.proofs.checking.read_head.Goals as goal
 pub returns-in_err-field-clause-reads : goal.returns-in_err-field-clause-reads
 returns-in_err-field-clause-reads c schema world =
     line-missing schema world (string_bytes c.args.user.now.name) (profile_of c.args.user.now) head c.args.lines.now c.take_line.new.self _ _ refl
-    c.in_err-field.ensures
+    c.in_err-field.ensures.takes
 
 -- the line isn't that of a user
 pub returns-then-ne-clause-reads : goal.returns-then-ne-clause-reads
 returns-then-ne-clause-reads c schema world =
     line-says schema world (string_bytes c.args.user.now.name) (profile_of c.args.user.now) head c.args.lines.now c.take_line.new.self
-    c.in_ok-field.field _ c.in_ok-field.ensures
+    c.in_ok-field.field _ c.in_ok-field.ensures.takes
     (head-form schema world _ _ (field_said c.in_ok-field.field) (search (rules, tests)))
 
 -- he is this one, and open
 pub returns-then-branch-clause-reads : goal.returns-then-branch-clause-reads
 returns-then-branch-clause-reads c schema world =
     line-says schema world (string_bytes c.args.user.now.name) (profile_of c.args.user.now) head c.args.lines.now c.take_line.new.self
-    c.in_ok-field.field _ c.in_ok-field.ensures
+    c.in_ok-field.field _ c.in_ok-field.ensures.takes
     (head-open schema world _ _ (field_said c.in_ok-field.field) (search (rules, tests))
     (sym c.in_ok-says_head.ensures ∙ search (rules, tests)))
 
@@ -30,7 +30,7 @@ returns-then-branch-clause-reads c schema world =
 pub returns-then-closed-clause-reads : goal.returns-then-closed-clause-reads
 returns-then-closed-clause-reads c schema world =
     line-says schema world (string_bytes c.args.user.now.name) (profile_of c.args.user.now) head c.args.lines.now c.take_line.new.self
-    c.in_ok-field.field _ c.in_ok-field.ensures
+    c.in_ok-field.field _ c.in_ok-field.ensures.takes
     (head-closed schema world _ _ (field_said c.in_ok-field.field) (search (rules, tests))
     (sym c.in_ok-says_head.ensures ∙ search (rules, tests))
     (sym c.in_ok-closed.ensures ∙ search (rules, tests)))
@@ -38,7 +38,7 @@ returns-then-closed-clause-reads c schema world =
 pub returns-then-sealed-clause-reads : goal.returns-then-sealed-clause-reads
 returns-then-sealed-clause-reads c schema world =
     line-says schema world (string_bytes c.args.user.now.name) (profile_of c.args.user.now) head c.args.lines.now c.take_line.new.self
-    c.in_ok-field.field _ c.in_ok-field.ensures
+    c.in_ok-field.field _ c.in_ok-field.ensures.takes
     (head-sealed schema world _ _ (field_said c.in_ok-field.field) (search (rules, tests))
     (sym c.in_ok-says_head.ensures ∙ search (rules, tests))
     (sym c.in_ok-closed.ensures ∙ search (rules, tests))
@@ -48,7 +48,7 @@ returns-then-sealed-clause-reads c schema world =
 pub returns-clause-reads : goal.returns-clause-reads
 returns-clause-reads c schema world =
     line-says schema world (string_bytes c.args.user.now.name) (profile_of c.args.user.now) head c.args.lines.now c.take_line.new.self
-    c.in_ok-field.field _ c.in_ok-field.ensures
+    c.in_ok-field.field _ c.in_ok-field.ensures.takes
     (head-other schema world _ _ (field_said c.in_ok-field.field) (search (rules, tests))
     (sym c.in_ok-says_head.ensures ∙ search (rules, tests))
     (sym c.in_ok-closed.ensures ∙ search (rules, tests))

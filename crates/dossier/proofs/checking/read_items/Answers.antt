@@ -20,14 +20,14 @@ returns-in_err-field-clause-reads c name =
     let so_far = past_history c.loop-field.past in
     reads-refused schema c.args.world.now name user (Ok (item (past_history c.args.past.now))) c.args.lines.now c.take_line.new.self
     (λ _. Ok (nothing so_far)) c.loop-field.lines (Ok (item so_far)) (λ _. Ok (nothing so_far)) _ (c.loop-field.invariant.reads name)
-    (line-missing schema c.args.world.now name user (item so_far) c.loop-field.lines c.take_line.new.self _ _ refl c.in_err-field.ensures)
+    (line-missing schema c.args.world.now name user (item so_far) c.loop-field.lines c.take_line.new.self _ _ refl c.in_err-field.ensures.takes)
 
 -- the line of the end
 pub returns-then-branch-clause-reads : goal.returns-then-branch-clause-reads
 returns-then-branch-clause-reads c name =
     items-done (past_schema c.args.past.now) c.args.world.now name (past_user c.args.past.now) (past_history c.args.past.now)
     (past_history c.loop-field.past) c.args.lines.now c.loop-field.lines c.take_line.new.self c.in_ok-field.field
-    (c.loop-field.invariant.reads name) c.in_ok-field.ensures (sym c.in_ok-says_done.ensures ∙ search (rules, tests))
+    (c.loop-field.invariant.reads name) c.in_ok-field.ensures.takes (sym c.in_ok-says_done.ensures ∙ search (rules, tests))
 
 -- the line is no end's
 pub read_item-requires-clause-not_done : goal.read_item-requires-clause-not_done
@@ -38,7 +38,7 @@ pub returns-in_err-read_item-clause-reads : goal.returns-in_err-read_item-clause
 returns-in_err-read_item-clause-reads c name =
     items-refused (past_schema c.args.past.now) c.args.world.now name (past_user c.args.past.now) (past_history c.args.past.now)
     (past_history c.loop-field.past) c.args.lines.now c.loop-field.lines c.take_line.new.self c.in_ok-field.field
-    (c.loop-field.invariant.reads name) c.in_ok-field.ensures (past_history c.read_item.new.past) _ c.read_item.new.lines _
+    (c.loop-field.invariant.reads name) c.in_ok-field.ensures.takes (past_history c.read_item.new.past) _ c.read_item.new.lines _
     (item-at _ _ _ _ _ _ _ _ _ _ _ _ c.loop-field.invariant.same.schema c.loop-field.invariant.same.user (c.in_err-read_item.ensures.reads name))
 
 pub returns-in_err-read_item-clause-same : goal.returns-in_err-read_item-clause-same
@@ -58,12 +58,12 @@ loop-field-preserved c = record {
   reads = λ name.
       items-more (past_schema c.args.past.now) c.args.world.now name (past_user c.args.past.now) (past_history c.args.past.now)
       (past_history c.loop-field.past) c.args.lines.now c.loop-field.lines c.take_line.new.self c.in_ok-field.field
-      (c.loop-field.invariant.reads name) c.in_ok-field.ensures (past_history c.read_item.new.past) c.read_item.new.lines
+      (c.loop-field.invariant.reads name) c.in_ok-field.ensures.takes (past_history c.read_item.new.past) c.read_item.new.lines
       (item-at _ _ _ _ _ _ _ _ _ _ _ _ c.loop-field.invariant.same.schema c.loop-field.invariant.same.user (c.in_ok-read_item.ensures.reads name));
 }
 
 -- a line that was taken makes what is left shorter
 pub loop-field-smaller : goal.loop-field-smaller
 loop-field-smaller c =
-    let less = c.in_ok-field.ensures.3 in
+    let less = c.in_ok-field.ensures.takes.3 in
     omega (arith, c.read_item.ensures.less)
