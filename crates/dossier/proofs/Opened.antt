@@ -5,7 +5,6 @@ use Rattle.std.specs.FinSet as set
 use Rattle.std.specs.List.Sorted.{IsStrictlySortedBy}
 use Rattle.std.proofs.lemmas.List.{length-map, map-append}
 use Rattle.std.proofs.lemmas.List.Filters.{length-filter_both}
-use Rattle.std.proofs.lemmas.List.Sums.{sum_by-append}
 use Rattle.cqe_base.specs.declared.world.Fact.{Fact}
 use Rattle.cqe_base.specs.Schema.{DatabaseSchema, Text}
 use Rattle.cqe_base.specs.Facts.{FactSet, fact_cmp}
@@ -19,7 +18,6 @@ use Rattle.cqe_base.specs.Entailment.{Signed, holds_in, all_hold_in, IsCountermo
 use Rattle.cqe_base.specs.Machine.{End, Model, Refuted}
 use Rattle.cqe_base.specs.MachineLaws.{VariablesAreFew, NumberedFactsAreFew}
 use Rattle.cqe_base.specs.Outcome.{grounded_signed, grounded_probe}
-use Rattle.cqe_base.specs.Censor.{Probe}
 use Rattle.cqe_base.proofs.Worlds.{fact_cmp_total}
 use Rattle.cqe_base.proofs.FactSets.{len-from_list}
 use Rattle.std.specs.Prelude.{Option, Some, None}
@@ -28,10 +26,7 @@ use Rattle.entailment.specs.Forms.{with_negated}
 use Rattle.entailment.specs.Verdicts.{verdict_of_probe, verdict_of_end, end_of_probe}
 use Rattle.entailment.specs.declared.probes.Verdict.TheVariants.{Open}
 use Rattle.entailment.proofs.LogNodes.{grounded-nodes, probe-nodes}
-use Rattle.audit_print.specs.Said.{IsListing}
 use Rattle.audit_print.proofs.Atoms.{all_listed}
-use Rattle.dossier.specs.Words.{world_of}
-use Rattle.dossier.specs.Checked.{is_countermodel}
 use Rattle.dossier.specs.Written.{sign_text, IsOpenBlock, IsOpenListing}
 
 -- ---- signs
@@ -82,10 +77,10 @@ module _ (schema : DatabaseSchema) (log premise : List Signed) (goal : Signed) w
 
   -- a world that a search found has at most 100,000 facts
   pub found-few : GroundingKeepsNodes → VariablesAreFew → NumberedFactsAreFew
-      → log_nodes schema log + sentence_nodes schema premise + nodes schema goal.0 ≤ 100000 → (budget : ℕ) (world : FactSet) (listing : List Fact)
-      → Open world ≡ verdict_of_probe schema (log ++ premise) goal budget → set.from_list listing ≡ world → IsStrictlySortedBy fact_cmp listing
-      → length listing ≤ 100000
-  found-few keeps variables facts small budget world listing verdict is sorted =
+      → log_nodes schema log + sentence_nodes schema premise + nodes schema goal.0 ≤ 100000 → (budget : ℕ) (world : FactSet)
+      → Open world ≡ verdict_of_probe schema (log ++ premise) goal budget → (listing : List Fact) → set.from_list listing ≡ world
+      → IsStrictlySortedBy fact_cmp listing → length listing ≤ 100000
+  found-few keeps variables facts small budget world verdict listing is sorted =
       by (end_of_probe schema (log ++ premise) goal budget) verdict
     where
       few : length (numbering_of (grounded_probe schema (log ++ premise) goal)).facts ≤ 100000

@@ -74,8 +74,12 @@ asked-probes schema user before Protected query asked isnt = absurd cc
 -- ---- the mark of the rule
 
 by-cost : (m : Method) (s : Bool) (given : Option Bool) (yes no truth : Bool) → mark_by m s given yes no truth ≢ Undecided → s ≡ false
-by-cost m true given yes no truth isnt = absurd (isnt refl)
-by-cost m false given yes no truth isnt = refl
+by-cost Lying true given yes no truth isnt = absurd (isnt refl)
+by-cost Refusal true given yes no truth isnt = absurd (isnt refl)
+by-cost Combined true given yes no truth isnt = absurd (isnt refl)
+by-cost Lying false given yes no truth isnt = refl
+by-cost Refusal false given yes no truth isnt = refl
+by-cost Combined false given yes no truth isnt = refl
 
 -- where the rule decides, no probe is spent
 pub rule-unspent : (schema : DatabaseSchema) (world : FactSet) (user : UserProfile) (told : List Signed) (query : Formula)
@@ -198,9 +202,6 @@ part-at f (x ∷ read) next rest (b ∷ before) (e ∷ entries) all so_far =
     let (entry, after, parts, is) = part-at f read next rest before entries tails befores in
     (entry, after, (λ i. same i ∷ parts i), is)
 
-heads_of : {X : Type 0} {x y : X} {xs ys : List X} → x ∷ xs ≡ y ∷ ys → x ≡ y
-heads_of is = cc
-
 module _ (schema : DatabaseSchema) (user : UserProfile) where
   -- one more item
   pub items-more : (before : History) (records : List Recorded) (history : History) (next : Recorded) (entry : AnsweredQuery) (text more : Text)
@@ -212,7 +213,8 @@ module _ (schema : DatabaseSchema) (user : UserProfile) where
   items-more before [] (h ∷ history) next entry text more stands is none item = absurd cc
   items-more before (r ∷ records) [] next entry text more stands is items item = absurd cc
   items-more before (r ∷ records) (h ∷ history) next entry text more stands is (e, e_is, first, rest, e_item, others, parts) item =
-      let heads : Some e ≡ Some h = sym e_is ∙ heads_of stands in
+      let here : entry_of schema r ≡ Some h = cc in
+      let heads : Some e ≡ Some h = sym e_is ∙ here in
       let same : h ≡ e = cc in
       let tails : map (entry_of schema) records ≡ map Some history = cc in
       let where_at : before ++ (h ∷ history) ≡ (before ++ e ∷ []) ++ history =
