@@ -1,8 +1,9 @@
 -- What each way out of the reading of a block says.
-use Rattle.std.proofs.Common.{◌≡◌, ℕ, Bool, true, false, List, [], Option, Some, Result, Ok, Err, refl, sym, ap, ◌∙◌}
+use Rattle.std.proofs.Common.{◌≡◌, ℕ, Bool, true, false, List, [], ◌++◌, Option, Some, Result, Ok, Err, refl, sym, ap, ◌∙◌}
 use Rattle.std.specs.Prelude.{if◌then◌else◌, bytes_eq, codes}
 use Rattle.cqe_base.specs.Schema.{DatabaseSchema, Text}
 use Rattle.cqe_base.specs.Facts.{FactSet}
+use Rattle.cqe_base.specs.Entailment.{Signed}
 use Rattle.cqe_base.specs.History.{UserProfile}
 use Rattle.cqe_base.specs.Refutation.{RefutationLine, is_refutation}
 use Rattle.entailment.specs.Certificates.{clauses_of_probe}
@@ -17,6 +18,15 @@ use Rattle.dossier.specs.declared.error.DossierError.{DossierError}
 use Rattle.dossier.specs.declared.error.DossierError.TheVariants as refused
 use Rattle.dossier.proofs.Reads.{answer-line, answer-end, reads-err, reads-refused, block-open, block-follows, block-other, open-shows, open-refused}
 use Rattle.dossier.proofs.Reads.{follows-reads, follows-refused, step-line, step-end, step-other, end-shows}
+
+-- what is confirmed of the view's log is of the log that it has
+pub confirmed-is : (schema schema' : DatabaseSchema) (told told' premise : List Signed) (goal : Signed) (probe : Probed) (lines : List RefutationLine)
+    (confirmed : Bool) → schema' ≡ schema → told' ≡ told → probe ≡ record { premises = told ++ premise; goal = goal }
+    → confirmed ≡ is_refutation (clauses_of_probe schema' (told' ++ premise) goal) lines
+    → confirmed ≡ is_refutation (clauses_of_probe schema probe.premises probe.goal) lines
+confirmed-is schema schema' told told' premise goal probe lines confirmed s t same is =
+    is ∙ (λ i. is_refutation (clauses_of_probe (s i) (t i ++ premise) goal) lines)
+    ∙ ap (λ (p : Probed). is_refutation (clauses_of_probe schema p.premises p.goal) lines) (sym same)
 
 module _ (schema : DatabaseSchema) (world : FactSet) (name : Text) (user : UserProfile) where
   -- a line that has to be there is missing

@@ -106,11 +106,11 @@ pub(crate) fn read_block(
         return Err(DossierError::Form(field.line));
     }
     may_follow(reason, field.line)?;
-    let (refutation, end) = read_refutation(alloc, lines)?;
-    if confirm(alloc, view, probe, &refutation)? {
+    let read = read_refutation(alloc, lines)?;
+    if confirm(alloc, view, probe, &read.0)? {
         Ok(true)
     } else {
-        Err(DossierError::Verdict(end))
+        Err(DossierError::Verdict(read.1))
     }
 }
 

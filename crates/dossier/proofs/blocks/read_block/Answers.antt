@@ -1,6 +1,8 @@
-use Rattle.std.proofs.Common.{true, false, rules, tests}
+use Rattle.std.proofs.Common.{true, false, map, sym, ◌∙◌, rules, tests}
+use Rattle.cqe_base.specs.History.{profile_of, answered_query_of, log}
 use Rattle.clause_store.specs.PlainLines.{lines_of}
-use Rattle.dossier.proofs.BlockReads.{block-missing, block-opens, block-open-refused, block-form, block-may-not, block-refused, block-ended}
+use Rattle.entailment.specs.Probes.{premise_of, goal_of}
+use Rattle.dossier.proofs.BlockReads.{confirmed-is, block-missing, block-opens, block-open-refused, block-form, block-may-not, block-refused, block-ended}
 use Rattle.dossier.proofs.blocks.read_block.Goals as goal
 
 pub returns-in_err-field-clause-reads : goal.returns-in_err-field-clause-reads
@@ -45,7 +47,10 @@ returns-then-branch-clause-reads c world name user showing same of =
     c.in_ok-field.field c.in_ok-field.ensures.takes
     c.args.reason of (search (rules, tests)) (search (rules, tests)) c.read_refutation.new.lines c.in_ok-read.read.1 (lines_of c.in_ok-read.read.0) true
     c.in_ok-may_follow.ensures (c.in_ok-read.ensures.reads c.args.told.schema.now world name user showing)
-    (search (rules, tests, same))
+    (sym c.if-branch.true
+    ∙ confirmed-is c.args.told.schema.now _ (log (profile_of c.args.told.user.now) (map answered_query_of c.args.told.entries.now)) _
+    (premise_of c.args.probe.now) (goal_of c.args.probe.now) showing.probe (lines_of c.in_ok-read.read.0) _ c.requires.view.0 c.requires.view.1 same
+    c.in_ok-confirm.ensures.right)
 
 pub returns-else-branch-clause-reads : goal.returns-else-branch-clause-reads
 returns-else-branch-clause-reads c world name user showing same of =
@@ -53,4 +58,7 @@ returns-else-branch-clause-reads c world name user showing same of =
     c.in_ok-field.field c.in_ok-field.ensures.takes
     c.args.reason of (search (rules, tests)) (search (rules, tests)) c.read_refutation.new.lines c.in_ok-read.read.1 (lines_of c.in_ok-read.read.0) false
     c.in_ok-may_follow.ensures (c.in_ok-read.ensures.reads c.args.told.schema.now world name user showing)
-    (search (rules, tests, same))
+    (sym c.if-branch.false
+    ∙ confirmed-is c.args.told.schema.now _ (log (profile_of c.args.told.user.now) (map answered_query_of c.args.told.entries.now)) _
+    (premise_of c.args.probe.now) (goal_of c.args.probe.now) showing.probe (lines_of c.in_ok-read.read.0) _ c.requires.view.0 c.requires.view.1 same
+    c.in_ok-confirm.ensures.right)
