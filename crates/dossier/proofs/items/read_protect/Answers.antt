@@ -35,7 +35,7 @@ pub returns-in_default-clause-reads : goal.returns-in_default-clause-reads
 returns-in_default-clause-reads c world name =
     let past = c.args.past.now in
     let none : None ≡ sentence_in (past_schema past) world (past_user past) (past_history past) Protecting c.args.field.now.rest.now =
-    rw c.in_default.is at c.in_ok-secret.ensures world in
+    rw c.in_default.is at (c.in_ok-secret.ensures world) in
     ap (λ x. answer (past_schema past) world name (past_user past) x c.args.lines.now)
     (protect-unread (past_schema past) world name (past_user past) (past_history past) (field_said c.args.field.now) c.requires.protect
     (grind (arith, nat_tests)) none)
@@ -50,7 +50,7 @@ new-requires-clause-sentence c =
     let before = past_history past in
     let text = c.args.field.now.rest.now in
     let secret = formula_of c.in-Some.secret in
-    let read : Some secret ≡ sentence_in schema (world_of []) user before Protecting text = rw c.in-Some.is at c.in_ok-secret.ensures (world_of []) in
+    let read : Some secret ≡ sentence_in schema (world_of []) user before Protecting text = rw c.in-Some.is at (c.in_ok-secret.ensures (world_of [])) in
     let stands = some-within schema (world_of []) user before Protecting text secret read in
     let within = added-within schema (world_of []) user before (length text) secret stands.2 in
     let fits = c.law_amended_limits.ensures.additions schema user before secret c.requires.kept.limits c.requires.kept.sizes
@@ -66,7 +66,7 @@ new-requires-clause-small c =
     let before = past_history past in
     let text = c.args.field.now.rest.now in
     let secret = formula_of c.in-Some.secret in
-    let read : Some secret ≡ sentence_in schema (world_of []) user before Protecting text = rw c.in-Some.is at c.in_ok-secret.ensures (world_of []) in
+    let read : Some secret ≡ sentence_in schema (world_of []) user before Protecting text = rw c.in-Some.is at (c.in_ok-secret.ensures (world_of [])) in
     let stands = some-within schema (world_of []) user before Protecting text secret read in
     let within = added-within schema (world_of []) user before (length text) secret stands.2 in
     let fits = c.law_amended_limits.ensures.additions schema user before secret c.requires.kept.limits c.requires.kept.sizes
@@ -99,7 +99,7 @@ read_block-requires-clause-goal c =
     let before = past_history past in
     let text = c.args.field.now.rest.now in
     let secret = formula_of c.in-Some.secret in
-    let read : Some secret ≡ sentence_in schema (world_of []) user before Protecting text = rw c.in-Some.is at c.in_ok-secret.ensures (world_of []) in
+    let read : Some secret ≡ sentence_in schema (world_of []) user before Protecting text = rw c.in-Some.is at (c.in_ok-secret.ensures (world_of [])) in
     let stands = some-within schema (world_of []) user before Protecting text secret read in
     let within = added-within schema (world_of []) user before (length text) secret stands.2 in
     let fits = c.law_amended_limits.ensures.additions schema user before secret c.requires.kept.limits c.requires.kept.sizes
@@ -116,7 +116,7 @@ read_block-requires-clause-all_nodes c =
     let before = past_history past in
     let text = c.args.field.now.rest.now in
     let secret = formula_of c.in-Some.secret in
-    let read : Some secret ≡ sentence_in schema (world_of []) user before Protecting text = rw c.in-Some.is at c.in_ok-secret.ensures (world_of []) in
+    let read : Some secret ≡ sentence_in schema (world_of []) user before Protecting text = rw c.in-Some.is at (c.in_ok-secret.ensures (world_of [])) in
     let stands = some-within schema (world_of []) user before Protecting text secret read in
     let within = added-within schema (world_of []) user before (length text) secret stands.2 in
     let fits = c.law_amended_limits.ensures.additions schema user before secret c.requires.kept.limits c.requires.kept.sizes
@@ -143,7 +143,7 @@ returns-in_err-read_block-clause-reads c world name =
     let before = past_history past in
     let text = c.args.field.now.rest.now in
     let secret = formula_of c.in-Some.secret in
-    let read : Some secret ≡ sentence_in schema world user before Protecting text = rw c.in-Some.is at c.in_ok-secret.ensures world in
+    let read : Some secret ≡ sentence_in schema world user before Protecting text = rw c.in-Some.is at (c.in_ok-secret.ensures world) in
     let asks = ap (λ x. answer schema world name user x c.args.lines.now)
     (protect-read schema world name user before (field_said c.args.field.now) c.requires.protect (grind (arith, nat_tests)) secret read) in
     reads-refused schema world name user _ c.args.lines.now c.read_block.new.lines (λ _. Ok (item before))
@@ -171,7 +171,7 @@ size_of-length-requires c =
     let text = c.args.field.now.rest.now in
     let secret = formula_of c.in-Some.secret in
     let read : Some secret ≡ sentence_in (past_schema past) (world_of []) (past_user past) (past_history past) Protecting text =
-    rw c.in-Some.is at c.in_ok-secret.ensures (world_of []) in
+    rw c.in-Some.is at (c.in_ok-secret.ensures (world_of [])) in
     (some-within (past_schema past) (world_of []) (past_user past) (past_history past) Protecting text secret read).0
 
 -- the view is as it was
@@ -186,7 +186,7 @@ add_secret-requires-clause-fits c =
     let before = past_history past in
     let text = c.args.field.now.rest.now in
     let secret = formula_of c.in-Some.secret in
-    let read : Some secret ≡ sentence_in schema (world_of []) user before Protecting text = rw c.in-Some.is at c.in_ok-secret.ensures (world_of []) in
+    let read : Some secret ≡ sentence_in schema (world_of []) user before Protecting text = rw c.in-Some.is at (c.in_ok-secret.ensures (world_of [])) in
     let stands = some-within schema (world_of []) user before Protecting text secret read in
     let within = added-within schema (world_of []) user before (length text) secret stands.2 in
     let small = (or_parts (is_too_large schema user before secret) _ within.1).0 in
@@ -202,7 +202,7 @@ returns-clause-reads c world name =
     let before = past_history past in
     let text = c.args.field.now.rest.now in
     let secret = formula_of c.in-Some.secret in
-    let read : Some secret ≡ sentence_in schema world user before Protecting text = rw c.in-Some.is at c.in_ok-secret.ensures world in
+    let read : Some secret ≡ sentence_in schema world user before Protecting text = rw c.in-Some.is at (c.in_ok-secret.ensures world) in
     let asks = ap (λ x. answer schema world name user x c.args.lines.now)
     (protect-read schema world name user before (field_said c.args.field.now) c.requires.protect (grind (arith, nat_tests)) secret read) in
     asks

@@ -46,7 +46,7 @@ returns-in_err-findings-clause-reads c name size =
     shown-refused (past_schema past) c.args.world.now name (past_user past) (past_history past) c.args.line (formula_of c.args.query) size c.args.mark isnt
     c.args.lines.now c.read_findings.new.lines _ _
     (rw c.in_ok-query.ensures.same at
-    c.in_err-findings.ensures.reads c.args.world.now name (asking c.args.line c.args.mark (formula_of c.args.query) size) refl)
+    (c.in_err-findings.ensures.reads c.args.world.now name (asking c.args.line c.args.mark (formula_of c.args.query) size) refl))
 
 -- the mark is another
 pub returns-then-ne-clause-reads : goal.returns-then-ne-clause-reads
@@ -62,7 +62,7 @@ returns-then-ne-clause-reads c name size =
     other-mark (past_schema past) c.args.world.now name (past_user past) (past_history past) c.args.line (formula_of c.args.query) size c.args.mark isnt
     c.args.lines.now c.read_findings.new.lines c.in_ok-findings.findings c.decide.result decides
     (rw c.in_ok-query.ensures.same at
-    c.in_ok-findings.ensures.reads c.args.world.now name (asking c.args.line c.args.mark (formula_of c.args.query) size) refl)
+    (c.in_ok-findings.ensures.reads c.args.world.now name (asking c.args.line c.args.mark (formula_of c.args.query) size) refl))
     (search (rules, tests))
 
 -- or the one that was decided
@@ -79,5 +79,5 @@ returns-clause-reads c name size =
     shown-mark (past_schema past) c.args.world.now name (past_user past) (past_history past) c.args.line (formula_of c.args.query) size c.args.mark isnt
     c.args.lines.now c.read_findings.new.lines c.in_ok-findings.findings c.decide.result decides
     (rw c.in_ok-query.ensures.same at
-    c.in_ok-findings.ensures.reads c.args.world.now name (asking c.args.line c.args.mark (formula_of c.args.query) size) refl)
+    (c.in_ok-findings.ensures.reads c.args.world.now name (asking c.args.line c.args.mark (formula_of c.args.query) size) refl))
     (search (rules, tests))
