@@ -2,6 +2,7 @@ use Rattle.std.proofs.Common.{◌≤◌, ◌++◌, map, refl, sym, subst, ◌∙
 use Rattle.std.specs.Prelude.{nat_le}
 use Rattle.std.proofs.lemmas.Bool.{leb-true}
 use Rattle.std.proofs.lemmas.List.Elements.{All-get_or}
+use Rattle.std.proofs.lemmas.Result.{err_from_is_err_and}
 use Rattle.cqe_base.specs.Formula.{nodes, is_sentence_of}
 use Rattle.cqe_base.specs.History.{profile_of, answered_query_of, log}
 use Rattle.entailment.specs.GroundSentences.{sentence_of, IsGroundOver}
@@ -50,14 +51,16 @@ read_block-requires-clause-grounded_goal c =
 
 pub returns-in_err-follows-clause-reads : goal.returns-in_err-follows-clause-reads
 returns-in_err-follows-clause-reads c world name user entries task more shown of =
+    let p = err_from_is_err_and c.from_residual.result c.from_residual.ensures.1 in
     let schema = c.args.told.schema.now in
     let premises = log (profile_of c.args.told.user.now) (map answered_query_of c.args.told.entries.now) ++ premise_list c.args.premise in
-    one-refused schema world name user entries task premises more shown sentence_of c.args.goals.now c.loop-goal.goal-index c.goal-item.result
+    rw (p.1, p.2)
+    (one-refused schema world name user entries task premises more shown sentence_of c.args.goals.now c.loop-goal.goal-index c.goal-item.result
     c.goal-item.is c.loop-goal-test.true c.loop-goal.some c.args.lines.now c.loop-goal.lines c.read_block.new.lines _ _ _
     (c.loop-goal.invariant.reads world name user entries task more shown of)
     (λ verdicts. c.in_err-follows.ensures.reads world name user
     (showing_at schema world name user entries task premises more shown sentence_of c.args.goals.now c.loop-goal.goal-index c.goal-item.result verdicts)
-    refl of)
+    refl of))
 
 pub loop-goal-preserved : goal.loop-goal-preserved
 loop-goal-preserved c =

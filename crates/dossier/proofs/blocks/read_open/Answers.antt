@@ -1,5 +1,6 @@
 use Rattle.std.proofs.Common.{◌≡◌, Some, None, Ok, Err, map, sym, ap, ◌∙◌}
 use Rattle.std.specs.Prelude.{if◌then◌else◌}
+use Rattle.std.proofs.lemmas.Result.{err_from_is_err_and}
 use Rattle.cqe_base.specs.History.{profile_of, answered_query_of, log}
 use Rattle.dossier.specs.Words.{world_of, facts_listed}
 use Rattle.dossier.specs.Checked.{is_countermodel}
@@ -40,3 +41,15 @@ pub returns-else-is_countermodel : goal.returns-else-is_countermodel
 returns-else-is_countermodel c = λ isnt.
     ap (λ b. if b then Ok tt else Err (refused.Verdict c.args.field.now.line)) (sym c.if-is_countermodel.false)
     ∙ shown (goal.at.returns-else-is_countermodel c).After-is_countermodel
+
+-- ---- want of memory says nothing
+
+pub returns-in_err-facts : goal.returns-in_err-facts
+returns-in_err-facts c = λ isnt.
+    let p = err_from_is_err_and c.from_residual.result c.from_residual.ensures.1 in
+    absurd (isnt (p.1 ∙ ap Err p.2))
+
+pub returns-in_err-world : goal.returns-in_err-world
+returns-in_err-world c = λ isnt.
+    let p = err_from_is_err_and c.from_residual.result c.from_residual.ensures.1 in
+    absurd (isnt (p.1 ∙ ap Err p.2))

@@ -1,5 +1,6 @@
 use Rattle.std.proofs.Common.{[], ◌∷◌, ◌++◌, Some, None, Ok, Err, map, sym, ap, ◌∙◌, arith, rules, tests}
 use Rattle.std.proofs.lemmas.List.{map-append}
+use Rattle.std.proofs.lemmas.Result.{err_from_is_err_and}
 use Rattle.clause_store.specs.PlainLines.{line_of}
 use Rattle.dossier.specs.Checked.{step}
 use Rattle.dossier.specs.Reading.{answer}
@@ -59,3 +60,15 @@ returns-clause-reads c schema world name user showing =
     ∙ answer-end schema world name user (step showing (map line_of c.loop-field.read.items)) c.loop-field.lines c.take_field.new.self
     (rw c.in_default.is at c.take_field.ensures.passes)
     ∙ ap (λ n. Err (refused.Form n)) (search rules)
+
+-- ---- want of memory says nothing
+
+pub returns-in_err-line_in-clause-reads : goal.returns-in_err-line_in-clause-reads
+returns-in_err-line_in-clause-reads c schema world name user showing =
+    let p = err_from_is_err_and c.from_residual.result c.from_residual.ensures.1 in
+    rw (p.1, p.2) tt
+
+pub returns-in_err-push-clause-reads : goal.returns-in_err-push-clause-reads
+returns-in_err-push-clause-reads c schema world name user showing =
+    let p = err_from_is_err_and c.from_residual.result c.from_residual.ensures.1 in
+    rw (p.1, p.2) tt

@@ -2,6 +2,7 @@ use Rattle.std.proofs.Common.{◌≡◌, ◌≤◌, ◌+◌, [], ◌++◌, map, 
 use Rattle.std.specs.Prelude.{nat_le}
 use Rattle.std.specs.List.{list_all}
 use Rattle.std.specs.Prelude.{All}
+use Rattle.std.proofs.lemmas.Result.{err_from_is_err_and}
 use Rattle.cqe_base.specs.Formula.{nodes, is_sentence_of}
 use Rattle.cqe_base.specs.History.{answered_query_of, log, known, user_at, is_history_of}
 use Rattle.cqe_base.specs.Censor.{guarded, probes_against}
@@ -71,8 +72,10 @@ read_each-requires-clause-grounded_goals c =
 
 pub returns-in_err-field-clause-reads : goal.returns-in_err-field-clause-reads
 returns-in_err-field-clause-reads c name =
-    line-missing (past_schema c.args.past.now) c.args.world.now name (past_user c.args.past.now) admission c.args.lines.now c.take_line.new.self _ _ refl
-    c.in_err-field.ensures.takes
+    let p = err_from_is_err_and c.from_residual.result c.from_residual.ensures.1 in
+    rw (p.1, p.2)
+    (line-missing (past_schema c.args.past.now) c.args.world.now name (past_user c.args.past.now) admission c.args.lines.now c.take_line.new.self _ _ refl
+    c.in_err-field.ensures.takes)
 
 pub returns-then-not-is_alone-clause-reads : goal.returns-then-not-is_alone-clause-reads
 returns-then-not-is_alone-clause-reads c name =
@@ -91,17 +94,19 @@ returns-then-not-knows_truth_by-clause-reads c name =
 
 pub returns-in_err-read_each-clause-reads : goal.returns-in_err-read_each-clause-reads
 returns-in_err-read_each-clause-reads c name =
+    let p = err_from_is_err_and c.from_residual.result c.from_residual.ensures.1 in
     let schema = past_schema c.args.past.now in
     let user = past_user c.args.past.now in
     let told = map answered_query_of c.as_slice.result.now in
     let same : told ≡ past_history c.args.past.now = ap (map answered_query_of) c.as_slice.ensures.value in
     let are = c.sentences.ensures.sentences ∙ c.requires.kept.guarded_now ∙ ap (λ es. guarded (user_at user es)) (sym same) in
-    admission-refused schema c.args.world.now name user c.args.lines.now c.take_line.new.self c.read_each.new.lines c.in_ok-field.field
+    rw (p.1, p.2)
+    (admission-refused schema c.args.world.now name user c.args.lines.now c.take_line.new.self c.read_each.new.lines c.in_ok-field.field
     c.in_ok-field.ensures.takes (search (rules, tests)) (search (rules, tests)) (length c.sentences.result.now)
     (probes_against (log user told ++ []) (map sentence_of c.sentences.result.now) ++ [])
     (admission-probes c.law_logs.ensures.empty c.law_added_secrets.ensures.empty user told (map sentence_of c.sentences.result.now)
     (same ∙ c.requires.none) are) _
-    (c.in_err-read_each.ensures.reads c.args.world.now name user [] admitting [] [] refl)
+    (c.in_err-read_each.ensures.reads c.args.world.now name user [] admitting [] [] refl))
 
 pub returns-clause-reads : goal.returns-clause-reads
 returns-clause-reads c name =

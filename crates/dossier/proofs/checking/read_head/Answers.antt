@@ -1,5 +1,6 @@
 use Rattle.std.proofs.Common.{refl, sym, ◌∙◌, arith, rules, tests}
 use Rattle.std.specs.Prelude.{string_bytes}
+use Rattle.std.proofs.lemmas.Result.{err_from_is_err_and}
 use Rattle.cqe_base.specs.History.{profile_of}
 use Rattle.dossier.specs.Checked.{head}
 use Rattle.dossier.specs.Reading.{field_said}
@@ -8,8 +9,10 @@ use Rattle.dossier.proofs.checking.read_head.Goals as goal
 
 pub returns-in_err-field-clause-reads : goal.returns-in_err-field-clause-reads
 returns-in_err-field-clause-reads c schema world =
-    line-missing schema world (string_bytes c.args.user.now.name) (profile_of c.args.user.now) head c.args.lines.now c.take_line.new.self _ _ refl
-    c.in_err-field.ensures.takes
+    let p = err_from_is_err_and c.from_residual.result c.from_residual.ensures.1 in
+    rw (p.1, p.2)
+    (line-missing schema world (string_bytes c.args.user.now.name) (profile_of c.args.user.now) head c.args.lines.now c.take_line.new.self _ _ refl
+    c.in_err-field.ensures.takes)
 
 -- the line isn't that of a user
 pub returns-then-ne-clause-reads : goal.returns-then-ne-clause-reads
@@ -53,3 +56,20 @@ returns-clause-reads c schema world =
     (sym c.in_ok-says_head.ensures ∙ search (rules, tests))
     (sym c.in_ok-closed.ensures ∙ search (rules, tests))
     (sym c.in_ok-sealed.ensures ∙ search (rules, tests)))
+
+-- ---- want of memory says nothing
+
+pub returns-in_err-says_head-clause-reads : goal.returns-in_err-says_head-clause-reads
+returns-in_err-says_head-clause-reads c schema world =
+    let p = err_from_is_err_and c.from_residual.result c.from_residual.ensures.1 in
+    rw (p.1, p.2) tt
+
+pub returns-in_err-closed-clause-reads : goal.returns-in_err-closed-clause-reads
+returns-in_err-closed-clause-reads c schema world =
+    let p = err_from_is_err_and c.from_residual.result c.from_residual.ensures.1 in
+    rw (p.1, p.2) tt
+
+pub returns-in_err-sealed-clause-reads : goal.returns-in_err-sealed-clause-reads
+returns-in_err-sealed-clause-reads c schema world =
+    let p = err_from_is_err_and c.from_residual.result c.from_residual.ensures.1 in
+    rw (p.1, p.2) tt

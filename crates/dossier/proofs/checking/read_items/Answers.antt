@@ -1,4 +1,5 @@
 use Rattle.std.proofs.Common.{refl, sym, ◌∙◌, arith, rules, tests, Ok}
+use Rattle.std.proofs.lemmas.Result.{err_from_is_err_and}
 use Rattle.dossier.specs.Checked.{item, nothing}
 use Rattle.dossier.specs.Logs.{past_schema, past_user, past_history}
 use Rattle.dossier.proofs.Reads.{reads-refused}
@@ -15,12 +16,14 @@ loop-field-init c = record {
 -- the end is missing
 pub returns-in_err-field-clause-reads : goal.returns-in_err-field-clause-reads
 returns-in_err-field-clause-reads c name =
+    let p = err_from_is_err_and c.from_residual.result c.from_residual.ensures.1 in
     let schema = past_schema c.args.past.now in
     let user = past_user c.args.past.now in
     let so_far = past_history c.loop-field.past in
-    reads-refused schema c.args.world.now name user (Ok (item (past_history c.args.past.now))) c.args.lines.now c.take_line.new.self
+    rw (p.1, p.2)
+    (reads-refused schema c.args.world.now name user (Ok (item (past_history c.args.past.now))) c.args.lines.now c.take_line.new.self
     (λ _. Ok (nothing so_far)) c.loop-field.lines (Ok (item so_far)) (λ _. Ok (nothing so_far)) _ (c.loop-field.invariant.reads name)
-    (line-missing schema c.args.world.now name user (item so_far) c.loop-field.lines c.take_line.new.self _ _ refl c.in_err-field.ensures.takes)
+    (line-missing schema c.args.world.now name user (item so_far) c.loop-field.lines c.take_line.new.self _ _ refl c.in_err-field.ensures.takes))
 
 -- the line of the end
 pub returns-then-branch-clause-reads : goal.returns-then-branch-clause-reads
@@ -36,10 +39,12 @@ read_item-requires-clause-not_done c = sym c.in_ok-says_done.ensures ∙ search 
 -- it is no item's either, or one that is refused
 pub returns-in_err-read_item-clause-reads : goal.returns-in_err-read_item-clause-reads
 returns-in_err-read_item-clause-reads c name =
-    items-refused (past_schema c.args.past.now) c.args.world.now name (past_user c.args.past.now) (past_history c.args.past.now)
+    let p = err_from_is_err_and c.from_residual.result c.from_residual.ensures.1 in
+    rw (p.1, p.2)
+    (items-refused (past_schema c.args.past.now) c.args.world.now name (past_user c.args.past.now) (past_history c.args.past.now)
     (past_history c.loop-field.past) c.args.lines.now c.loop-field.lines c.take_line.new.self c.in_ok-field.field
     (c.loop-field.invariant.reads name) c.in_ok-field.ensures.takes (past_history c.read_item.new.past) _ c.read_item.new.lines _
-    (item-at _ _ _ _ _ _ _ _ _ _ _ _ c.loop-field.invariant.same.schema c.loop-field.invariant.same.user (c.in_err-read_item.ensures.reads name))
+    (item-at _ _ _ _ _ _ _ _ _ _ _ _ c.loop-field.invariant.same.schema c.loop-field.invariant.same.user (c.in_err-read_item.ensures.reads name)))
 
 pub returns-in_err-read_item-clause-same : goal.returns-in_err-read_item-clause-same
 returns-in_err-read_item-clause-same c = record {
@@ -67,3 +72,10 @@ pub loop-field-smaller : goal.loop-field-smaller
 loop-field-smaller c =
     let less = c.in_ok-field.ensures.takes.3 in
     omega (arith, c.read_item.ensures.less)
+
+-- ---- want of memory says nothing
+
+pub returns-in_err-says_done-clause-reads : goal.returns-in_err-says_done-clause-reads
+returns-in_err-says_done-clause-reads c name =
+    let p = err_from_is_err_and c.from_residual.result c.from_residual.ensures.1 in
+    rw (p.1, p.2) tt

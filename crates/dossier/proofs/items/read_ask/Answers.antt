@@ -1,6 +1,7 @@
 use Rattle.std.proofs.Common.{◌≡◌, Some, None, Ok, Err, length, sym, ap, ◌∙◌, arith}
 use Rattle.std.proofs.lemmas.Bool.Decides.{nat_tests}
 use Rattle.std.proofs.lemmas.List.{nil_from_length}
+use Rattle.std.proofs.lemmas.Result.{err_from_is_err_and}
 use Rattle.cqe_base.specs.declared.user.Purpose.TheVariants.{Asking}
 use Rattle.cqe_base.specs.Formula.{formula_of}
 use Rattle.cqe_base.specs.History.{answered_query_of}
@@ -68,6 +69,7 @@ shown_query-requires-clause-fits c =
 -- its blocks are refused
 pub returns-in_err-query-clause-reads : goal.returns-in_err-query-clause-reads
 returns-in_err-query-clause-reads c name =
+    let p = err_from_is_err_and c.from_residual.result c.from_residual.ensures.1 in
     let past = c.args.past.now in
     let schema = past_schema past in
     let world = c.args.world.now in
@@ -80,9 +82,10 @@ returns-in_err-query-clause-reads c name =
     (ask-read schema world name user before (field_said c.args.field.now) c.requires.ask
     c.first_word.result.0.now text c.first_word.ensures.word c.first_word.ensures.rest c.in-Some.mark c.in-Some.ensures
     (grind (arith, nat_tests)) query read) in
-    reads-refused schema world name user _ c.args.lines.now c.shown_query.new.lines (λ _. Ok (item (past_history c.shown_query.new.past)))
+    rw (p.1, p.2)
+    (reads-refused schema world name user _ c.args.lines.now c.shown_query.new.lines (λ _. Ok (item (past_history c.shown_query.new.past)))
     c.args.lines.now (asked schema world name user c.args.field.now.line before c.in-Some.mark (length text) (Some query)) _ _ asks
-    (c.in_err-query.ensures.reads name (length text))
+    (c.in_err-query.ensures.reads name (length text)))
 
 -- ---- the item
 
@@ -148,3 +151,15 @@ returns-clause-same c = record {
   schema = c.add_answered.ensures.same.schema ∙ c.shown_query.ensures.same.0.schema;
   user = c.add_answered.ensures.same.user ∙ c.shown_query.ensures.same.0.user;
 }
+
+-- ---- want of memory says nothing
+
+pub returns-in_err-asked-clause-reads : goal.returns-in_err-asked-clause-reads
+returns-in_err-asked-clause-reads c name =
+    let p = err_from_is_err_and c.from_residual.result c.from_residual.ensures.1 in
+    rw (p.1, p.2) tt
+
+pub returns-in_err-add_answered-clause-reads : goal.returns-in_err-add_answered-clause-reads
+returns-in_err-add_answered-clause-reads c name =
+    let p = err_from_is_err_and c.from_residual.result c.from_residual.ensures.1 in
+    rw (p.1, p.2) tt

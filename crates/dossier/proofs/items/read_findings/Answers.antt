@@ -1,4 +1,5 @@
 use Rattle.std.proofs.Common.{◌≡◌, true, false, [], ◌∷◌, ◌++◌, sym, subst, ◌∙◌}
+use Rattle.std.proofs.lemmas.Result.{err_from_is_err_and}
 use Rattle.cqe_base.specs.Formula.{is_sentence_of}
 use Rattle.cqe_base.specs.History.{log, user_at}
 use Rattle.cqe_base.specs.Censor.{guarded, probes_against}
@@ -41,17 +42,20 @@ read_harm-requires-2-clause-fits c =
 
 pub returns-in_err-implied-clause-reads : goal.returns-in_err-implied-clause-reads
 returns-in_err-implied-clause-reads c world name task of =
+    let p = err_from_is_err_and c.from_residual.result c.from_residual.ensures.1 in
     let past = c.args.past.now in
     let query = sentence_of c.args.query.now in
     let told = log (past_user past) (past_history past) in
     let goals = guarded (user_at (past_user past) (past_history past)) in
     let negated = probes_against (told ++ (query, false) ∷ []) goals in
     let asserted = probes_against (told ++ (query, true) ∷ []) goals in
-    first-refused (past_schema past) world name (past_user past) (past_history past) task query c.args.lines.now c.read_implied.new.lines _
-    (c.in_err-implied.ensures.reads world name task (asserted ++ negated) of)
+    rw (p.1, p.2)
+    (first-refused (past_schema past) world name (past_user past) (past_history past) task query c.args.lines.now c.read_implied.new.lines _
+    (c.in_err-implied.ensures.reads world name task (asserted ++ negated) of))
 
 pub returns-in_err-yes_harm-clause-reads : goal.returns-in_err-yes_harm-clause-reads
 returns-in_err-yes_harm-clause-reads c world name task of =
+    let p = err_from_is_err_and c.from_residual.result c.from_residual.ensures.1 in
     let past = c.args.past.now in
     let query = sentence_of c.args.query.now in
     let told = log (past_user past) (past_history past) in
@@ -59,13 +63,15 @@ returns-in_err-yes_harm-clause-reads c world name task of =
     let negated = probes_against (told ++ (query, false) ∷ []) goals in
     let asserted = probes_against (told ++ (query, true) ∷ []) goals in
     let one = c.read_implied.ensures.same in
-    second-refused (past_schema past) world name (past_user past) (past_history past) task query c.args.lines.now c.read_implied.new.lines c.read_harm.new.lines
-    c.in_ok-implied.implied _ (c.in_ok-implied.ensures.reads world name task (asserted ++ negated) of)
+    rw (p.1, p.2)
+    (second-refused (past_schema past) world name (past_user past) (past_history past) task query c.args.lines.now c.read_implied.new.lines
+    c.read_harm.new.lines c.in_ok-implied.implied _ (c.in_ok-implied.ensures.reads world name task (asserted ++ negated) of)
     (λ shown. harm-at (past_schema past) _ world name (past_user past) _ (past_history past) _ task (query, true) negated shown _ _ _
-    one.0.schema one.0.user one.1 (c.in_err-yes_harm.ensures.reads world name task negated shown of))
+    one.0.schema one.0.user one.1 (c.in_err-yes_harm.ensures.reads world name task negated shown of)))
 
 pub returns-in_err-no_harm-clause-reads : goal.returns-in_err-no_harm-clause-reads
 returns-in_err-no_harm-clause-reads c world name task of =
+    let p = err_from_is_err_and c.from_residual.result c.from_residual.ensures.1 in
     let past = c.args.past.now in
     let query = sentence_of c.args.query.now in
     let told = log (past_user past) (past_history past) in
@@ -74,13 +80,14 @@ returns-in_err-no_harm-clause-reads c world name task of =
     let asserted = probes_against (told ++ (query, true) ∷ []) goals in
     let one = c.read_implied.ensures.same in
     let two = c.read_harm.ensures.same in
-    third-refused (past_schema past) world name (past_user past) (past_history past) task query c.args.lines.now c.read_implied.new.lines c.read_harm.new.lines
+    rw (p.1, p.2)
+    (third-refused (past_schema past) world name (past_user past) (past_history past) task query c.args.lines.now c.read_implied.new.lines c.read_harm.new.lines
     c.read_harm-2.new.lines c.in_ok-implied.implied c.in_ok-yes_harm.yes_harm _
     (c.in_ok-implied.ensures.reads world name task (asserted ++ negated) of)
     (λ shown. harm-at (past_schema past) _ world name (past_user past) _ (past_history past) _ task (query, true) negated shown _ _ _
     one.0.schema one.0.user one.1 (c.in_ok-yes_harm.ensures.reads world name task negated shown of))
     (λ shown. harm-at (past_schema past) _ world name (past_user past) _ (past_history past) _ task (query, false) [] shown _ _ _
-    (two.0.schema ∙ one.0.schema) (two.0.user ∙ one.0.user) (two.1 ∙ one.1) (c.in_err-no_harm.ensures.reads world name task [] shown of))
+    (two.0.schema ∙ one.0.schema) (two.0.user ∙ one.0.user) (two.1 ∙ one.1) (c.in_err-no_harm.ensures.reads world name task [] shown of)))
 
 pub returns-clause-reads : goal.returns-clause-reads
 returns-clause-reads c world name task of =

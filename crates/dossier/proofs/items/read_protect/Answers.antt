@@ -2,6 +2,7 @@ use Rattle.std.proofs.Common.{◌≡◌, ◌≤◌, ◌+◌, [], ◌∷◌, ◌+
 use Rattle.std.proofs.lemmas.Bool.{or_parts}
 use Rattle.std.proofs.lemmas.Bool.Decides.{nat_tests}
 use Rattle.std.proofs.lemmas.List.{nil_from_length}
+use Rattle.std.proofs.lemmas.Result.{err_from_is_err_and}
 use Rattle.cqe_base.specs.declared.user.Mark.TheVariants.{Protected}
 use Rattle.cqe_base.specs.declared.user.Purpose.TheVariants.{Protecting}
 use Rattle.cqe_base.specs.Formula.{formula_of, nodes, is_sentence_of}
@@ -137,6 +138,7 @@ read_block-requires-clause-all_nodes c =
 -- it is refused
 pub returns-in_err-read_block-clause-reads : goal.returns-in_err-read_block-clause-reads
 returns-in_err-read_block-clause-reads c world name =
+    let p = err_from_is_err_and c.from_residual.result c.from_residual.ensures.1 in
     let past = c.args.past.now in
     let schema = past_schema past in
     let user = past_user past in
@@ -146,7 +148,8 @@ returns-in_err-read_block-clause-reads c world name =
     let read : Some secret ≡ sentence_in schema world user before Protecting text = rw c.in-Some.is at (c.in_ok-secret.ensures world) in
     let asks = ap (λ x. answer schema world name user x c.args.lines.now)
     (protect-read schema world name user before (field_said c.args.field.now) c.requires.protect (grind (arith, nat_tests)) secret read) in
-    reads-refused schema world name user _ c.args.lines.now c.read_block.new.lines (λ _. Ok (item before))
+    rw (p.1, p.2)
+    (reads-refused schema world name user _ c.args.lines.now c.read_block.new.lines (λ _. Ok (item before))
     c.args.lines.now
     (awaited_for schema world name user before (adding secret (length text)) (addition_probe user before secret ∷ []) []) _ _ asks
     (c.in_err-read_block.ensures.reads world name user
@@ -161,7 +164,7 @@ returns-in_err-read_block-clause-reads c world name =
     (ap (λ es. log user (map answered_query_of es)) c.as_slice.ensures.value)
     (ap formula_of c.in_ok-goal.ensures.same
     ∙ guard-at _ user before secret (formula_of c.in_ok-guarded.guarded) c.requires.kept.current c.in_ok-guarded.ensures))
-    refl)
+    refl))
 
 -- ---- the item
 
@@ -228,3 +231,25 @@ returns-in_err-add_secret-clause-same c = record { schema = c.add_secret.ensures
 
 pub returns-clause-same : goal.returns-clause-same
 returns-clause-same c = record { schema = c.add_secret.ensures.same.schema; user = c.add_secret.ensures.same.user }
+
+-- ---- want of memory says nothing
+
+pub returns-in_err-secret-clause-reads : goal.returns-in_err-secret-clause-reads
+returns-in_err-secret-clause-reads c world name =
+    let p = err_from_is_err_and c.from_residual.result c.from_residual.ensures.1 in
+    rw (p.1, p.2) tt
+
+pub returns-in_err-guarded-clause-reads : goal.returns-in_err-guarded-clause-reads
+returns-in_err-guarded-clause-reads c world name =
+    let p = err_from_is_err_and c.from_residual.result c.from_residual.ensures.1 in
+    rw (p.1, p.2) tt
+
+pub returns-in_err-goal-clause-reads : goal.returns-in_err-goal-clause-reads
+returns-in_err-goal-clause-reads c world name =
+    let p = err_from_is_err_and c.from_residual.result c.from_residual.ensures.1 in
+    rw (p.1, p.2) tt
+
+pub returns-in_err-add_secret-clause-reads : goal.returns-in_err-add_secret-clause-reads
+returns-in_err-add_secret-clause-reads c world name =
+    let p = err_from_is_err_and c.from_residual.result c.from_residual.ensures.1 in
+    rw (p.1, p.2) tt

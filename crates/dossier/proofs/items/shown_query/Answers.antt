@@ -1,4 +1,5 @@
 use Rattle.std.proofs.Common.{◌≡◌, ◌≢◌, ◌≤◌, true, refl, sym, ap, subst, ◌∙◌, arith, rules, tests}
+use Rattle.std.proofs.lemmas.Result.{err_from_is_err_and}
 use Rattle.cqe_base.specs.declared.user.Mark.TheVariants.{Undecided}
 use Rattle.cqe_base.specs.Formula.{formula_of, nodes, is_sentence_of}
 use Rattle.cqe_base.specs.Truth.{true_in}
@@ -41,12 +42,14 @@ returns-then-eq-clause-reads c name size =
 
 pub returns-in_err-findings-clause-reads : goal.returns-in_err-findings-clause-reads
 returns-in_err-findings-clause-reads c name size =
+    let p = err_from_is_err_and c.from_residual.result c.from_residual.ensures.1 in
     let past = c.args.past.now in
     let isnt : c.args.mark ≢ Undecided = search (rules, tests) in
-    shown-refused (past_schema past) c.args.world.now name (past_user past) (past_history past) c.args.line (formula_of c.args.query) size c.args.mark isnt
+    rw (p.1, p.2)
+    (shown-refused (past_schema past) c.args.world.now name (past_user past) (past_history past) c.args.line (formula_of c.args.query) size c.args.mark isnt
     c.args.lines.now c.read_findings.new.lines _ _
     (rw c.in_ok-query.ensures.same at
-    (c.in_err-findings.ensures.reads c.args.world.now name (asking c.args.line c.args.mark (formula_of c.args.query) size) refl))
+    (c.in_err-findings.ensures.reads c.args.world.now name (asking c.args.line c.args.mark (formula_of c.args.query) size) refl)))
 
 -- the mark is another
 pub returns-then-ne-clause-reads : goal.returns-then-ne-clause-reads
@@ -81,3 +84,10 @@ returns-clause-reads c name size =
     (rw c.in_ok-query.ensures.same at
     (c.in_ok-findings.ensures.reads c.args.world.now name (asking c.args.line c.args.mark (formula_of c.args.query) size) refl))
     (search (rules, tests))
+
+-- ---- want of memory says nothing
+
+pub returns-in_err-query-clause-reads : goal.returns-in_err-query-clause-reads
+returns-in_err-query-clause-reads c name size =
+    let p = err_from_is_err_and c.from_residual.result c.from_residual.ensures.1 in
+    rw (p.1, p.2) tt
