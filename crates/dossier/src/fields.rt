@@ -99,7 +99,7 @@ impl<'a> FieldIter<'a> {
     {
         match self.take_field() {
             Some(field) => Ok(field),
-            None => Err(DossierError::Form(self.line)),
+            None => Err(DossierError::Form(self.number())),
         }
     }
 }

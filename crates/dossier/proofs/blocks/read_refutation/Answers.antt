@@ -3,7 +3,7 @@ use Rattle.std.proofs.lemmas.List.{map-append}
 use Rattle.std.proofs.lemmas.Result.{err_from_is_err_and}
 use Rattle.clause_store.specs.PlainLines.{line_of}
 use Rattle.dossier.specs.Checked.{step}
-use Rattle.dossier.specs.Reading.{answer}
+use Rattle.dossier.specs.Reading.{answer, next_line}
 use Rattle.dossier.specs.declared.error.DossierError.TheVariants as refused
 use Rattle.dossier.proofs.Reads.{answer-end}
 use Rattle.dossier.proofs.BlockReads.{step-more, step-ends, step-form}
@@ -59,7 +59,7 @@ returns-clause-reads c schema world name user showing =
     c.loop-field.invariant.reads schema world name user showing
     ∙ answer-end schema world name user (step showing (map line_of c.loop-field.read.items)) c.loop-field.lines c.take_field.new.self
     (rw c.in_default.is at c.take_field.ensures.passes)
-    ∙ ap (λ n. Err (refused.Form n)) (search rules)
+    ∙ ap (λ n. Err (refused.Form n)) (sym (c.number.ensures ∙ ap next_line (rw c.in_default.is at c.take_field.ensures.passes).1))
 
 -- ---- want of memory says nothing
 
