@@ -21,7 +21,7 @@ use crate::blocks::{Reason, Told, read_block, read_each};
 use crate::error::DossierError;
 use crate::fields::{Field, FieldIter, first_word};
 use crate::past::Past;
-use crate::words::{mark_named, size_of};
+use crate::words::{is_same, is_undecided, mark_named, size_of};
 use censors::{Findings, decide, guard_with};
 use cqe_base::laws::{law_amended_limits, law_limits, law_reading, law_sizes};
 use cqe_base::sentence::Sentence;
@@ -96,13 +96,14 @@ fn shown_query(
     ensures same { IsSamePast past.old past.new }
     ensures less { bytes_left lines.new ≤ bytes_left lines.old }
 {
-    if mark == Mark::Undecided {
+    if is_undecided(mark) {
         return Ok(query);
     }
     let query = GroundSentence::new(alloc, past.schema, query)?;
     let findings = read_findings(alloc, past, &query, lines)?;
     let truth = holds(past.schema, world, &query.sentence);
-    if decide(past.user.method, &findings, truth) != mark {
+    let decided = decide(past.user.method, &findings, truth);
+    if !is_same(decided, mark) {
         return Err(DossierError::Mark(line));
     }
     Ok(query.sentence)

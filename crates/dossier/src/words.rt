@@ -1,9 +1,10 @@
 //! What the words of a dossier say: numbers, literals, lines of a refutation, and marks.
 ghost use Rattle.std.specs.Prelude.{◌≡◌, ◌<◌, ◌≤◌, ◌+◌, ◌^◌, true, nat_lt, length, map, position};
-ghost use Rattle.std.specs.Prelude.{option_map, Some, IfOk, IfSome};
+ghost use Rattle.std.specs.Prelude.{option_map, Some, IfOk, IfSome, IsTrue, ◌↔◌};
 ghost use Rattle.clause_store.specs.PlainLines.{line_of};
 ghost use Rattle.dossier.specs.Words.{all_some, has_leading_zero, number_of, literal_of, is_colon};
 ghost use Rattle.dossier.specs.Words.{words_of, line_by, line_of_words, line_in, mark_named};
+ghost use Rattle.dossier.specs.Told.{is_undecided};
 
 use clause_store::literal::Lit;
 use clause_store::refutation::Line;
@@ -47,6 +48,23 @@ pub(crate) fn mark_named(word: &str) -> Option<Mark>
     } else {
         None
     }
+}
+
+/// Whether this is the mark of an ask that wasn't decided.
+pub(crate) fn is_undecided(mark: Mark) -> bool
+    ensures { result ≡ is_undecided mark }
+{
+    match mark {
+        Mark::Undecided => true,
+        Mark::Yes | Mark::No | Mark::Refused | Mark::Protected => false,
+    }
+}
+
+/// Whether these are the same mark.
+pub(crate) fn is_same(first: Mark, second: Mark) -> bool
+    ensures { IsTrue result ↔ (first ≡ second) }
+{
+    first == second
 }
 
 /// The number that a word writes in decimal, without leading zeros.

@@ -28,13 +28,12 @@ ghost use Rattle.dossier.specs.Written.{IsBlock, AreBlocks, item_probes, IsDossi
 ghost use Rattle.dossier.specs.Written.{AreLegal, IsNextLegal, AreUnspent, IsWithin, Grows};
 ghost use Rattle.dossier.specs.Written.{IsAdmission, AreItems, head_text, done_text};
 ghost use Rattle.dossier.specs.Adding.{AddsItem, AddsSaid};
-ghost use Rattle.dossier.specs.Told.{is_undecided};
 
 use crate::checking::head_rest;
 use crate::items::is_refusal;
 use crate::past::Past;
 use crate::printed::push_block;
-use crate::words::size_of;
+use crate::words::{is_undecided, size_of};
 use audit_print::AuditError;
 use censors::{ADMISSION_BUDGET, guard_with};
 use cqe_base::laws::{law_added_secrets, law_amended_limits, law_limits, law_logs, law_reading};
@@ -406,16 +405,6 @@ fn push_probes(
         return Ok(query);
     }
     push_query(alloc, text, past, query)
-}
-
-/// Whether this is the mark of an ask that wasn't decided.
-fn is_undecided(mark: Mark) -> bool
-    ensures { result ≡ is_undecided mark }
-{
-    match mark {
-        Mark::Undecided => true,
-        Mark::Yes | Mark::No | Mark::Refused | Mark::Protected => false,
-    }
 }
 
 /// Appends the blocks of a query's probes, and hands the query back.

@@ -1,6 +1,6 @@
-use Rattle.std.proofs.Common.{◌≡◌, ◌≢◌, ◌≤◌, true, refl, sym, ap, subst, ◌∙◌, arith, rules, tests}
+use Rattle.std.proofs.Common.{◌≡◌, ◌≤◌, true, refl, sym, ap, subst, ◌∙◌, arith}
 use Rattle.std.proofs.lemmas.Result.{err_from_is_err_and}
-use Rattle.cqe_base.specs.declared.user.Mark.TheVariants.{Undecided}
+use Rattle.std.proofs.lemmas.Bool.{both_ways}
 use Rattle.cqe_base.specs.Formula.{formula_of, nodes, is_sentence_of}
 use Rattle.cqe_base.specs.Truth.{true_in}
 use Rattle.cqe_base.specs.Censor.{mark_by}
@@ -9,6 +9,7 @@ use Rattle.dossier.specs.Checked.{asking}
 use Rattle.dossier.specs.Reading.{answer}
 use Rattle.dossier.specs.Logs.{past_schema, past_user, past_history}
 use Rattle.dossier.proofs.Asking.{asked-undecided, shown-refused, shown-mark, other-mark}
+use Rattle.dossier.proofs.Sayings.{undecided-is, decided-is}
 use Rattle.dossier.proofs.items.shown_query.Goals as goal
 
 -- ---- the query is what it was, with its ground formula
@@ -33,18 +34,18 @@ holds-requires c =
 -- ---- what is read
 
 -- an undecided ask shows nothing
-pub returns-then-eq-clause-reads : goal.returns-then-eq-clause-reads
-returns-then-eq-clause-reads c name size =
+pub returns-then-is_undecided-clause-reads : goal.returns-then-is_undecided-clause-reads
+returns-then-is_undecided-clause-reads c name size =
     let past = c.args.past.now in
     ap (λ x. answer (past_schema past) c.args.world.now name (past_user past) x c.args.lines.now)
     (asked-undecided (past_schema past) c.args.world.now name (past_user past) (past_history past) c.args.line (formula_of c.args.query) size c.args.mark
-    (search (rules, tests)))
+    (undecided-is c.args.mark (sym c.is_undecided.ensures ∙ c.if-is_undecided.true)))
 
 pub returns-in_err-findings-clause-reads : goal.returns-in_err-findings-clause-reads
 returns-in_err-findings-clause-reads c name size =
     let p = err_from_is_err_and c.from_residual.result c.from_residual.ensures.1 in
     let past = c.args.past.now in
-    let isnt : c.args.mark ≢ Undecided = search (rules, tests) in
+    let isnt = decided-is c.args.mark (sym c.is_undecided.ensures ∙ c.if-is_undecided.false) in
     rw (p.1, p.2)
     (shown-refused (past_schema past) c.args.world.now name (past_user past) (past_history past) c.args.line (formula_of c.args.query) size c.args.mark isnt
     c.args.lines.now c.read_findings.new.lines _ _
@@ -52,38 +53,38 @@ returns-in_err-findings-clause-reads c name size =
     (c.in_err-findings.ensures.reads c.args.world.now name (asking c.args.line c.args.mark (formula_of c.args.query) size) refl)))
 
 -- the mark is another
-pub returns-then-ne-clause-reads : goal.returns-then-ne-clause-reads
-returns-then-ne-clause-reads c name size =
+pub returns-then-not-is_same-clause-reads : goal.returns-then-not-is_same-clause-reads
+returns-then-not-is_same-clause-reads c name size =
     let past = c.args.past.now in
-    let isnt : c.args.mark ≢ Undecided = search (rules, tests) in
+    let isnt = decided-is c.args.mark (sym c.is_undecided.ensures ∙ c.if-is_undecided.false) in
     let same = c.read_findings.ensures.same.0 in
     let findings = c.in_ok-findings.findings in
-    let truth : c.holds.result ≡ true_in (past_schema past) c.args.world.now (formula_of c.args.query) =
-    c.holds.ensures ∙ (λ i. true_in (same.schema i) c.args.world.now (formula_of (c.in_ok-query.ensures.same i))) in
-    let decides = c.decide.ensures
+    let truth : c.holds-truth.result ≡ true_in (past_schema past) c.args.world.now (formula_of c.args.query) =
+    c.holds-truth.ensures ∙ (λ i. true_in (same.schema i) c.args.world.now (formula_of (c.in_ok-query.ensures.same i))) in
+    let decides = c.decide-decided.ensures
     ∙ (λ i. mark_by (same.user i).method findings.spent findings.implied findings.yes_harm findings.no_harm (truth i)) in
     other-mark (past_schema past) c.args.world.now name (past_user past) (past_history past) c.args.line (formula_of c.args.query) size c.args.mark isnt
-    c.args.lines.now c.read_findings.new.lines c.in_ok-findings.findings c.decide.result decides
+    c.args.lines.now c.read_findings.new.lines c.in_ok-findings.findings c.decide-decided.result decides
     (rw c.in_ok-query.ensures.same at
     (c.in_ok-findings.ensures.reads c.args.world.now name (asking c.args.line c.args.mark (formula_of c.args.query) size) refl))
-    (search (rules, tests))
+    (λ is. both_ways _ c.if-not-is_same.true (c.is_same.ensures.1 is))
 
 -- or the one that was decided
 pub returns-clause-reads : goal.returns-clause-reads
 returns-clause-reads c name size =
     let past = c.args.past.now in
-    let isnt : c.args.mark ≢ Undecided = search (rules, tests) in
+    let isnt = decided-is c.args.mark (sym c.is_undecided.ensures ∙ c.if-is_undecided.false) in
     let same = c.read_findings.ensures.same.0 in
     let findings = c.in_ok-findings.findings in
-    let truth : c.holds.result ≡ true_in (past_schema past) c.args.world.now (formula_of c.args.query) =
-    c.holds.ensures ∙ (λ i. true_in (same.schema i) c.args.world.now (formula_of (c.in_ok-query.ensures.same i))) in
-    let decides = c.decide.ensures
+    let truth : c.holds-truth.result ≡ true_in (past_schema past) c.args.world.now (formula_of c.args.query) =
+    c.holds-truth.ensures ∙ (λ i. true_in (same.schema i) c.args.world.now (formula_of (c.in_ok-query.ensures.same i))) in
+    let decides = c.decide-decided.ensures
     ∙ (λ i. mark_by (same.user i).method findings.spent findings.implied findings.yes_harm findings.no_harm (truth i)) in
     shown-mark (past_schema past) c.args.world.now name (past_user past) (past_history past) c.args.line (formula_of c.args.query) size c.args.mark isnt
-    c.args.lines.now c.read_findings.new.lines c.in_ok-findings.findings c.decide.result decides
+    c.args.lines.now c.read_findings.new.lines c.in_ok-findings.findings c.decide-decided.result decides
     (rw c.in_ok-query.ensures.same at
     (c.in_ok-findings.ensures.reads c.args.world.now name (asking c.args.line c.args.mark (formula_of c.args.query) size) refl))
-    (search (rules, tests))
+    (c.is_same.ensures.0 c.if-not-is_same.false)
 
 -- ---- want of memory says nothing
 
