@@ -50,25 +50,25 @@ module _ (schema : DatabaseSchema) (world : FactSet) (name : Text) (user : UserP
       pub block-opens : (probe : Probed) → showing.probe ≡ probe → bytes_eq (field_said field).word (codes "open") ≡ true
           → IsButMemory (open_answer schema field.line probe (facts_listed schema (field_said field).rest)) (Ok tt)
           → ReadsOn schema world name user (Ok (block showing)) old next (behind_block schema world name user showing) (Ok false)
-      block-opens probe same is open =
+      block-opens probe same is opens =
           answer-line schema world name user (block showing) old next field passes
           ∙ ap (λ r. answer schema world name user r next)
           (block-open schema world name user showing (field_said field) is
           ∙ open-shows schema world name user field.line showing (facts_listed schema (field_said field).rest)
-          (open (λ e. absurd cc) ∙ ap (λ p. open_answer schema field.line p (facts_listed schema (field_said field).rest)) (sym same)))
+          (opens (λ e. absurd cc) ∙ ap (λ p. open_answer schema field.line p (facts_listed schema (field_said field).rest)) (sym same)))
 
       -- or is refused
       pub block-open-refused : (probe : Probed) (why : DossierError) → showing.probe ≡ probe → bytes_eq (field_said field).word (codes "open") ≡ true
           → IsButMemory (open_answer schema field.line probe (facts_listed schema (field_said field).rest)) (Err why)
           → ReadsOn schema world name user (Ok (block showing)) old next (behind_block schema world name user showing) (Err why)
-      block-open-refused probe why same is open =
+      block-open-refused probe why same is opens =
           reads-err schema world name user (Ok (block showing)) old next (behind_block schema world name user showing) why
           (λ isnt.
           answer-line schema world name user (block showing) old next field passes
           ∙ ap (λ r. answer schema world name user r next)
           (block-open schema world name user showing (field_said field) is
           ∙ open-refused schema world name user field.line showing (facts_listed schema (field_said field).rest) why
-          (open (λ e. isnt cc) ∙ ap (λ p. open_answer schema field.line p (facts_listed schema (field_said field).rest)) (sym same))))
+          (opens (λ e. isnt cc) ∙ ap (λ p. open_answer schema field.line p (facts_listed schema (field_said field).rest)) (sym same))))
 
       -- it is no first line of a block
       pub block-form : bytes_eq (field_said field).word (codes "open") ≡ false → is_alone (field_said field) (codes "follows") ≡ false

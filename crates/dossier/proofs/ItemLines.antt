@@ -52,7 +52,7 @@ module _ (schema : DatabaseSchema) (world : FactSet) (name : Text) (user : UserP
 
     module _ (is : bytes_eq field.word (codes "dossier") ≡ true) where
       pub head-open : bytes_eq field.rest (head_rest name user (codes "open")) ≡ true → head_line schema world name user field ≡ Ok admission
-      head-open open = rw is (rw open refl)
+      head-open opened = rw is (rw opened refl)
 
       module _ (not_open : bytes_eq field.rest (head_rest name user (codes "open")) ≡ false) where
         pub head-closed : bytes_eq field.rest (head_rest name user (codes "closed")) ≡ true

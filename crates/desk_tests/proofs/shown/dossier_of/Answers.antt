@@ -5,5 +5,5 @@ write_dossier-requires-clause-admitted g c = (rw c.in-Open.is at c.in_ok-replay.
 
 pub write_dossier-requires-clause-legal : goal.write_dossier-requires-clause-legal
 write_dossier-requires-clause-legal g c =
-    let open = rw c.in-Open.is at c.in_ok-replay.ensures in
-    (_, open.0.1, open.1, open.2)
+    let opened = rw c.in-Open.is at c.in_ok-replay.ensures in
+    (_, opened.0.1, opened.1, opened.2)
