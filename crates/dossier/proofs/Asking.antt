@@ -1,5 +1,5 @@
 -- Asks that are read: their marks, and what shows them.
-use Rattle.std.proofs.Common.{◌≡◌, ◌≢◌, ℕ, ◌==◌, Bool, true, false, [], Option, Some, None, Result, Ok, Err, refl, sym, ap, ◌∙◌, arith}
+use Rattle.std.proofs.Common.{◌≡◌, ◌≢◌, ℕ, ◌==◌, Bool, true, false, [], Some, Result, Ok, Err, refl, sym, ap, ◌∙◌, arith}
 use Rattle.std.specs.Prelude.{if◌then◌else◌}
 use Rattle.std.proofs.lemmas.Bool.Decides.{nat_tests}
 use Rattle.cqe_base.specs.declared.user.Mark.{Mark}
@@ -13,9 +13,9 @@ use Rattle.cqe_base.specs.History.{UserProfile, History, log, user_at}
 use Rattle.cqe_base.specs.Censor.{probes, mark_by}
 use Rattle.censors.specs.declared.examination.Findings.{Findings}
 use Rattle.user_desk.specs.Entries.{kind_of, mark_of}
-use Rattle.dossier.specs.Checked.{Awaited, asking, awaited_for, asked, behind_item, behind_task, mark_shown}
+use Rattle.dossier.specs.Checked.{Awaited, asking, awaited_for, asked, behind_item, mark_shown}
 use Rattle.dossier.specs.Reading.{Unread, answer, ReadsOn}
-use Rattle.dossier.specs.Items.{ReadsFindings, ReadsShown}
+use Rattle.dossier.specs.Items.{ReadsFindings}
 use Rattle.dossier.specs.declared.error.DossierError.{DossierError}
 use Rattle.dossier.specs.declared.error.DossierError.TheVariants as refused
 

@@ -1,6 +1,6 @@
 -- The lines of asks and additions: the sentence that stands in them, where it is within the limits.
-use Rattle.std.proofs.Common.{◌≡◌, ◌≤◌, ◌<◌, ℕ, Bool, true, false, [], ◌∷◌, ◌++◌, length, Some, None, Result, Ok, Err, refl, sym, ap, subst, ◌∙◌, arith}
-use Rattle.std.specs.Prelude.{◌||◌, Option, if◌then◌else◌, nat_le, nat_lt, bytes_eq, codes}
+use Rattle.std.proofs.Common.{◌≡◌, ◌≤◌, ℕ, Bool, true, false, [], ◌∷◌, length, Some, None, Result, Ok, Err, refl, sym, ap, subst, ◌∙◌, arith}
+use Rattle.std.specs.Prelude.{◌||◌, if◌then◌else◌, nat_le, nat_lt, bytes_eq, codes}
 use Rattle.std.proofs.lemmas.Bool.{or_left, or_parts}
 use Rattle.std.proofs.lemmas.Bool.Decides.{nat_tests}
 use Rattle.cqe_base.specs.declared.user.Mark.{Mark}
@@ -20,8 +20,7 @@ use Rattle.user_desk.specs.Entries.{purpose_by}
 use Rattle.dossier.specs.Written.{IsWithin}
 use Rattle.dossier.specs.Fields.{FieldSaid, first_word}
 use Rattle.dossier.specs.Words.{mark_named}
-use Rattle.dossier.specs.Checked.{Awaited, within_limits, sentence_in, asked, added, ask_line, protect_line, item_line, awaited_for, adding, addition_probe}
-use Rattle.dossier.specs.declared.error.DossierError.{DossierError}
+use Rattle.dossier.specs.Checked.{within_limits, sentence_in, asked, added, ask_line, protect_line, item_line, awaited_for, adding, addition_probe}
 use Rattle.dossier.specs.declared.error.DossierError.TheVariants as refused
 use Rattle.dossier.proofs.ItemLines.{item-ask, item-protect}
 

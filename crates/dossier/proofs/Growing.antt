@@ -1,18 +1,15 @@
 -- What the text of an item that is written says, and the item that is added.
-use Rattle.std.proofs.Common.{◌≡◌, ℕ, false, List, [], ◌∷◌, ◌++◌, length, Ok, refl, sym, ap, subst, ◌∙◌}
-use Rattle.std.specs.Prelude.{codes}
+use Rattle.std.proofs.Common.{◌≡◌, [], ◌∷◌, ◌++◌, length, Ok, ◌∙◌}
 use Rattle.cqe_base.specs.declared.user.Mark.{Mark}
-use Rattle.cqe_base.specs.declared.user.Mark.TheVariants.{Protected}
-use Rattle.cqe_base.specs.Schema.{DatabaseSchema, Text}
+use Rattle.cqe_base.specs.Schema.{Text}
 use Rattle.cqe_base.specs.Formula.{Formula}
-use Rattle.cqe_base.specs.History.{UserProfile, AnsweredQuery, History, is_added}
+use Rattle.cqe_base.specs.History.{AnsweredQuery}
 use Rattle.cqe_base.specs.Reading.{reading}
-use Rattle.dossier.specs.Checked.{addition_probe}
-use Rattle.dossier.specs.Written.{item_head, item_probes, IsBlock, AreBlocks, IsItem, Grows}
-use Rattle.dossier.specs.Adding.{Adds, AddsSaid}
-use Rattle.dossier.specs.Logs.{past_schema, past_user, past_history, IsPastOfSame, IsSamePast, HasAdded}
+use Rattle.dossier.specs.Written.{item_head, item_probes, AreBlocks, IsItem, Grows}
+use Rattle.dossier.specs.Adding.{AddsSaid}
+use Rattle.dossier.specs.Logs.{past_schema, past_user, past_history, IsSamePast, HasAdded}
 use Rattle.dossier.specs.declared.past.Past.{Past}
-use Rattle.dossier.proofs.Pushed.{grows-then, blocks-one}
+use Rattle.dossier.proofs.Pushed.{grows-then}
 use Rattle.dossier.proofs.SamePasts.{of-same}
 use Rattle.dossier.proofs.Sayings.{item-of}
 

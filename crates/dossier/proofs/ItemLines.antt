@@ -1,5 +1,5 @@
 -- What the lines say that stand by themselves: that of the user, that of his admission, and those of items.
-use Rattle.std.proofs.Common.{◌≡◌, ◌≢◌, ℕ, Bool, true, false, [], Some, None, Result, Ok, Err, refl, sym, ap, subst, ◌∙◌}
+use Rattle.std.proofs.Common.{◌≡◌, true, false, [], Result, Ok, Err, refl, sym, ap, subst, ◌∙◌}
 use Rattle.std.specs.Prelude.{◌&&◌, bytes_eq, codes, decimal, length}
 use Rattle.std.proofs.lemmas.Slice.Eq.{bytes_eq-Decides}
 use Rattle.cqe_base.specs.Schema.{DatabaseSchema, Text}
@@ -11,7 +11,7 @@ use Rattle.dossier.specs.Fields.{FieldSaid, first_word, is_alone}
 use Rattle.dossier.specs.Words.{mark_named}
 use Rattle.dossier.specs.Checked.{Awaited, admission, item, nothing, admitting, head_rest, head_line, admission_line, item_line, ask_line, protect_line}
 use Rattle.dossier.specs.Checked.{awaited_for, after_line, at_end}
-use Rattle.dossier.specs.Reading.{Unread, next_line, field_said, PassesLine, TakesLine, answer, ReadsOn}
+use Rattle.dossier.specs.Reading.{Unread, next_line, field_said, TakesLine, answer, ReadsOn}
 use Rattle.dossier.specs.declared.fields.Field.{Field}
 use Rattle.dossier.specs.declared.error.DossierError.{DossierError}
 use Rattle.dossier.specs.declared.error.DossierError.TheVariants as refused

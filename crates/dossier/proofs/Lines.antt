@@ -7,7 +7,7 @@ use Rattle.std.proofs.lemmas.List.Elements.{All-from_get_or}
 use Rattle.std.proofs.lemmas.List.{length-drop}
 use Rattle.std.proofs.Math.ListN.{drop_of_length-le}
 use Rattle.cqe_base.specs.Schema.{Text}
-use Rattle.dossier.specs.Fields.{without_empty_end, ended_parts, by_rest, first_word, field_of, fields_from}
+use Rattle.dossier.specs.Fields.{without_empty_end, ended_parts, by_rest, first_word, fields_from}
 
 module _ (p : ℕ → Bool) where
   -- there is always a part

@@ -1,7 +1,6 @@
 -- The probes of the admission and of a query, as their blocks are read.
 use Rattle.std.proofs.Common.{◌≡◌, ◌≢◌, ◌+◌, ℕ, Bool, true, false, List, [], ◌∷◌, ◌++◌, length, Option, Some, None, Result, Ok, Err}
 use Rattle.std.proofs.Common.{refl, sym, ap, subst, ◌∙◌, append_assoc, append-nil}
-use Rattle.std.specs.List.{list_all, list_any}
 use Rattle.std.specs.Prelude.{codes, if◌then◌else◌}
 use Rattle.cqe_base.specs.declared.user.Method.{Method}
 use Rattle.cqe_base.specs.declared.user.Method.TheVariants.{Lying, Refusal, Combined}
@@ -10,13 +9,12 @@ use Rattle.cqe_base.specs.Facts.{FactSet}
 use Rattle.cqe_base.specs.Formula.{Formula}
 use Rattle.cqe_base.specs.Entailment.{Signed}
 use Rattle.cqe_base.specs.History.{UserProfile, History, known, log, user_at, EmptyLogIsKnown, EmptyHistoryAddsNone}
-use Rattle.cqe_base.specs.Censor.{Probe, guarded, probes, probes_by, probes_against, with_query, with_negation, knows_truth_by, mark_by}
+use Rattle.cqe_base.specs.Censor.{Probe, guarded, probes, probes_by, probes_against, knows_truth_by, mark_by}
 use Rattle.cqe_base.specs.Limits.{FitsLog}
-use Rattle.soundness.specs.Verdicts.{mark_found}
 use Rattle.dossier.specs.Fields.{is_alone}
 use Rattle.dossier.specs.Checked.{Task, Awaited, admission, admitting, item, awaited_for, behind_task}
 use Rattle.dossier.specs.Reading.{Unread, field_said, TakesLine, answer, ReadsOn, ReadsAll}
-use Rattle.dossier.specs.Items.{goal_probe, implied_probes, implied_shown, ReadsImplied, ReadsFindings}
+use Rattle.dossier.specs.Items.{goal_probe, implied_probes, ReadsImplied, ReadsFindings}
 use Rattle.dossier.specs.declared.fields.Field.{Field}
 use Rattle.dossier.specs.declared.error.DossierError.{DossierError}
 use Rattle.dossier.specs.declared.error.DossierError.TheVariants as refused

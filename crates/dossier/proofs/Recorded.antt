@@ -1,11 +1,10 @@
 -- Records that are written one after the other, as items of a legal history.
-use Rattle.std.proofs.Common.{◌≡◌, ◌<◌, ◌≤◌, ◌+◌, ℕ, List, [], ◌∷◌, ◌++◌, length, map, take, drop, get_or, refl, sym, ap, subst, ◌∙◌}
+use Rattle.std.proofs.Common.{◌≡◌, ◌<◌, ◌≤◌, ◌+◌, ℕ, List, [], ◌∷◌, ◌++◌, length, map, take, drop, get_or, sym, ap, subst, ◌∙◌}
 use Rattle.std.specs.Prelude.{Some}
 use Rattle.std.proofs.lemmas.List.{take_more, take_all, drop_more, map-append, take-append-drop}
 use Rattle.cqe_base.specs.Schema.{DatabaseSchema, Text}
 use Rattle.cqe_base.specs.Facts.{FactSet}
-use Rattle.cqe_base.specs.History.{UserProfile, AnsweredQuery, History}
-use Rattle.log_journal.specs.Records.{Recorded}
+use Rattle.cqe_base.specs.History.{UserProfile, History}
 use Rattle.log_journal.specs.Opening.{recorded}
 use Rattle.log_journal.specs.declared.header.Record.{Record}
 use Rattle.user_desk.specs.Entries.{entry_of}

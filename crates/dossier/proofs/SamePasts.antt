@@ -1,5 +1,5 @@
 -- What is said of the items that are kept, where the same items are kept afterwards.
-use Rattle.std.proofs.Common.{◌≡◌, refl, sym, subst, ◌∙◌}
+use Rattle.std.proofs.Common.{sym, subst, ◌∙◌}
 use Rattle.cqe_base.specs.Schema.{DatabaseSchema}
 use Rattle.cqe_base.specs.History.{UserProfile, History}
 use Rattle.dossier.specs.Logs.{past_schema, past_user, past_history, IsPastOfSame, IsSamePast}

@@ -1,5 +1,5 @@
 -- Records and the items that they stand for, as these are written.
-use Rattle.std.proofs.Common.{◌≡◌, ◌≢◌, ◌≤◌, ℕ, Bool, true, false, List, [], ◌∷◌, ◌++◌, length, map, Option, Some, None, Result, Ok, Err}
+use Rattle.std.proofs.Common.{◌≡◌, ◌≢◌, ◌≤◌, ℕ, Bool, true, false, List, [], ◌∷◌, ◌++◌, length, map, Option, Some, Result, Ok, Err}
 use Rattle.std.proofs.Common.{refl, sym, ap, subst, ◌∙◌, append_assoc, append-nil}
 use Rattle.std.specs.Prelude.{codes}
 use Rattle.std.proofs.lemmas.Bool.{both_ways}
@@ -16,15 +16,15 @@ use Rattle.cqe_base.specs.Truth.{true_in}
 use Rattle.cqe_base.specs.Entailment.{Signed}
 use Rattle.cqe_base.specs.Reading.{Refusal as Unread, reading}
 use Rattle.cqe_base.specs.History.{UserProfile, AnsweredQuery, History, is_added, log, user_at}
-use Rattle.cqe_base.specs.Censor.{probes, spent, implied, yes_harm, no_harm, mark_by, rule, mark_after, safe_after, IsLegalItem}
+use Rattle.cqe_base.specs.Censor.{probes, spent, implied, yes_harm, no_harm, mark_by, rule, mark_after, safe_after}
 use Rattle.cqe_base.specs.Limits.{KeepsSizesAt}
 use Rattle.cqe_base.specs.Transcript.{mark_text}
 use Rattle.log_journal.specs.Records.{Recorded}
 use Rattle.user_desk.specs.Entries.{mark_of, purpose_by, entry_by, entry_of}
-use Rattle.dossier.specs.Written.{item_head, item_probes, AreBlocks, IsItem, AreItems, AreUnspent, IsWithin, IsNextLegal, Grows}
-use Rattle.dossier.specs.Adding.{Adds, AddsItem, AddsSaid}
+use Rattle.dossier.specs.Written.{item_head, item_probes, AreBlocks, IsItem, AreItems, AreUnspent, IsWithin, IsNextLegal}
+use Rattle.dossier.specs.Adding.{AddsItem, AddsSaid}
 use Rattle.dossier.specs.Told.{is_undecided}
-use Rattle.dossier.specs.Logs.{past_schema, past_user, past_history, HasAdded}
+use Rattle.dossier.specs.Logs.{past_schema}
 use Rattle.dossier.specs.declared.past.Past.{Past}
 
 -- ---- marks

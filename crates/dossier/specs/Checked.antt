@@ -4,7 +4,7 @@ use Rattle.std.specs.Prelude.{ℕ, ◌+◌, ◌==◌, Bool, true, false, ◌&&�
 use Rattle.std.specs.Prelude.{◌++◌, length, Option, Some, None, Result, Ok, Err, if◌then◌else◌}
 use Rattle.std.specs.Prelude.{codes, bytes_eq, decimal}
 use Rattle.cqe_base.specs.declared.user.Mark.{Mark}
-use Rattle.cqe_base.specs.declared.user.Mark.TheVariants.{Yes, No, Refused, Undecided, Protected}
+use Rattle.cqe_base.specs.declared.user.Mark.TheVariants.{Undecided, Protected}
 use Rattle.cqe_base.specs.declared.user.Purpose.{Purpose}
 use Rattle.cqe_base.specs.declared.user.Purpose.TheVariants.{Asking, Protecting}
 use Rattle.cqe_base.specs.declared.world.Fact.{Fact}
@@ -13,8 +13,8 @@ use Rattle.cqe_base.specs.Facts.{FactSet}
 use Rattle.cqe_base.specs.Formula.{Formula}
 use Rattle.cqe_base.specs.Truth.{true_in}
 use Rattle.cqe_base.specs.Reading.{Refusal, reading}
-use Rattle.cqe_base.specs.Entailment.{Signed, holds_in, all_hold_in}
-use Rattle.cqe_base.specs.History.{UserProfile, AnsweredQuery, History, known, log, user_at}
+use Rattle.cqe_base.specs.Entailment.{holds_in, all_hold_in}
+use Rattle.cqe_base.specs.History.{UserProfile, History, known, log, user_at}
 use Rattle.cqe_base.specs.Refutation.{RefutationLine, is_refutation}
 use Rattle.cqe_base.specs.Censor.{Probe, guarded, guard_by, probes, probes_against, knows_truth_by}
 use Rattle.entailment.specs.Certificates.{clauses_of_probe}

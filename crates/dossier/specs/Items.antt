@@ -13,7 +13,7 @@ use Rattle.cqe_base.specs.Censor.{guarded, probes, mark_by}
 use Rattle.censors.specs.declared.examination.Findings.{Findings}
 use Rattle.soundness.specs.Verdicts.{mark_found}
 use Rattle.dossier.specs.Fields.{FieldSaid}
-use Rattle.dossier.specs.Checked.{Task, Awaited, item, nothing, item_line, asked, behind_item}
+use Rattle.dossier.specs.Checked.{Task, item, nothing, item_line, asked, behind_item}
 use Rattle.dossier.specs.Checked.{awaited_for, behind_task}
 use Rattle.dossier.specs.Reading.{Unread, answer, ReadsOn}
 use Rattle.dossier.specs.Blocks.{Probed}

@@ -4,7 +4,7 @@ use Rattle.std.specs.Prelude.{Some, Ok, codes, decimal}
 use Rattle.std.specs.List.{flat_map, list_all, list_any}
 use Rattle.std.specs.List.Sorted.{IsStrictlySortedBy}
 use Rattle.cqe_base.specs.declared.user.Mark.{Mark}
-use Rattle.cqe_base.specs.declared.user.Mark.TheVariants.{Yes, No, Refused, Undecided, Protected}
+use Rattle.cqe_base.specs.declared.user.Mark.TheVariants.{Undecided, Protected}
 use Rattle.cqe_base.specs.declared.user.Purpose.{Purpose}
 use Rattle.cqe_base.specs.declared.world.Fact.{Fact}
 use Rattle.cqe_base.specs.Schema.{DatabaseSchema, Text}

@@ -1,4 +1,4 @@
-use Rattle.std.proofs.Common.{◌≡◌, true, sym, ap, ◌∙◌}
+use Rattle.std.proofs.Common.{sym, ap, ◌∙◌}
 use Rattle.cqe_base.specs.Entailment.{all_hold_in, are_sentences_of}
 use Rattle.cqe_base.proofs.Truths.{and_first}
 use Rattle.entailment.specs.Probes.{premise_list, signed_at}

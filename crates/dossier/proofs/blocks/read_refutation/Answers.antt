@@ -1,4 +1,4 @@
-use Rattle.std.proofs.Common.{[], ◌∷◌, ◌++◌, Some, None, Ok, Err, map, sym, ap, ◌∙◌, arith, rules, tests}
+use Rattle.std.proofs.Common.{[], ◌∷◌, Some, None, Ok, Err, map, sym, ap, ◌∙◌, arith, rules, tests}
 use Rattle.std.proofs.lemmas.List.{map-append}
 use Rattle.std.proofs.lemmas.Result.{err_from_is_err_and}
 use Rattle.clause_store.specs.PlainLines.{line_of}

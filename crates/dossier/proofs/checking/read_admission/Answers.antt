@@ -6,10 +6,9 @@ use Rattle.std.proofs.lemmas.Result.{err_from_is_err_and}
 use Rattle.cqe_base.specs.Formula.{nodes, is_sentence_of}
 use Rattle.cqe_base.specs.History.{answered_query_of, log, known, user_at, is_history_of}
 use Rattle.cqe_base.specs.Censor.{guarded, probes_against}
-use Rattle.cqe_base.specs.Limits.{FitsProbes}
 use Rattle.entailment.specs.Logs.{log_nodes}
 use Rattle.entailment.specs.GroundSentences.{sentence_of, IsGroundOver}
-use Rattle.dossier.specs.Checked.{admission, admitting, awaited_for}
+use Rattle.dossier.specs.Checked.{admission, admitting}
 use Rattle.dossier.specs.Reading.{field_said}
 use Rattle.dossier.specs.Logs.{past_schema, past_user, past_history}
 use Rattle.dossier.proofs.ItemLines.{line-missing, line-says, admission-form, admission-untrue}

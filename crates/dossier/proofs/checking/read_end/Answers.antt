@@ -1,4 +1,3 @@
-use Rattle.std.proofs.Common.{◌∙◌}
 use Rattle.dossier.specs.Checked.{nothing}
 use Rattle.dossier.proofs.Reads.{answer-line, answer-end}
 use Rattle.dossier.proofs.checking.read_end.Goals as goal

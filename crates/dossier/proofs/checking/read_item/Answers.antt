@@ -1,4 +1,4 @@
-use Rattle.std.proofs.Common.{refl, ap, rules, tests}
+use Rattle.std.proofs.Common.{ap, rules, tests}
 use Rattle.std.proofs.lemmas.Slice.Eq.{bytes_eq-Decides}
 use Rattle.dossier.specs.Logs.{past_schema, past_user, past_history}
 use Rattle.dossier.specs.Reading.{answer, field_said}

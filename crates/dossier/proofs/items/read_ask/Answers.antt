@@ -1,10 +1,9 @@
-use Rattle.std.proofs.Common.{◌≡◌, Some, None, Ok, Err, length, sym, ap, ◌∙◌, arith}
+use Rattle.std.proofs.Common.{◌≡◌, Some, None, Ok, length, ap, ◌∙◌, arith}
 use Rattle.std.proofs.lemmas.Bool.Decides.{nat_tests}
 use Rattle.std.proofs.lemmas.List.{nil_from_length}
 use Rattle.std.proofs.lemmas.Result.{err_from_is_err_and}
 use Rattle.cqe_base.specs.declared.user.Purpose.TheVariants.{Asking}
 use Rattle.cqe_base.specs.Formula.{formula_of}
-use Rattle.cqe_base.specs.History.{answered_query_of}
 use Rattle.dossier.specs.Checked.{item, asked, sentence_in}
 use Rattle.dossier.specs.Reading.{field_said, answer}
 use Rattle.dossier.specs.Logs.{past_schema, past_user, past_history}

@@ -1,4 +1,4 @@
-use Rattle.std.proofs.Common.{◌≡◌, ◌≤◌, ◌+◌, [], ◌∷◌, ◌++◌, true, false, Some, None, Ok, Err, length, map, refl, sym, ap, subst, ◌∙◌, arith}
+use Rattle.std.proofs.Common.{◌≡◌, ◌≤◌, [], ◌∷◌, true, Some, None, Ok, length, map, refl, sym, ap, subst, ◌∙◌, arith}
 use Rattle.std.proofs.lemmas.Bool.{or_parts}
 use Rattle.std.proofs.lemmas.Bool.Decides.{nat_tests}
 use Rattle.std.proofs.lemmas.List.{nil_from_length}
@@ -6,16 +6,14 @@ use Rattle.std.proofs.lemmas.Result.{err_from_is_err_and}
 use Rattle.cqe_base.specs.declared.user.Mark.TheVariants.{Protected}
 use Rattle.cqe_base.specs.declared.user.Purpose.TheVariants.{Protecting}
 use Rattle.cqe_base.specs.Formula.{formula_of, nodes, is_sentence_of}
-use Rattle.cqe_base.specs.History.{UserProfile, answered_query_of, log, user_at, is_history_of}
-use Rattle.cqe_base.specs.Censor.{guard_by}
-use Rattle.cqe_base.specs.Limits.{FitsAddition}
+use Rattle.cqe_base.specs.History.{answered_query_of, log, is_history_of}
 use Rattle.cqe_base.specs.Run.{is_too_large}
 use Rattle.entailment.specs.Logs.{log_nodes}
 use Rattle.entailment.specs.GroundSentences.{sentence_of}
 use Rattle.dossier.specs.Words.{world_of}
 use Rattle.dossier.specs.Checked.{item, adding, sentence_in, addition_probe, awaited_for}
 use Rattle.dossier.specs.Reading.{field_said, answer}
-use Rattle.dossier.specs.Logs.{past_schema, past_user, past_history, IsKept}
+use Rattle.dossier.specs.Logs.{past_schema, past_user, past_history}
 use Rattle.dossier.proofs.Reads.{reads-refused}
 use Rattle.dossier.proofs.Asks.{protect-textless, protect-unread, protect-read, some-within, added-within}
 use Rattle.dossier.proofs.Added.{added-fits, fits-at, one-behind, guard-at, addition-shown}

@@ -1,5 +1,5 @@
-use Rattle.std.proofs.Common.{◌≡◌, ◌++◌, None, false, ◌∙◌, sym, ap, rules, tests, length}
-use Rattle.std.specs.Prelude.{codes, string_bytes, nat_lt}
+use Rattle.std.proofs.Common.{◌≡◌, ◌++◌, false, ◌∙◌, sym, ap, rules, tests, length}
+use Rattle.std.specs.Prelude.{codes, nat_lt}
 use Rattle.dossier.specs.Words.{fact_in}
 use Rattle.dossier.proofs.Listings.{fact-long, fact-short}
 use Rattle.dossier.proofs.listed.fact_in.Goals as goal

@@ -1,4 +1,4 @@
-use Rattle.std.proofs.Common.{◌≡◌, sym, ap, ◌∙◌, ◌+◌, arith, rules}
+use Rattle.std.proofs.Common.{sym, ap, ◌∙◌, ◌+◌, arith}
 use Rattle.dossier.specs.Words.{literal_of}
 use Rattle.dossier.proofs.Spelling.{behind, behind-none, from, one-read, none-read, all-read}
 use Rattle.dossier.proofs.words.literals_in.Goals as goal

@@ -1,4 +1,4 @@
-use Rattle.std.proofs.Common.{◌≡◌, ◌++◌, List, ℕ, sym, ap, ◌∙◌, append_assoc, rules, tests}
+use Rattle.std.proofs.Common.{◌≡◌, ◌++◌, List, ℕ, ap, ◌∙◌, append_assoc, rules, tests}
 use Rattle.std.specs.Prelude.{codes, string_bytes}
 use Rattle.cqe_base.specs.History.{profile_of}
 use Rattle.audit_print.specs.Said.{method_word}

@@ -1,6 +1,6 @@
-use Rattle.std.proofs.Common.{◌≡◌, ◌≤◌, ◌+◌, [], ◌++◌, sym, ap, subst, ◌∙◌, arith, append-nil}
+use Rattle.std.proofs.Common.{◌≡◌, ◌≤◌, ◌+◌, [], ◌++◌, sym, ap, subst, ◌∙◌, arith}
 use Rattle.std.specs.Prelude.{codes, string_bytes}
-use Rattle.cqe_base.specs.History.{known, log, user_at}
+use Rattle.cqe_base.specs.History.{known, log}
 use Rattle.cqe_base.specs.Censor.{guarded, probes_against, admission_budget}
 use Rattle.entailment.specs.Logs.{log_nodes, sentence_nodes}
 use Rattle.dossier.specs.Logs.{past_schema, past_user, past_history}

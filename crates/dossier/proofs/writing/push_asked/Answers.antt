@@ -1,8 +1,6 @@
-use Rattle.std.proofs.Common.{◌≡◌, ◌++◌, Ok, refl, sym, ap, ◌∙◌, length}
+use Rattle.std.proofs.Common.{◌++◌, ap, ◌∙◌, length}
 use Rattle.std.specs.Prelude.{codes, string_bytes}
 use Rattle.cqe_base.specs.Formula.{formula_of}
-use Rattle.cqe_base.specs.History.{answered_query_of}
-use Rattle.cqe_base.specs.Reading.{reading}
 use Rattle.cqe_base.specs.Transcript.{mark_text}
 use Rattle.dossier.specs.Logs.{past_schema, past_user, past_history}
 use Rattle.dossier.proofs.Added.{fits-at}

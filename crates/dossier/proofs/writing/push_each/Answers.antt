@@ -1,11 +1,11 @@
-use Rattle.std.proofs.Common.{◌≡◌, ◌≤◌, ◌+◌, ◌++◌, map, sym, ap, subst, ◌∙◌}
+use Rattle.std.proofs.Common.{◌≤◌, ◌+◌, ◌++◌, sym, ap, subst, ◌∙◌}
 use Rattle.std.specs.Prelude.{nat_le, string_bytes, All, OnOk}
 use Rattle.std.specs.List.{list_all}
 use Rattle.cqe_base.specs.Formula.{nodes, is_sentence_of}
 use Rattle.cqe_base.specs.History.{log, user_at}
 use Rattle.cqe_base.specs.Censor.{guarded, probes_against}
 use Rattle.entailment.specs.Logs.{log_nodes, sentence_nodes}
-use Rattle.entailment.specs.GroundSentences.{sentence_of, IsGroundOver}
+use Rattle.entailment.specs.GroundSentences.{IsGroundOver}
 use Rattle.entailment.specs.Probes.{premise_list}
 use Rattle.dossier.specs.Logs.{past_schema, past_user, past_history}
 use Rattle.dossier.specs.Written.{AreBlocks, AreUnspent, Grows}

@@ -5,7 +5,6 @@ use Rattle.std.proofs.lemmas.List.Elements.{All-get_or}
 use Rattle.cqe_base.specs.Formula.{nodes, is_sentence_of}
 use Rattle.cqe_base.specs.Entailment.{are_sentences_of}
 use Rattle.cqe_base.specs.Outcome.{Spent, outcome}
-use Rattle.cqe_base.specs.Censor.{probes_against}
 use Rattle.entailment.specs.Logs.{log_nodes, sentence_nodes}
 use Rattle.entailment.specs.Views.{LogView, schema_of, log_of}
 use Rattle.entailment.specs.GroundSentences.{sentence_of, IsGroundOver}

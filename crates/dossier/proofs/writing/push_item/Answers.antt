@@ -1,10 +1,9 @@
 use Rattle.std.proofs.Common.{sym, ◌∙◌}
 use Rattle.std.specs.Prelude.{string_bytes}
 use Rattle.std.proofs.lemmas.Result.{on_ok_weaker}
-use Rattle.cqe_base.specs.History.{is_added}
-use Rattle.cqe_base.specs.declared.user.Purpose.TheVariants.{Asking, Protecting}
+use Rattle.cqe_base.specs.declared.user.Purpose.TheVariants.{Asking}
 use Rattle.dossier.specs.Logs.{past_schema, past_user, past_history}
-use Rattle.dossier.proofs.Sayings.{added-is, added-within, asking-by, reads-said, within-of, safe-of, unspent-of, adds-item, adds-secret}
+use Rattle.dossier.proofs.Sayings.{added-within, asking-by, reads-said, within-of, safe-of, unspent-of, adds-item, adds-secret}
 use Rattle.dossier.proofs.writing.push_item.Goals as goal
 
 pub said_in-said-requires : goal.said_in-said-requires

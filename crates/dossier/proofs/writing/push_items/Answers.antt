@@ -1,9 +1,9 @@
-use Rattle.std.proofs.Common.{◌≡◌, [], ◌∷◌, ◌++◌, map, take, refl, sym, ap, subst, ◌∙◌, arith}
+use Rattle.std.proofs.Common.{[], map, refl, sym, ap, subst, arith}
 use Rattle.std.specs.Prelude.{Some, string_bytes}
 use Rattle.std.proofs.lemmas.List.Elements.{All-get_or}
-use Rattle.log_journal.specs.Opening.{recorded, IsRecord}
+use Rattle.log_journal.specs.Opening.{IsRecord}
 use Rattle.dossier.specs.Logs.{past_schema, past_user, past_history}
-use Rattle.dossier.specs.Written.{AreItems, Grows}
+use Rattle.dossier.specs.Written.{AreItems}
 use Rattle.dossier.proofs.Pushed.{grows-none}
 use Rattle.dossier.proofs.Recorded.{next-legal, records-same, records-more, records-stand, records-all}
 use Rattle.dossier.proofs.writing.push_items.Goals as goal

@@ -1,4 +1,4 @@
-use Rattle.std.proofs.Common.{[], refl, sym, ap, subst, ◌∙◌}
+use Rattle.std.proofs.Common.{[], refl, sym, subst, ◌∙◌}
 use Rattle.std.specs.Prelude.{string_bytes, OnOk}
 use Rattle.cqe_base.specs.Formula.{formula_of}
 use Rattle.dossier.specs.Logs.{past_schema, past_user, past_history}

@@ -1,9 +1,7 @@
-use Rattle.std.proofs.Common.{◌≡◌, ◌≤◌, ◌+◌, [], ◌∷◌, ◌++◌, true, Ok, refl, sym, ap, ◌∙◌, length, arith}
+use Rattle.std.proofs.Common.{◌+◌, [], ◌∷◌, ◌++◌, true, refl, length, arith}
 use Rattle.std.specs.Prelude.{codes, string_bytes}
 use Rattle.cqe_base.specs.declared.user.Mark.TheVariants.{Protected}
 use Rattle.cqe_base.specs.Formula.{formula_of}
-use Rattle.cqe_base.specs.History.{answered_query_of, log}
-use Rattle.cqe_base.specs.Reading.{reading}
 use Rattle.entailment.specs.Logs.{log_nodes}
 use Rattle.dossier.specs.Checked.{addition_probe}
 use Rattle.dossier.specs.Written.{IsBlock, AreBlocks}
