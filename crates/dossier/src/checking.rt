@@ -64,7 +64,8 @@ fn read_head(alloc: Global, user: &User, lines: &mut FieldIter<'_>) -> Result<()
     ensures less { bytes_left lines.new ≤ bytes_left lines.old }
 {
     let field = lines.take_line()?;
-    if field.word != "dossier" {
+    let named = field.word == "dossier";
+    if !named {
         return Err(DossierError::Form(field.line));
     }
     if says_head(alloc, user, "open", field.rest)? {
@@ -207,9 +208,11 @@ fn read_item(
     ensures same { IsPastOfSame past.old past.new }
     ensures less { bytes_left lines.new ≤ bytes_left lines.old }
 {
-    if field.word == "ask" {
+    let asks = field.word == "ask";
+    let adds = field.word == "protect";
+    if asks {
         read_ask(alloc, world, past, field, lines)
-    } else if field.word == "protect" {
+    } else if adds {
         read_protect(alloc, past, field, lines)
     } else {
         Err(DossierError::Form(field.line))

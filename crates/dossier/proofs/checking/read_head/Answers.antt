@@ -15,8 +15,8 @@ returns-in_err-field-clause-reads c schema world =
     c.in_err-field.ensures.takes)
 
 -- the line isn't that of a user
-pub returns-then-ne-clause-reads : goal.returns-then-ne-clause-reads
-returns-then-ne-clause-reads c schema world =
+pub returns-then-not-named-clause-reads : goal.returns-then-not-named-clause-reads
+returns-then-not-named-clause-reads c schema world =
     line-says schema world (string_bytes c.args.user.now.name) (profile_of c.args.user.now) head c.args.lines.now c.take_line.new.self
     c.in_ok-field.field _ c.in_ok-field.ensures.takes
     (head-form schema world _ _ (field_said c.in_ok-field.field) (search (rules, tests)))

@@ -13,12 +13,12 @@ read_ask-requires-clause-ask c = (bytes_eq-Decides _ _).0 (search (rules, tests)
 pub read_protect-requires-clause-protect : goal.read_protect-requires-clause-protect
 read_protect-requires-clause-protect c = (bytes_eq-Decides _ _).0 (search (rules, tests))
 
-pub returns-then-eq-2-clause-reads : goal.returns-then-eq-2-clause-reads
-returns-then-eq-2-clause-reads c name = c.read_protect.ensures.reads c.args.world.now name
+pub returns-then-adds-clause-reads : goal.returns-then-adds-clause-reads
+returns-then-adds-clause-reads c name = c.read_protect.ensures.reads c.args.world.now name
 
 -- or none's
-pub returns-else-eq-2-clause-reads : goal.returns-else-eq-2-clause-reads
-returns-else-eq-2-clause-reads c name =
+pub returns-else-adds-clause-reads : goal.returns-else-adds-clause-reads
+returns-else-adds-clause-reads c name =
     ap (λ x. answer (past_schema c.args.past.now) c.args.world.now name (past_user c.args.past.now) x c.args.lines.now)
     (item-other (past_schema c.args.past.now) c.args.world.now name (past_user c.args.past.now) (field_said c.args.field.now)
     (past_history c.args.past.now) (search (rules, tests)) (search (rules, tests)) c.requires.not_done)
