@@ -14,6 +14,7 @@ pub loop-rest-init : goal.loop-rest-init
 loop-rest-init c =
     let read = facts_in c.args.schema.now (ended_parts 41 c.args.text.now) in
     record {
+      is_text = search rules;
       facts = behind-none read ∙ ap (λ facts. behind facts read) (sym c.new-facts.ensures.items);
       of_schema = ap (list_all (is_fact_of c.args.schema.now)) c.new-facts.ensures.items;
     }
@@ -29,6 +30,7 @@ returns-in-None-clause-read c =
 -- one more fact
 pub loop-rest-preserved : goal.loop-rest-preserved
 loop-rest-preserved c = record {
+  is_text = search rules;
   facts = c.loop-rest.invariant.facts
       ∙ ap (λ parts. behind c.loop-rest.facts.items (facts_in c.args.schema.now parts)) c.first_part.ensures.first
       ∙ ap (λ fact. behind c.loop-rest.facts.items (with_first fact (facts_in c.args.schema.now (ended_parts 41 c.first_part.result.1.now))))
