@@ -216,10 +216,10 @@ fn read_refutation(
     let mut read = Vec::new(alloc);
     while let Some(field) = lines.take_field() {
         if field.word == "line" {
-            match line_in(alloc, field.rest)? {
-                Some(line) => read.push(line)?,
-                None => return Err(DossierError::Form(field.line)),
-            }
+            let Some(line) = line_in(alloc, field.rest)? else {
+                return Err(DossierError::Form(field.line));
+            };
+            read.push(line)?;
         } else if field.is_alone("end") {
             return Ok((Refutation { lines: read }, field.line));
         } else {

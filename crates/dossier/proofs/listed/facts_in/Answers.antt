@@ -36,8 +36,8 @@ loop-rest-preserved c = record {
       ∙ ap (λ fact. behind c.loop-rest.facts.items (with_first fact (facts_in c.args.schema.now (ended_parts 41 c.first_part.result.1.now))))
       (sym c.in_ok-fact_in.ensures.fact ∙ c.in-Some.is)
       ∙ behind-more c.loop-rest.facts.items c.in-Some.fact (facts_in c.args.schema.now (ended_parts 41 c.first_part.result.1.now))
-      ∙ ap (λ facts. behind facts (facts_in c.args.schema.now (ended_parts 41 c.first_part.result.1.now))) (sym c.in_ok-push.ensures.pushed);
-  of_schema = ap (list_all (is_fact_of c.args.schema.now)) c.in_ok-push.ensures.pushed
+      ∙ ap (λ facts. behind facts (facts_in c.args.schema.now (ended_parts 41 c.first_part.result.1.now))) (sym c.in_ok-push-in-Some.ensures.items);
+  of_schema = ap (list_all (is_fact_of c.args.schema.now)) c.in_ok-push-in-Some.ensures.items
       ∙ list_all-append (is_fact_of c.args.schema.now) c.loop-rest.facts.items (c.in-Some.fact ∷ [])
       ∙ and_from _ _ c.loop-rest.invariant.of_schema (and_from _ _ (search (rules, tests)) refl);
 }

@@ -26,7 +26,7 @@ loop-fact-preserved c =
     let facts = c.args.facts.now in
     let fact = c.fact-item.result in
     let so_far = take c.loop-fact.fact-index facts in
-    ap (map string_bytes) c.in_ok-push.ensures.pushed
+    ap (map string_bytes) c.in_ok-push.ensures.items
     ∙ map-append string_bytes c.loop-fact.texts.items (_ ∷ [])
     ∙ (λ i. c.loop-fact.invariant i ++ c.in_ok-fact_text.ensures i ∷ [])
     ∙ sym (map-append (fact_text schema) so_far (fact ∷ []))

@@ -13,7 +13,7 @@ loop-word-preserved c =
     c.loop-word.invariant
     ∙ one-read (λ word. word.now) literal_of c.args.words.now c.loop-word.word-index c.word-item.result c.word-item.is c.loop-word-test.true
     c.loop-word.clause.items c.in-Some.literal (sym c.literal_of.ensures ∙ c.in-Some.is)
-    ∙ ap (λ read. behind read (from (λ word. word.now) literal_of c.args.words.now (c.loop-word.word-index + 1))) (sym c.in_ok-push.ensures.pushed)
+    ∙ ap (λ read. behind read (from (λ word. word.now) literal_of c.args.words.now (c.loop-word.word-index + 1))) (sym c.in_ok-push-in-Some.ensures.items)
 
 -- a word that says nothing
 pub returns-in-None : goal.returns-in-None

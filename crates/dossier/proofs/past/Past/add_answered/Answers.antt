@@ -39,7 +39,7 @@ returns-clause-kept c =
     let user = past_user before in
     let history = past_history before in
     let more : map answered_query_of c.push.new.self.items ≡ history ++ item ∷ [] =
-    ap (map answered_query_of) c.in_ok-push.ensures.pushed ∙ map-append answered_query_of c.args.self.now.entries.items (c.args.item ∷ []) in
+    ap (map answered_query_of) c.in_ok-push.ensures.items ∙ map-append answered_query_of c.args.self.now.entries.items (c.args.item ∷ []) in
     let same = user-asked c.law_logs.ensures.grows c.law_added_secrets.ensures.grows user history item c.requires.asked in
     record {
       limits = c.requires.kept.limits;
@@ -60,5 +60,5 @@ returns-clause-kept c =
 pub returns-clause-added : goal.returns-clause-added
 returns-clause-added c = (
   search rules,
-  ap (map answered_query_of) c.in_ok-push.ensures.pushed ∙ map-append answered_query_of c.args.self.now.entries.items (c.args.item ∷ []),
+  ap (map answered_query_of) c.in_ok-push.ensures.items ∙ map-append answered_query_of c.args.self.now.entries.items (c.args.item ∷ []),
 )

@@ -37,7 +37,7 @@ returns-clause-kept c =
     ∙ ap (λ u. with_secrets u (u.secrets ++ formula_of c.args.item.query ∷ [])) c.requires.kept.current
     ∙ sym (user-added c.law_logs.ensures.grows c.law_added_secrets.ensures.grows user history item c.requires.added) in
     let more : map answered_query_of c.push.new.self.items ≡ history ++ item ∷ [] =
-    ap (map answered_query_of) c.in_ok-push.ensures.pushed ∙ map-append answered_query_of c.args.self.now.entries.items (c.args.item ∷ []) in
+    ap (map answered_query_of) c.in_ok-push.ensures.items ∙ map-append answered_query_of c.args.self.now.entries.items (c.args.item ∷ []) in
     record {
       limits = c.requires.kept.limits;
       sizes = subst (KeepsSizes schema user) (sym more) (sizes_push schema user history item c.requires.kept.sizes c.requires.fits);
@@ -58,5 +58,5 @@ returns-clause-kept c =
 pub returns-clause-added : goal.returns-clause-added
 returns-clause-added c = (
   search rules,
-  ap (map answered_query_of) c.in_ok-push.ensures.pushed ∙ map-append answered_query_of c.args.self.now.entries.items (c.args.item ∷ []),
+  ap (map answered_query_of) c.in_ok-push.ensures.items ∙ map-append answered_query_of c.args.self.now.entries.items (c.args.item ∷ []),
 )
