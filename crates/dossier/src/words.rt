@@ -120,7 +120,7 @@ fn words_of<'a>(alloc: Global, text: &'a [u8]) -> Result<Vec<&'a [u8]>, AllocErr
 fn is_colon(word: &[u8]) -> bool
     ensures { result ≡ is_colon word.now }
 {
-    word == b":"
+    word == b":".as_slice()
 }
 
 /// The literals that these words write, where each writes one.

@@ -51,13 +51,13 @@ pub fn replay<'w>(
 {
     let admission = admit(alloc, schema, world, user)?;
     match replay_log(alloc, schema, world, user, admission, records) {
-        Ok((log, standing)) => Ok(replayed(log, standing)),
+        Ok((log, standing)) => Ok(outcome_of(log, standing)),
         Err(error) => Err(error),
     }
 }
 
 // What the log of a replay and its standing are without the log.
-fn replayed(log: UserLog<'_>, standing: Standing) -> Replayed
+fn outcome_of(log: UserLog<'_>, standing: Standing) -> Replayed
     ensures { (schema : DatabaseSchema) (world : FactSet) (user : UserProfile)
         (all : List Recorded)
         → IsLogOf schema world user log.entry

@@ -5,5 +5,5 @@ use Rattle.user_desk.proofs.replay.replay.Goals as goal
 
 pub returns-in-Ok : goal.returns-in-Ok
 returns-in-Ok c =
-    c.replayed.ensures c.args.schema.now c.args.world.now (profile_of c.args.user.now) (map recorded c.args.records.now) c.in-Ok.ensures.log
+    c.outcome_of.ensures c.args.schema.now c.args.world.now (profile_of c.args.user.now) (map recorded c.args.records.now) c.in-Ok.ensures.log
     c.in-Ok.ensures.replay
