@@ -13,11 +13,11 @@ use Rattle.dossier.specs.Checked.{Showing, Awaited, block, step, behind_block, r
 use Rattle.dossier.specs.Reading.{Unread, next_line, field_said, PassesLine, TakesLine, IsButMemory, answer, ReadsOn}
 use Rattle.dossier.specs.Blocks.{Probed, reason_of, MayFollow, open_answer}
 use Rattle.dossier.specs.declared.blocks.Reason.{Reason}
-use Rattle.dossier.specs.declared.fields.Field.{Field}
+use Rattle.dossier.specs.declared.cut.Field.{Field}
 use Rattle.dossier.specs.declared.error.DossierError.{DossierError}
 use Rattle.dossier.specs.declared.error.DossierError.TheVariants as refused
-use Rattle.dossier.proofs.Reads.{answer-line, answer-end, reads-err, reads-refused, block-open, block-follows, block-other, open-shows, open-refused}
-use Rattle.dossier.proofs.Reads.{follows-reads, follows-refused, step-line, step-end, step-other, end-shows}
+use Rattle.dossier.proofs.ReadLines.{answer-line, answer-end, reads-err, reads-refused, block-open, block-follows, block-other, open-shows, open-refused}
+use Rattle.dossier.proofs.ReadLines.{follows-reads, follows-refused, step-line, step-end, step-other, end-shows}
 
 -- what is confirmed of the view's log is of the log that it has
 pub confirmed-is : (schema schema' : DatabaseSchema) (told told' premise : List Signed) (goal : Signed) (probe : Probed) (lines : List RefutationLine)

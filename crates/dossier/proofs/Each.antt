@@ -16,7 +16,7 @@ use Rattle.dossier.specs.Checked.{Task, Awaited, Showing, block, awaited_for, be
 use Rattle.dossier.specs.Reading.{Unread, answer, ReadsOn, ReadsAll}
 use Rattle.dossier.specs.declared.error.DossierError.{DossierError}
 use Rattle.dossier.specs.declared.error.DossierError.TheVariants as refused
-use Rattle.dossier.proofs.Reads.{any-more}
+use Rattle.dossier.proofs.ReadLines.{any-more}
 
 -- what each of the goals passes, this one passes
 pub passes-at : {W : Type 0} (said : W → Formula) (goals : List W) (i : ℕ) (goal : W) → goal ≡ get_or goals i goal → i < length goals

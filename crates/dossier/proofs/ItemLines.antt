@@ -12,11 +12,11 @@ use Rattle.dossier.specs.Words.{mark_named}
 use Rattle.dossier.specs.Checked.{Awaited, admission, item, nothing, admitting, head_rest, head_line, admission_line, item_line, ask_line, protect_line}
 use Rattle.dossier.specs.Checked.{awaited_for, after_line, at_end}
 use Rattle.dossier.specs.Reading.{Unread, next_line, field_said, TakesLine, answer, ReadsOn}
-use Rattle.dossier.specs.declared.fields.Field.{Field}
+use Rattle.dossier.specs.declared.cut.Field.{Field}
 use Rattle.dossier.specs.declared.error.DossierError.{DossierError}
 use Rattle.dossier.specs.declared.error.DossierError.TheVariants as refused
 use Rattle.dossier.specs.Items.{ReadsItem, ReadsItems}
-use Rattle.dossier.proofs.Reads.{answer-line, answer-end, reads-err, reads-refused}
+use Rattle.dossier.proofs.ReadLines.{answer-line, answer-end, reads-err, reads-refused}
 
 -- a reading of an item over the schema and the user that are kept is one over those that they are
 pub item-at : (schema schema' : DatabaseSchema) (world : FactSet) (name : Text) (user user' : UserProfile) (before after : History) (field : FieldSaid)

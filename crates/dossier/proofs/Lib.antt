@@ -5,10 +5,10 @@ mod Worlds
 mod Listings
 mod Truths
 mod Shown
-mod Reads
+mod ReadLines
 mod BlockReads
 mod Kept
-mod Items
+mod Verdicts
 mod ItemLines
 mod Each
 mod Probing

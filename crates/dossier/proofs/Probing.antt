@@ -15,10 +15,10 @@ use Rattle.dossier.specs.Fields.{is_alone}
 use Rattle.dossier.specs.Checked.{Task, Awaited, admission, admitting, item, awaited_for, behind_task}
 use Rattle.dossier.specs.Reading.{Unread, field_said, TakesLine, answer, ReadsOn, ReadsAll}
 use Rattle.dossier.specs.Items.{goal_probe, implied_probes, ReadsImplied, ReadsFindings}
-use Rattle.dossier.specs.declared.fields.Field.{Field}
+use Rattle.dossier.specs.declared.cut.Field.{Field}
 use Rattle.dossier.specs.declared.error.DossierError.{DossierError}
 use Rattle.dossier.specs.declared.error.DossierError.TheVariants as refused
-use Rattle.dossier.proofs.Items.{first_count, found-mark}
+use Rattle.dossier.proofs.Verdicts.{first_count, found-mark}
 use Rattle.dossier.proofs.ItemLines.{line-says, admission-true}
 
 -- ---- the admission

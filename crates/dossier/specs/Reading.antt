@@ -7,7 +7,7 @@ use Rattle.cqe_base.specs.Facts.{FactSet}
 use Rattle.cqe_base.specs.History.{UserProfile, History}
 use Rattle.dossier.specs.Fields.{FieldSaid, lines_in, fields_from}
 use Rattle.dossier.specs.Checked.{Awaited, checked_from}
-use Rattle.dossier.specs.declared.fields.Field.{Field}
+use Rattle.dossier.specs.declared.cut.Field.{Field}
 use Rattle.dossier.specs.declared.error.DossierError.{DossierError}
 use Rattle.dossier.specs.declared.error.DossierError.TheVariants.{Form, Memory}
 

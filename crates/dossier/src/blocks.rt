@@ -22,7 +22,7 @@ ghost use Rattle.dossier.specs.Reading.{bytes_left, ReadsOn, ReadsAll, IsButMemo
 ghost use Rattle.dossier.specs.Blocks.{Probed, reason_of, probe_over, MayFollow, open_answer};
 
 use crate::error::DossierError;
-use crate::fields::{Field, FieldIter};
+use crate::cut::{Field, FieldIter};
 use crate::listed::{facts_listed, world_of};
 use crate::past::{is_truth, knows_truth, tells_truth};
 use crate::words::line_in;

@@ -15,7 +15,7 @@ ghost use Rattle.dossier.specs.Items.{ReadsItem, ReadsItems, EndsHere};
 
 use crate::blocks::{Reason, Told, read_each};
 use crate::error::DossierError;
-use crate::fields::{Field, FieldIter, fields};
+use crate::cut::{Field, FieldIter, fields};
 use crate::items::{is_refusal, read_ask, read_protect};
 use crate::laws::{law_checked_is_sound, law_sound};
 use crate::past::{Past, knows_truth};

@@ -19,7 +19,7 @@ ghost use Rattle.dossier.specs.Items.{ReadsImplied, is_refusal};
 
 use crate::blocks::{Reason, Told, read_block, read_each};
 use crate::error::DossierError;
-use crate::fields::{Field, FieldIter, first_word};
+use crate::cut::{Field, FieldIter, first_word};
 use crate::past::Past;
 use crate::words::{is_same, is_undecided, mark_named, size_of};
 use censors::{Findings, decide, guard_with};

@@ -9,14 +9,14 @@
 //! parts a text into its lines and their first words.
 //!
 //! Read `specs/Fields.antt`, `specs/Words.antt`, `specs/Checked.antt` and `specs/Written.antt`,
-//! then `fields`, `words` and `listed`; `past` is what was read so far, `blocks`, `items` and
+//! then `cut`, `words` and `listed`; `past` is what was read so far, `blocks`, `items` and
 //! `checking` read on, and `printed` and `writing` write.
 #![tactic(auto)]
 
 mod blocks;
 mod checking;
 mod error;
-mod fields;
+mod cut;
 mod items;
 mod laws;
 mod listed;
@@ -27,6 +27,6 @@ mod writing;
 
 pub use checking::check_dossier;
 pub use error::DossierError;
-pub use fields::{Field, FieldIter, fields};
+pub use cut::{Field, FieldIter, fields};
 pub use laws::{law_checked_is_sound, law_sound};
 pub use writing::{write_dossier, write_unserved};

@@ -10,7 +10,7 @@ ghost use Rattle.dossier.specs.Fields.{ended_parts};
 ghost use Rattle.dossier.specs.Words.{fact_in, facts_in, ascends, is_listing, world_of};
 ghost use Rattle.dossier.specs.Words.{facts_listed};
 
-use crate::fields::first_part;
+use crate::cut::first_part;
 use crate::words::is_long;
 use audit_print::fact_text;
 use audit_text::push_facts;

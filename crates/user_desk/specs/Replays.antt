@@ -12,8 +12,8 @@ use Rattle.user_log.specs.declared.reply.Reply.{Reply}
 use Rattle.user_log.specs.declared.reply.Reply.TheVariants as replies
 use Rattle.user_desk.specs.Entries.{entry_of}
 use Rattle.user_desk.specs.Causes.{RefusesRecord, IsReplay}
-use Rattle.user_desk.specs.declared.replay.Replayed.{Replayed}
-use Rattle.user_desk.specs.declared.replay.Replayed.TheVariants as replayed
+use Rattle.user_desk.specs.declared.recounting.Replayed.{Replayed}
+use Rattle.user_desk.specs.declared.recounting.Replayed.TheVariants as replayed
 use Rattle.user_desk.specs.declared.standing.DeskError.{DeskError}
 use Rattle.user_desk.specs.declared.standing.DeskError.TheVariants.{Stale, Size, Unsafe}
 use Rattle.user_desk.specs.declared.standing.Standing.TheVariants.{Open, Closed, Sealed}

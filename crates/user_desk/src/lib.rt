@@ -20,12 +20,12 @@ mod desk;
 mod kinds;
 pub mod laws;
 mod opening;
-mod replay;
+mod recounting;
 mod standing;
 mod store;
 
 pub use desk::Desk;
 pub use kinds::mark_of;
 pub use opening::open_desk;
-pub use replay::{Replayed, replay};
+pub use recounting::{Replayed, replay};
 pub use standing::{DeskError, Standing};

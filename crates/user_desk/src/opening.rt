@@ -18,7 +18,7 @@ ghost use Rattle.user_desk.specs.Desks.{desk_standing, desk_history, desk_disk, 
 ghost use Rattle.user_desk.specs.Desks.{opening_history, opening_disk, IsIn, disk_opened};
 
 use crate::Desk;
-use crate::replay::replay_log;
+use crate::recounting::replay_log;
 use crate::standing::{DeskError, Standing};
 use crate::store::{Medium, Store};
 use censors::Admission;

@@ -5,7 +5,7 @@ use Rattle.clause_store.specs.PlainLines.{line_of}
 use Rattle.dossier.specs.Checked.{step}
 use Rattle.dossier.specs.Reading.{answer, next_line}
 use Rattle.dossier.specs.declared.error.DossierError.TheVariants as refused
-use Rattle.dossier.proofs.Reads.{answer-end}
+use Rattle.dossier.proofs.ReadLines.{answer-end}
 use Rattle.dossier.proofs.BlockReads.{step-more, step-ends, step-form}
 use Rattle.dossier.proofs.blocks.read_refutation.Goals as goal
 

@@ -1,7 +1,7 @@
 use Rattle.std.proofs.Common.{sym, ◌∙◌}
 use Rattle.cqe_base.specs.History.{known}
 use Rattle.dossier.specs.Logs.{past_schema, past_user}
-use Rattle.dossier.proofs.Items.{knows-refusal, knows-other}
+use Rattle.dossier.proofs.Verdicts.{knows-refusal, knows-other}
 use Rattle.dossier.proofs.checking.knows_truth_by.Goals as goal
 
 pub knows_truth-requires : goal.knows_truth-requires

@@ -1,5 +1,5 @@
 use Rattle.dossier.specs.Checked.{nothing}
-use Rattle.dossier.proofs.Reads.{answer-line, answer-end}
+use Rattle.dossier.proofs.ReadLines.{answer-line, answer-end}
 use Rattle.dossier.proofs.checking.read_end.Goals as goal
 
 pub returns-in-Some : goal.returns-in-Some

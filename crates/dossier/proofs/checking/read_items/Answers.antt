@@ -2,7 +2,7 @@ use Rattle.std.proofs.Common.{refl, sym, ◌∙◌, arith, rules, tests, Ok}
 use Rattle.std.proofs.lemmas.Result.{err_from_is_err_and}
 use Rattle.dossier.specs.Checked.{item, nothing}
 use Rattle.dossier.specs.Logs.{past_schema, past_user, past_history}
-use Rattle.dossier.proofs.Reads.{reads-refused}
+use Rattle.dossier.proofs.ReadLines.{reads-refused}
 use Rattle.dossier.proofs.ItemLines.{item-at, line-missing, items-more, items-refused, items-done}
 use Rattle.dossier.proofs.checking.read_items.Goals as goal
 

@@ -7,7 +7,7 @@ use Rattle.cqe_base.specs.Formula.{formula_of}
 use Rattle.dossier.specs.Checked.{item, asked, sentence_in}
 use Rattle.dossier.specs.Reading.{field_said, answer}
 use Rattle.dossier.specs.Logs.{past_schema, past_user, past_history}
-use Rattle.dossier.proofs.Reads.{reads-refused}
+use Rattle.dossier.proofs.ReadLines.{reads-refused}
 use Rattle.dossier.proofs.Asks.{named-asked, ask-unmarked, ask-textless, ask-unread, ask-read, some-within, asked-within}
 use Rattle.dossier.proofs.Added.{asked-fits, fits-at, one-behind}
 use Rattle.dossier.proofs.items.read_ask.Goals as goal

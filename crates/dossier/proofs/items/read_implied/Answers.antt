@@ -6,7 +6,7 @@ use Rattle.entailment.specs.GroundSentences.{sentence_of, IsGroundOver}
 use Rattle.dossier.specs.Logs.{past_schema, past_user, past_history}
 use Rattle.dossier.specs.Checked.{awaited_for}
 use Rattle.dossier.specs.Items.{goal_probe}
-use Rattle.dossier.proofs.Items.{refusal-is, none-implied}
+use Rattle.dossier.proofs.Verdicts.{refusal-is, none-implied}
 use Rattle.dossier.proofs.Probing.{implied-read, implied-none, implied-refused, goal-at, fits-at}
 use Rattle.dossier.proofs.items.read_implied.Goals as goal
 

@@ -14,7 +14,7 @@ use Rattle.dossier.specs.Words.{world_of}
 use Rattle.dossier.specs.Checked.{item, adding, sentence_in, addition_probe, awaited_for}
 use Rattle.dossier.specs.Reading.{field_said, answer}
 use Rattle.dossier.specs.Logs.{past_schema, past_user, past_history}
-use Rattle.dossier.proofs.Reads.{reads-refused}
+use Rattle.dossier.proofs.ReadLines.{reads-refused}
 use Rattle.dossier.proofs.Asks.{protect-textless, protect-unread, protect-read, some-within, added-within}
 use Rattle.dossier.proofs.Added.{added-fits, fits-at, one-behind, guard-at, addition-shown}
 use Rattle.dossier.proofs.items.read_protect.Goals as goal

@@ -1,7 +1,7 @@
 use Rattle.std.proofs.Common.{map}
 use Rattle.cqe_base.specs.History.{profile_of}
 use Rattle.log_journal.specs.Opening.{recorded}
-use Rattle.user_desk.proofs.replay.replay.Goals as goal
+use Rattle.user_desk.proofs.recounting.replay.Goals as goal
 
 pub returns-in-Ok : goal.returns-in-Ok
 returns-in-Ok c =

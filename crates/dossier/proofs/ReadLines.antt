@@ -19,7 +19,7 @@ use Rattle.dossier.specs.Checked.{follows_block, refutation_end, refutation_line
 use Rattle.dossier.specs.Reading.{Unread, next_line, fields_left, field_said, PassesLine, IsButMemory, answer, ReadsOn}
 use Rattle.dossier.specs.Blocks.{Probed, reason_of, MayFollow, open_answer}
 use Rattle.dossier.specs.declared.blocks.Reason.{Reason}
-use Rattle.dossier.specs.declared.fields.Field.{Field}
+use Rattle.dossier.specs.declared.cut.Field.{Field}
 use Rattle.dossier.specs.declared.error.DossierError.{DossierError}
 use Rattle.dossier.specs.declared.error.DossierError.TheVariants as refused
 

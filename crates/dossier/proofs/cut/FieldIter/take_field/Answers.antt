@@ -3,7 +3,7 @@ use Rattle.std.proofs.lemmas.Bool.Decides.{nat_tests}
 use Rattle.std.proofs.lemmas.List.{nil_from_length}
 use Rattle.dossier.specs.Fields.{fields_from, lines_in}
 use Rattle.dossier.proofs.Lines.{fields-first}
-use Rattle.dossier.proofs.fields.FieldIter.take_field.Goals as goal
+use Rattle.dossier.proofs.cut.FieldIter.take_field.Goals as goal
 
 -- no byte is left, so no line
 pub returns-then-is_empty-clause-passes : goal.returns-then-is_empty-clause-passes

@@ -3,7 +3,7 @@ use Rattle.std.proofs.lemmas.Bool.Decides.{nat_tests}
 use Rattle.std.proofs.lemmas.List.{nil_from_length}
 use Rattle.std.proofs.lemmas.Str.Pattern.{split_once_first}
 use Rattle.dossier.proofs.Lines.{word-alone, word-before, word-whole}
-use Rattle.dossier.proofs.fields.first_word.Goals as goal
+use Rattle.dossier.proofs.cut.first_word.Goals as goal
 
 pub returns-in-Some-then-is_empty-clause-word : goal.returns-in-Some-then-is_empty-clause-word
 returns-in-Some-then-is_empty-clause-word c =

@@ -10,7 +10,7 @@ use Rattle.user_desk.specs.Replays.{refused_by}
 use Rattle.user_desk.proofs.Refusing.{few}
 use Rattle.user_desk.proofs.Taking.{count_of, no_text, code_refuses, mark_refuses}
 use Rattle.user_desk.specs.declared.standing.DeskError.TheVariants.{Unlawful}
-use Rattle.user_desk.proofs.replay.take_record.Goals as goal
+use Rattle.user_desk.proofs.recounting.take_record.Goals as goal
 
 pub overflow_cast-number : goal.overflow_cast-number
 overflow_cast-number c =

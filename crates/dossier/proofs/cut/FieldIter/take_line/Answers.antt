@@ -1,7 +1,7 @@
 use Rattle.std.proofs.Common.{ap, ◌∙◌}
 use Rattle.dossier.specs.Reading.{next_line}
 use Rattle.dossier.specs.declared.error.DossierError.TheVariants as refused
-use Rattle.dossier.proofs.fields.FieldIter.take_line.Goals as goal
+use Rattle.dossier.proofs.cut.FieldIter.take_line.Goals as goal
 
 pub returns-in-Some-clause-takes : goal.returns-in-Some-clause-takes
 returns-in-Some-clause-takes c = rw c.in-Some.is at c.take_field.ensures.passes

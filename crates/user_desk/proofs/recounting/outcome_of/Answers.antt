@@ -1,6 +1,6 @@
 use Rattle.user_desk.proofs.Keeping.{legal_at, sizes_at}
 use Rattle.user_desk.proofs.Replaying.{open_told, none_told, sealed_none}
-use Rattle.user_desk.proofs.replay.outcome_of.Goals as goal
+use Rattle.user_desk.proofs.recounting.outcome_of.Goals as goal
 
 pub returns-in-Open : goal.returns-in-Open
 returns-in-Open c schema world user all same is =

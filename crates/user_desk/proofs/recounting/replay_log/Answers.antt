@@ -11,7 +11,7 @@ use Rattle.censors.specs.declared.admittance.Admission.TheVariants.{Open}
 use Rattle.censors.proofs.Objections.{admitted_exactly}
 use Rattle.log_journal.specs.declared.header.Record.{Record}
 use Rattle.log_journal.specs.Opening.{recorded}
-use Rattle.user_desk.proofs.replay.replay_log.Goals as goal
+use Rattle.user_desk.proofs.recounting.replay_log.Goals as goal
 
 -- who isn't open isn't admitted
 closed : (schema : DatabaseSchema) (world : FactSet) (user : UserProfile) (admission : Admission) → admission ≡ admission_of schema world user

@@ -1,5 +1,5 @@
 use Rattle.user_desk.proofs.Taking.{replay_refused_of}
-use Rattle.user_desk.proofs.replay.replay_records.Goals as goal
+use Rattle.user_desk.proofs.recounting.replay_records.Goals as goal
 
 pub returns-in-Some-clause-replay : goal.returns-in-Some-clause-replay
 returns-in-Some-clause-replay c =

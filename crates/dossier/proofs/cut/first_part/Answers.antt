@@ -1,7 +1,7 @@
 use Rattle.std.proofs.Common.{◌==◌}
 use Rattle.std.proofs.lemmas.Str.Pattern.{split_once_first}
 use Rattle.dossier.proofs.Lines.{cut-parts, last-part, back-less}
-use Rattle.dossier.proofs.fields.first_part.Goals as goal
+use Rattle.dossier.proofs.cut.first_part.Goals as goal
 
 pub returns-in-Some-clause-first : goal.returns-in-Some-clause-first
 returns-in-Some-clause-first c =

@@ -5,7 +5,7 @@ use Rattle.log_journal.specs.Opening.{recorded}
 use Rattle.user_log.specs.UserLogs.{kept_history}
 use Rattle.user_desk.specs.Entries.{entry_of}
 use Rattle.user_desk.specs.Replays.{IsLogOf}
-use Rattle.user_desk.proofs.replay.replay_records.Given as goal
+use Rattle.user_desk.proofs.recounting.replay_records.Given as goal
 
 -- the records so far stand for the entries of the log
 abbrev pub invariant-loop-next : goal.invariant-loop-next
