@@ -353,7 +353,7 @@ module _ (test : TestIsEntailment) (refutes : RefutationEntails) (empty : EmptyH
   ask_good line entries None text shown is = tt
   ask_good line entries (Some mark) [] shown is = tt
   ask_good line entries (Some mark) (b ∷ text) shown is =
-      asked_good line entries mark (length (b ∷ text)) (sentence_in schema world name user entries Asking (b ∷ text)) shown (is mark refl)
+      asked_good line entries mark (length (b ∷ text)) (sentence_in schema world user entries Asking (b ∷ text)) shown (is mark refl)
 
   added_good : (line : ℕ) (entries : History) (size : ℕ) (found : Option Formula) → IsShown entries
       → IsGoodResult (added schema world name user line entries size found)
@@ -370,7 +370,7 @@ module _ (test : TestIsEntailment) (refutes : RefutationEntails) (empty : EmptyH
   protect_good : (line : ℕ) (entries : History) (text : Text) → IsShown entries → IsGoodResult (protect_line schema world name user line entries text)
   protect_good line entries [] shown = tt
   protect_good line entries (b ∷ text) shown =
-      added_good line entries (length (b ∷ text)) (sentence_in schema world name user entries Protecting (b ∷ text)) shown
+      added_good line entries (length (b ∷ text)) (sentence_in schema world user entries Protecting (b ∷ text)) shown
 
   item_line_good : (entries : History) (field : FieldSaid) → IsShown entries → IsGoodResult (item_line schema world name user entries field)
   item_line_good entries field shown =

@@ -74,6 +74,20 @@ abbrev pub head_rest : Text → UserProfile → Text → Text
 head_rest name user standing =
     codes "1 " ++ name ++ codes " " ++ method_word user.method ++ codes " " ++ standing
 
+module _ (schema : DatabaseSchema) (world : FactSet) (user : UserProfile) where
+  -- the sentence that a text reads as, where it isn't beyond the limits behind these items
+  abbrev pub within_limits : History → Purpose → Text → Result Formula Refusal → Option Formula
+  within_limits entries purpose text (Err why) = None
+  within_limits entries purpose text (Ok sentence) =
+      if is_beyond schema world user entries purpose (length text) sentence then None
+      else Some sentence
+
+  -- that of a text of at most 4,096 bytes
+  abbrev pub sentence_in : History → Purpose → Text → Option Formula
+  sentence_in entries purpose text =
+      if nat_le (length text) 4096 then within_limits entries purpose text (reading schema text)
+      else None
+
 module _ (schema : DatabaseSchema) (world : FactSet) (name : Text) (user : UserProfile) where
   -- ---- tasks
 
@@ -145,19 +159,6 @@ module _ (schema : DatabaseSchema) (world : FactSet) (name : Text) (user : UserP
 
   -- ---- items
 
-  -- the sentence that a text reads as, where it isn't beyond the limits behind these items
-  abbrev pub within_limits : History → Purpose → Text → Result Formula Refusal → Option Formula
-  within_limits entries purpose text (Err why) = None
-  within_limits entries purpose text (Ok sentence) =
-      if is_beyond schema world user entries purpose (length text) sentence then None
-      else Some sentence
-
-  -- that of a text of at most 4,096 bytes
-  abbrev pub sentence_in : History → Purpose → Text → Option Formula
-  sentence_in entries purpose text =
-      if nat_le (length text) 4096 then within_limits entries purpose text (reading schema text)
-      else None
-
   -- an ask of this line with its mark; one that is undecided shows nothing
   abbrev pub asked : ℕ → History → Mark → ℕ → Option Formula → Result Awaited DossierError
   asked line entries mark size None = Err (refused.Text line)
@@ -171,7 +172,8 @@ module _ (schema : DatabaseSchema) (world : FactSet) (name : Text) (user : UserP
   ask_line line entries None text = Err (refused.Form line)
   ask_line line entries (Some mark) [] = Err (refused.Form line)
   ask_line line entries (Some mark) (b ∷ text) =
-      asked line entries mark (length (b ∷ text)) (sentence_in entries Asking (b ∷ text))
+      asked line entries mark (length (b ∷ text))
+          (sentence_in schema world user entries Asking (b ∷ text))
 
   -- a sentence that is to be added
   abbrev pub added : ℕ → History → ℕ → Option Formula → Result Awaited DossierError
@@ -183,7 +185,8 @@ module _ (schema : DatabaseSchema) (world : FactSet) (name : Text) (user : UserP
   abbrev pub protect_line : ℕ → History → Text → Result Awaited DossierError
   protect_line line entries [] = Err (refused.Form line)
   protect_line line entries (b ∷ text) =
-      added line entries (length (b ∷ text)) (sentence_in entries Protecting (b ∷ text))
+      added line entries (length (b ∷ text))
+          (sentence_in schema world user entries Protecting (b ∷ text))
 
   -- ---- lines
 

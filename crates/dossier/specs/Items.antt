@@ -39,7 +39,8 @@ implied_probes Combined log query = []
 
 -- the answer that is entailed, by the verdicts on these
 abbrev pub implied_shown : List Bool → Option Bool
-implied_shown (yes ∷ no ∷ []) = if yes then Some true else if no then Some false else None
+implied_shown (is_yes ∷ is_no ∷ []) =
+    if is_yes then Some true else if is_no then Some false else None
 implied_shown _ = None
 
 module _ (schema : DatabaseSchema) (world : FactSet) (name : Text) (user : UserProfile) where

@@ -1,6 +1,6 @@
 //! Blocks as they are written.
 ghost use Rattle.std.specs.Prelude.{◌≡◌, ◌≢◌, ◌≤◌, ◌+◌, ◌++◌, map, codes, string_bytes, Some};
-ghost use Rattle.std.specs.Prelude.{OnOk};
+ghost use Rattle.std.specs.Prelude.{OnOk, true};
 ghost use Rattle.std.specs.List.{flat_map};
 ghost use Rattle.cqe_base.specs.Facts.{IsWorldOf};
 ghost use Rattle.cqe_base.specs.Formula.{nodes, is_sentence_of};
