@@ -55,7 +55,27 @@ shown_so schema world name user all standing shows (Err audit_errors.WriteFault)
     let some = part refl in (standing, some.0, shows some.0 some.1, some.2)
 shown_so schema world name user all standing shows (Err audit_errors.Memory) old new whole part nothing = nothing refl
 
--- so was the line of a user whose journal isn't opened
+-- so was the line of one who isn't served
+pub line_so : (schema : DatabaseSchema) (world : FactSet) (name : Text) (user : UserProfile) (all : List Recorded) (standing : Standing) (line : Text)
+    → IsTextOf schema name user all standing line → IsReplay schema world user all [] standing
+    → (written : Result (Unit {0}) AuditError) (old new : List ℕ) → OnOk written (new ≡ old ++ line)
+    → (written ≡ Err audit_errors.WriteFault → AppendsPart old new line) → (written ≡ Err audit_errors.Memory → new ≡ old)
+    → IsShown schema world name user all (end_of (good_end standing) written) old new
+line_so schema world name user all standing line is replay written old new whole part nothing = by written whole part nothing
+  where
+    shows : (text : Text) → IsTextOf schema name user all standing text → IsReplayText schema world name user all standing text
+    shows text text_is =
+        record { entries = []; replay = replay; legal = none_legal schema world user; sizes = none_sized schema user; text_is = text_is }
+
+    by : (written : Result (Unit {0}) AuditError) → OnOk written (new ≡ old ++ line)
+        → (written ≡ Err audit_errors.WriteFault → AppendsPart old new line) → (written ≡ Err audit_errors.Memory → new ≡ old)
+        → IsShown schema world name user all (end_of (good_end standing) written) old new
+    by (Ok done) whole part nothing =
+        shown_so schema world name user all standing shows (Ok done) old new (line, is, whole) (λ e. (line, is, part e)) nothing
+    by (Err why) whole part nothing =
+        shown_so schema world name user all standing shows (Err why) old new whole (λ e. (line, is, part e)) nothing
+
+-- so was that of a user whose journal isn't opened
 pub line_shown : (name : Text) (user : UserProfile) (why : OpenError) → why ≢ open_errors.Memory → (written : Result (Unit {0}) AuditError) (old new : List ℕ)
     → OnOk written (new ≡ old ++ head_text name user (codes "sealed"))
     → (written ≡ Err audit_errors.WriteFault → AppendsPart old new (head_text name user (codes "sealed")))

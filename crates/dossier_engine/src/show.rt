@@ -89,7 +89,7 @@ fn show_records<'w, K: Sink>(
             );
             end_of(DossierEnd::Done, written)
         }
-        Replayed::Closed(_) => {
+        Replayed::Closed(_admission) => {
             let written = write_unserved(alloc, user, "closed", sink);
             end_of(DossierEnd::Done, written)
         }
