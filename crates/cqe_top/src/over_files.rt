@@ -125,7 +125,8 @@ where
                     CommandEnd::Dossier(name, run_dossier(alloc, &registry, user, shelf, sink))
                 }
                 UserTask::Check => {
-                    let (schema, world) = (registry.schema, registry.world);
+                    let schema = registry.schema;
+                    let world = registry.world;
                     CommandEnd::Check(run_check(alloc, schema, world, user, source, sink))
                 }
             }

@@ -1,10 +1,9 @@
 -- The check of bytes, by that of the text that they are.
-use Rattle.std.proofs.Common.{◌≡◌, ◌≢◌, ◌⊎◌, inl, inr, ℕ, ◌<◌, ◌≤◌, Bool, true, false, List, ◌++◌, length, refl, sym, ap, subst, ◌∙◌, cases_Bool}
-use Rattle.std.specs.Prelude.{¬, nat_lt, Result, Ok, Err, if◌then◌else◌}
-use Rattle.std.specs.Str.{is_utf8, IsUtf8}
-use Rattle.std.proofs.lemmas.Bool.{lt-ltb, le-ltb}
+use Rattle.std.proofs.Common.{◌≡◌, inl, inr, ℕ, ◌<◌, ◌≤◌, false, List, length, refl, sym, ap, ◌∙◌}
+use Rattle.std.specs.Prelude.{IsUtf8, Result, Ok, Err}
+use Rattle.std.specs.Str.{is_utf8}
+use Rattle.std.proofs.lemmas.Bool.{cases_Bool, lt-ltb, le-ltb}
 use Rattle.std.proofs.lemmas.Str.{IsUtf8-from_is_utf8, is_utf8-from_IsUtf8}
-use Rattle.outside.specs.Streams.{AppendsPart}
 use Rattle.cqe_base.specs.Schema.{DatabaseSchema, Text}
 use Rattle.cqe_base.specs.Facts.{FactSet}
 use Rattle.cqe_base.specs.History.{UserProfile, History}
@@ -12,7 +11,7 @@ use Rattle.dossier.specs.Checked.{checked}
 use Rattle.dossier.specs.Promised.{counted, IsCheckOf, IsAccepted}
 use Rattle.dossier.specs.declared.error.DossierError.{DossierError}
 use Rattle.dossier.specs.declared.error.DossierError.TheVariants as errors
-use Rattle.dossier_engine.specs.Checks.{sound_text, refused_end, by_line, checked_bytes, AcceptsBytes, EndsCheck, EndsText, IsSaid, IsSilentCheck}
+use Rattle.dossier_engine.specs.Checks.{refused_end, by_line, checked_bytes, AcceptsBytes, EndsCheck, EndsText, IsSaid}
 use Rattle.dossier_engine.specs.Input.{IsRead}
 use Rattle.dossier_engine.specs.declared.end.CheckEnd.{CheckEnd}
 use Rattle.dossier_engine.specs.declared.end.CheckEnd.TheVariants as ends

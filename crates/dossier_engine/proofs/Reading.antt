@@ -1,5 +1,5 @@
 -- What is read of a source.
-use Rattle.std.proofs.Common.{◌≡◌, ℕ, ◌+◌, ◌<◌, ◌≤◌, List, [], ◌++◌, length, take, drop, refl, sym, ap, subst, ◌∙◌, arith, append_assoc, length-append}
+use Rattle.std.proofs.Common.{◌≡◌, ℕ, ◌+◌, ◌<◌, ◌≤◌, List, [], ◌++◌, length, take, drop, sym, ap, ◌∙◌, arith, append_assoc, length-append}
 use Rattle.std.proofs.Math.ListN.{drop_of_length-le}
 use Rattle.std.proofs.Math.Seq.{drop-append_seam}
 use Rattle.std.proofs.lemmas.List.{append-nil, length-take-le, nil_from_length, take-append-drop, take_at}
@@ -14,23 +14,13 @@ rest_taken n left left' piece piece' moves = λ bytes ends. record {
       ∙ ap (λ (l : List ℕ). (ends.front ++ take n left) ++ l) (sym moves.rest);
 }
 
--- what was left is what is left, in this order
-pub rest_further : (before mid now : List ℕ) → IsRest before mid → IsRest mid now → IsRest before now
-rest_further before mid now one two = λ bytes ends. two bytes (one bytes ends)
-
 -- what came through a window, and what is left behind it
 pub through : (bytes left left' piece piece' : List ℕ) (n : ℕ) → Moves n left left' piece piece' → (bytes ++ take n piece') ++ left' ≡ bytes ++ left
 through bytes left left' piece piece' n moves =
     let given : length (take n left) ≡ n = length-take-le n left moves.within in
     let front : take n piece' ≡ take n left =
-    ap (λ (l : List ℕ). take n l) moves.filled ∙ take_at (take n left) (drop n piece) n (sym given) in
+    ap (λ (l : List ℕ). take n l) moves.filled ∙ take_at (take n left) (drop n piece) n given in
     rw (front, moves.rest) (append_assoc bytes (take n left) (drop n left) ∙ ap (λ (l : List ℕ). bytes ++ l) (take-append-drop n left))
-
--- it is as much as was taken
-pub taken : (n : ℕ) (left left' piece piece' : List ℕ) → Moves n left left' piece piece' → length (take n piece') ≡ n
-taken n left left' piece piece' moves =
-    let given : length (take n left) ≡ n = length-take-le n left moves.within in
-    ap (λ (l : List ℕ). length (take n l)) moves.filled ∙ ap length (take_at (take n left) (drop n piece) n (sym given)) ∙ given
 
 -- ---- a text that was read
 
@@ -44,7 +34,7 @@ all_read before now left left' all n none more moved end read few =
     let same : length all ≡ length before = ap length short in
     let rest : left' ≡ [] = nil_from_length left' (omega (arith, none, more, sizes, same)) in (
       sym (append-nil now) ∙ ap (λ (l : List ℕ). now ++ l) (sym rest) ∙ whole,
-      rest ∙ sym (drop_of_length-le all (omega (arith, same, few))),
+      rest ∙ sym (drop_of_length-le all {i = 67108865} (omega (arith, same, few))),
     )
 
 -- one more byte than all came

@@ -76,12 +76,19 @@ fn take_piece<S: Source>(source: &mut S, bytes: &mut Vec<u8>) -> Result<usize, U
     ensures cause { result ≡ Err Unread.Fault → Rose (S.faults source.old) (S.faults source.new) }
 {
     let mut piece = [0; PIECE];
-    let room = MOST + 1 - bytes.len();
-    if room < PIECE {
-        take_through(source, &mut piece[..room], bytes)
-    } else {
-        take_through(source, &mut piece, bytes)
-    }
+    let size = piece_size(MOST + 1 - bytes.len());
+    let count = take_through(source, &mut piece[..size], bytes)?;
+    Ok(count)
+}
+
+// How many bytes a piece may have where so many more may come.
+fn piece_size(room: usize) -> usize
+    requires { 1 ≤ room }
+    ensures some { 1 ≤ result }
+    ensures within { result ≤ room }
+    ensures fits { result ≤ 4096 }
+{
+    if room < PIECE { room } else { PIECE }
 }
 
 // Takes a piece through this window, behind these bytes.

@@ -33,9 +33,8 @@ use Rattle.cqe_top.proofs.Serving.{serve_succeeds, served_out}
 use Rattle.cqe_top.proofs.Users.{batch_names_are}
 use Rattle.cqe_top.proofs.over_files.run_over_files.Given.{Over}
 use Rattle.cqe_top.proofs.over_files.run_over_files.Goals as goal
-use Rattle.cqe_top.proofs.over_files.run_over_files.Goals.{After-drop-inputs-5, After-drop-inputs-in-Audit-5, After-drop-inputs-in-Batch-4}
-use Rattle.cqe_top.proofs.over_files.run_over_files.Goals.{After-drop-inputs-in-Check-5, After-drop-inputs-in-Dossier-5}
-use Rattle.cqe_top.proofs.over_files.run_over_files.Goals.{After-drop-inputs-in-Init-3, After-drop-inputs-in-Migrate-4, After-drop-inputs-in_default-5, In-Err}
+use Rattle.cqe_top.proofs.over_files.run_over_files.Goals.{After-drop-inputs-5, After-drop-inputs-in-Batch-4}
+use Rattle.cqe_top.proofs.over_files.run_over_files.Goals.{After-drop-inputs-in-Init-3, After-drop-inputs-in-Migrate-4, In-Err}
 
 pub run_batch-end-requires-clause-names : goal.run_batch-end-requires-clause-names
 run_batch-end-requires-clause-names g c κs within =
@@ -183,14 +182,10 @@ returns-in-Batch-clause-command g c =
 
 -- ---- a user who isn't there
 
-abbrev nobody_scene : (g : Over) → After-drop-inputs-in_default-5 g → Scene
-nobody_scene g c =
-    scene_of (shelf_of g.F.Shelf g.F.D.Disk c.args.shelf.now c.read_files.new.shelf) (input_of g.S.Source c.args.source.now c.args.source.now)
-    (output_of g.K.Sink c.args.sink.now c.args.sink.now) (links_of g.L.Links c.args.links.now c.args.links.now)
-
 pub returns-in_default-clause-command : goal.returns-in_default-clause-command
 returns-in_default-clause-command g c =
-    let scene = nobody_scene g c in
+    let scene : Scene = scene_of (shelf_of g.F.Shelf g.F.D.Disk c.args.shelf.now c.read_files.new.shelf) (input_of g.S.Source c.args.source.now c.args.source.now)
+    (output_of g.K.Sink c.args.sink.now c.args.sink.now) (links_of g.L.Links c.args.links.now c.args.links.now) in
     let read = c.in-Ok.ensures in
     let files = names_of_files c.args.files in
     let inputs = c.in-Ok.inputs in
@@ -212,22 +207,20 @@ returns-in_default-clause-command g c =
 
 -- ---- an audit
 
-abbrev audit_scene : (g : Over) → After-drop-inputs-in-Audit-5 g → Scene
-audit_scene g c =
-    scene_of (shelf_of g.F.Shelf g.F.D.Disk c.args.shelf.now c.run_audit.new.shelf) (input_of g.S.Source c.args.source.now c.args.source.now)
-    (output_of g.K.Sink c.args.sink.now c.run_audit.new.sink) (links_of g.L.Links c.args.links.now c.args.links.now)
-
 pub returns-in-Audit-clause-cause : goal.returns-in-Audit-clause-cause
 returns-in-Audit-clause-cause g c =
     let read = c.in-Ok.ensures in
     let ran = c.run_audit.ensures in
-    audit_cause (audit_scene g c) c.in-OfUser.name c.run_audit.result ran.write_cause
+    let scene : Scene = scene_of (shelf_of g.F.Shelf g.F.D.Disk c.args.shelf.now c.run_audit.new.shelf) (input_of g.S.Source c.args.source.now c.args.source.now)
+    (output_of g.K.Sink c.args.sink.now c.run_audit.new.sink) (links_of g.L.Links c.args.links.now c.args.links.now) in
+    audit_cause scene c.in-OfUser.name c.run_audit.result ran.write_cause
     (λ is. rose_since (g.F.Shelf.faults c.args.shelf.now) (g.F.Shelf.faults c.read_files.new.shelf) (g.F.Shelf.faults c.run_audit.new.shelf) read.later
     (ran.shelf_cause is))
 
 pub returns-in-Audit-clause-command : goal.returns-in-Audit-clause-command
 returns-in-Audit-clause-command g c =
-    let scene = audit_scene g c in
+    let scene : Scene = scene_of (shelf_of g.F.Shelf g.F.D.Disk c.args.shelf.now c.run_audit.new.shelf) (input_of g.S.Source c.args.source.now c.args.source.now)
+    (output_of g.K.Sink c.args.sink.now c.run_audit.new.sink) (links_of g.L.Links c.args.links.now c.args.links.now) in
     let read = c.in-Ok.ensures in
     let ran = c.run_audit.ensures in
     let files = names_of_files c.args.files in
@@ -284,22 +277,20 @@ returns-in-Audit-clause-command g c =
 
 -- ---- a dossier
 
-abbrev dossier_scene : (g : Over) → After-drop-inputs-in-Dossier-5 g → Scene
-dossier_scene g c =
-    scene_of (shelf_of g.F.Shelf g.F.D.Disk c.args.shelf.now c.run_dossier.new.shelf) (input_of g.S.Source c.args.source.now c.args.source.now)
-    (output_of g.K.Sink c.args.sink.now c.run_dossier.new.sink) (links_of g.L.Links c.args.links.now c.args.links.now)
-
 pub returns-in-Dossier-clause-cause : goal.returns-in-Dossier-clause-cause
 returns-in-Dossier-clause-cause g c =
     let read = c.in-Ok.ensures in
     let ran = c.run_dossier.ensures in
-    dossier_cause (dossier_scene g c) c.in-OfUser.name c.run_dossier.result ran.write_cause
+    let scene : Scene = scene_of (shelf_of g.F.Shelf g.F.D.Disk c.args.shelf.now c.run_dossier.new.shelf) (input_of g.S.Source c.args.source.now c.args.source.now)
+    (output_of g.K.Sink c.args.sink.now c.run_dossier.new.sink) (links_of g.L.Links c.args.links.now c.args.links.now) in
+    dossier_cause scene c.in-OfUser.name c.run_dossier.result ran.write_cause
     (λ is. rose_since (g.F.Shelf.faults c.args.shelf.now) (g.F.Shelf.faults c.read_files.new.shelf) (g.F.Shelf.faults c.run_dossier.new.shelf) read.later
     (ran.shelf_cause is))
 
 pub returns-in-Dossier-clause-command : goal.returns-in-Dossier-clause-command
 returns-in-Dossier-clause-command g c =
-    let scene = dossier_scene g c in
+    let scene : Scene = scene_of (shelf_of g.F.Shelf g.F.D.Disk c.args.shelf.now c.run_dossier.new.shelf) (input_of g.S.Source c.args.source.now c.args.source.now)
+    (output_of g.K.Sink c.args.sink.now c.run_dossier.new.sink) (links_of g.L.Links c.args.links.now c.args.links.now) in
     let read = c.in-Ok.ensures in
     let ran = c.run_dossier.ensures in
     let files = names_of_files c.args.files in
@@ -337,7 +328,8 @@ returns-in-Dossier-clause-command g c =
           counted_over g.F.Shelf g.F.D.Disk c.args.shelf.now c.read_files.new.shelf c.run_dossier.new.shelf read.disks read.counts files.directory name
           (string_bytes user.name) is ran.other_counts;
       bytes = λ told. bytes_over g.F.Shelf g.F.D.Disk c.args.shelf.now c.read_files.new.shelf c.run_dossier.new.shelf read.disks read.counts (ran.bytes told);
-      images = λ told. images_over g.F.Shelf g.F.D.Disk c.args.shelf.now c.read_files.new.shelf c.run_dossier.new.shelf read.disks read.counts (ran.images told);
+      images = λ told.
+          images_over g.F.Shelf g.F.D.Disk c.args.shelf.now c.read_files.new.shelf c.run_dossier.new.shelf read.disks read.counts (ran.images told);
       moments = λ told. moments_over g.F.Shelf g.F.D.Disk c.args.shelf.now c.read_files.new.shelf c.run_dossier.new.shelf read.disks read.counts
           (ran.moments told);
       durable = λ told done.
@@ -356,19 +348,17 @@ returns-in-Dossier-clause-command g c =
 
 -- ---- the check of a dossier
 
-abbrev check_scene : (g : Over) → After-drop-inputs-in-Check-5 g → Scene
-check_scene g c =
-    scene_of (shelf_of g.F.Shelf g.F.D.Disk c.args.shelf.now c.read_files.new.shelf) (input_of g.S.Source c.args.source.now c.run_check.new.source)
-    (output_of g.K.Sink c.args.sink.now c.run_check.new.sink) (links_of g.L.Links c.args.links.now c.args.links.now)
-
 pub returns-in-Check-clause-cause : goal.returns-in-Check-clause-cause
 returns-in-Check-clause-cause g c =
     let ran = c.run_check.ensures in
-    check_cause (check_scene g c) c.run_check.result ran.read_cause ran.write_cause
+    let scene : Scene = scene_of (shelf_of g.F.Shelf g.F.D.Disk c.args.shelf.now c.read_files.new.shelf) (input_of g.S.Source c.args.source.now c.run_check.new.source)
+    (output_of g.K.Sink c.args.sink.now c.run_check.new.sink) (links_of g.L.Links c.args.links.now c.args.links.now) in
+    check_cause scene c.run_check.result ran.read_cause ran.write_cause
 
 pub returns-in-Check-clause-command : goal.returns-in-Check-clause-command
 returns-in-Check-clause-command g c =
-    let scene = check_scene g c in
+    let scene : Scene = scene_of (shelf_of g.F.Shelf g.F.D.Disk c.args.shelf.now c.read_files.new.shelf) (input_of g.S.Source c.args.source.now c.run_check.new.source)
+    (output_of g.K.Sink c.args.sink.now c.run_check.new.sink) (links_of g.L.Links c.args.links.now c.args.links.now) in
     let read = c.in-Ok.ensures in
     let ran = c.run_check.ensures in
     let files = names_of_files c.args.files in

@@ -1,11 +1,11 @@
-use Rattle.std.proofs.Common.{length, sym, ap, ◌∙◌, ◌++◌, List, ℕ, take, subst, arith, length-append}
+use Rattle.std.proofs.Common.{List, ℕ, ◌++◌, sym, ap, subst, ◌∙◌}
 use Rattle.line_protocol.specs.Rests.{EndsWith}
-use Rattle.dossier_engine.proofs.Reading.{rest_taken, through, taken}
+use Rattle.dossier_engine.proofs.Reading.{rest_taken, through}
 use Rattle.dossier_engine.proofs.input.take_through.Goals as goal
 
 pub returns-in-Ok-extend_from_slice-clause-moved : goal.returns-in-Ok-extend_from_slice-clause-moved
 returns-in-Ok-extend_from_slice-clause-moved g c = λ told.
-    ap (λ (l : List ℕ). l ++ g.S.Source.left c.take.new.self) c.in-Ok-extend_from_slice.ensures
+    ap (λ (l : List ℕ). l ++ g.S.Source.left c.take.new.self) c.in-Ok-extend_from_slice.ensures.items
     ∙ through c.args.bytes.now.items (g.S.Source.left c.args.source.now) (g.S.Source.left c.take.new.self) c.args.window.now c.take.new.into c.in-Ok.count
     (c.in-Ok.ensures.moved told)
 
