@@ -184,7 +184,8 @@ returns-in-Batch-clause-command g c =
 
 pub returns-in_default-clause-command : goal.returns-in_default-clause-command
 returns-in_default-clause-command g c =
-    let scene : Scene = scene_of (shelf_of g.F.Shelf g.F.D.Disk c.args.shelf.now c.read_files.new.shelf) (input_of g.S.Source c.args.source.now c.args.source.now)
+    let scene : Scene = scene_of (shelf_of g.F.Shelf g.F.D.Disk c.args.shelf.now c.read_files.new.shelf)
+    (input_of g.S.Source c.args.source.now c.args.source.now)
     (output_of g.K.Sink c.args.sink.now c.args.sink.now) (links_of g.L.Links c.args.links.now c.args.links.now) in
     let read = c.in-Ok.ensures in
     let files = names_of_files c.args.files in
@@ -211,7 +212,8 @@ pub returns-in-Audit-clause-cause : goal.returns-in-Audit-clause-cause
 returns-in-Audit-clause-cause g c =
     let read = c.in-Ok.ensures in
     let ran = c.run_audit.ensures in
-    let scene : Scene = scene_of (shelf_of g.F.Shelf g.F.D.Disk c.args.shelf.now c.run_audit.new.shelf) (input_of g.S.Source c.args.source.now c.args.source.now)
+    let scene : Scene = scene_of (shelf_of g.F.Shelf g.F.D.Disk c.args.shelf.now c.run_audit.new.shelf)
+    (input_of g.S.Source c.args.source.now c.args.source.now)
     (output_of g.K.Sink c.args.sink.now c.run_audit.new.sink) (links_of g.L.Links c.args.links.now c.args.links.now) in
     audit_cause scene c.in-OfUser.name c.run_audit.result ran.write_cause
     (λ is. rose_since (g.F.Shelf.faults c.args.shelf.now) (g.F.Shelf.faults c.read_files.new.shelf) (g.F.Shelf.faults c.run_audit.new.shelf) read.later
@@ -219,7 +221,8 @@ returns-in-Audit-clause-cause g c =
 
 pub returns-in-Audit-clause-command : goal.returns-in-Audit-clause-command
 returns-in-Audit-clause-command g c =
-    let scene : Scene = scene_of (shelf_of g.F.Shelf g.F.D.Disk c.args.shelf.now c.run_audit.new.shelf) (input_of g.S.Source c.args.source.now c.args.source.now)
+    let scene : Scene = scene_of (shelf_of g.F.Shelf g.F.D.Disk c.args.shelf.now c.run_audit.new.shelf)
+    (input_of g.S.Source c.args.source.now c.args.source.now)
     (output_of g.K.Sink c.args.sink.now c.run_audit.new.sink) (links_of g.L.Links c.args.links.now c.args.links.now) in
     let read = c.in-Ok.ensures in
     let ran = c.run_audit.ensures in
@@ -281,7 +284,8 @@ pub returns-in-Dossier-clause-cause : goal.returns-in-Dossier-clause-cause
 returns-in-Dossier-clause-cause g c =
     let read = c.in-Ok.ensures in
     let ran = c.run_dossier.ensures in
-    let scene : Scene = scene_of (shelf_of g.F.Shelf g.F.D.Disk c.args.shelf.now c.run_dossier.new.shelf) (input_of g.S.Source c.args.source.now c.args.source.now)
+    let scene : Scene = scene_of (shelf_of g.F.Shelf g.F.D.Disk c.args.shelf.now c.run_dossier.new.shelf)
+    (input_of g.S.Source c.args.source.now c.args.source.now)
     (output_of g.K.Sink c.args.sink.now c.run_dossier.new.sink) (links_of g.L.Links c.args.links.now c.args.links.now) in
     dossier_cause scene c.in-OfUser.name c.run_dossier.result ran.write_cause
     (λ is. rose_since (g.F.Shelf.faults c.args.shelf.now) (g.F.Shelf.faults c.read_files.new.shelf) (g.F.Shelf.faults c.run_dossier.new.shelf) read.later
@@ -289,7 +293,8 @@ returns-in-Dossier-clause-cause g c =
 
 pub returns-in-Dossier-clause-command : goal.returns-in-Dossier-clause-command
 returns-in-Dossier-clause-command g c =
-    let scene : Scene = scene_of (shelf_of g.F.Shelf g.F.D.Disk c.args.shelf.now c.run_dossier.new.shelf) (input_of g.S.Source c.args.source.now c.args.source.now)
+    let scene : Scene = scene_of (shelf_of g.F.Shelf g.F.D.Disk c.args.shelf.now c.run_dossier.new.shelf)
+    (input_of g.S.Source c.args.source.now c.args.source.now)
     (output_of g.K.Sink c.args.sink.now c.run_dossier.new.sink) (links_of g.L.Links c.args.links.now c.args.links.now) in
     let read = c.in-Ok.ensures in
     let ran = c.run_dossier.ensures in
@@ -351,13 +356,15 @@ returns-in-Dossier-clause-command g c =
 pub returns-in-Check-clause-cause : goal.returns-in-Check-clause-cause
 returns-in-Check-clause-cause g c =
     let ran = c.run_check.ensures in
-    let scene : Scene = scene_of (shelf_of g.F.Shelf g.F.D.Disk c.args.shelf.now c.read_files.new.shelf) (input_of g.S.Source c.args.source.now c.run_check.new.source)
+    let scene : Scene = scene_of (shelf_of g.F.Shelf g.F.D.Disk c.args.shelf.now c.read_files.new.shelf)
+    (input_of g.S.Source c.args.source.now c.run_check.new.source)
     (output_of g.K.Sink c.args.sink.now c.run_check.new.sink) (links_of g.L.Links c.args.links.now c.args.links.now) in
     check_cause scene c.run_check.result ran.read_cause ran.write_cause
 
 pub returns-in-Check-clause-command : goal.returns-in-Check-clause-command
 returns-in-Check-clause-command g c =
-    let scene : Scene = scene_of (shelf_of g.F.Shelf g.F.D.Disk c.args.shelf.now c.read_files.new.shelf) (input_of g.S.Source c.args.source.now c.run_check.new.source)
+    let scene : Scene = scene_of (shelf_of g.F.Shelf g.F.D.Disk c.args.shelf.now c.read_files.new.shelf)
+    (input_of g.S.Source c.args.source.now c.run_check.new.source)
     (output_of g.K.Sink c.args.sink.now c.run_check.new.sink) (links_of g.L.Links c.args.links.now c.args.links.now) in
     let read = c.in-Ok.ensures in
     let ran = c.run_check.ensures in
