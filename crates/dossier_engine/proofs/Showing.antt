@@ -1,5 +1,5 @@
 -- What was written of records, by what the writing answered.
-use Rattle.std.proofs.Common.{◌≡◌, ◌≢◌, false, List, ℕ, [], ◌∷◌, ◌++◌, refl}
+use Rattle.std.proofs.Common.{◌≡◌, ◌≢◌, List, ℕ, [], ◌∷◌, ◌++◌, refl}
 use Rattle.std.specs.Prelude.{Result, Ok, Err, OnOk, codes}
 use Rattle.outside.specs.Streams.{AppendsPart}
 use Rattle.cqe_base.specs.Schema.{DatabaseSchema, Text}

@@ -1,7 +1,6 @@
 -- What is shown of the records of a journal, as what the bytes of the journal say.
 use Rattle.std.proofs.Common.{◌≡◌, ◌⊎◌, inl, inr, ℕ, List, [], refl, sym, subst}
 use Rattle.std.specs.Prelude.{codes}
-use Rattle.outside.specs.Faults.{Rose}
 use Rattle.cqe_base.specs.Schema.{DatabaseSchema, Text}
 use Rattle.cqe_base.specs.Facts.{FactSet}
 use Rattle.cqe_base.specs.History.{UserProfile, History}

@@ -1,5 +1,4 @@
 use Rattle.std.proofs.Common.{string_bytes, sym, subst, ◌∙◌}
-use Rattle.std.specs.Prelude.{Err}
 use Rattle.cqe_base.specs.History.{profile_of}
 use Rattle.dossier_engine.specs.Checks.{EndsText}
 use Rattle.dossier_engine.proofs.Checking.{said_so, refused_so, no_read, no_write}

@@ -1,4 +1,3 @@
-use Rattle.std.proofs.Common.{◌∙◌}
 use Rattle.dossier_engine.proofs.Reading.{all_read, too_many}
 use Rattle.dossier_engine.proofs.input.read_input.Goals as goal
 

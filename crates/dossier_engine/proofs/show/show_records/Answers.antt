@@ -1,8 +1,7 @@
-use Rattle.std.proofs.Common.{[], map, string_bytes, refl, sym, ap, subst, ◌∙◌}
+use Rattle.std.proofs.Common.{map, string_bytes, refl, sym, ap, subst, ◌∙◌}
 use Rattle.std.specs.Prelude.{codes}
 use Rattle.cqe_base.specs.History.{profile_of, answered_query_of}
 use Rattle.log_journal.specs.Opening.{recorded}
-use Rattle.user_desk.specs.Replays.{IsReplayed}
 use Rattle.user_desk.specs.declared.standing.Standing.TheVariants.{Open, Closed, Sealed}
 use Rattle.dossier.specs.Written.{head_text}
 use Rattle.dossier_engine.specs.Shown.{IsShown}
