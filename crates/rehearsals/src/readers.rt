@@ -41,7 +41,10 @@ pub fn words_text(alloc: Global, line: &str) -> Result<String, AllocError> {
             format!(in alloc; "{front} <{}>", dossier.user)
         }
         Some(Command::Check(check)) => {
-            format!(in alloc; "check <{}> <{}> <{}>", check.policy, check.facts, check.user)
+            format!(in alloc;
+                "check <{}> <{}> <{}>",
+                check.policy, check.facts, check.user
+            )
         }
         None => String::from_str(alloc, "none"),
     }

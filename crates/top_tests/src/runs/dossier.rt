@@ -24,7 +24,8 @@ const CHECK: [&str; 7] = ["check", "--policy", "p", "--facts", "f", "--user", "e
 // The dossier of eve before she asks, and behind an ask that was told no: it was worked out by hand.
 const EMPTY: &str = "dossier 1 eve lying open\nadmission\nopen -\ndone 0\n";
 
-const TOLD: &str = "dossier 1 eve lying open\nadmission\nopen -\nask no drug(ann)\nfollows\nline : 12 3 11 7 10\nend\nopen -\ndone 1\n";
+const TOLD: &str =
+    "dossier 1 eve lying open\nadmission\nopen -\nask no drug(ann)\nfollows\nline : 12 3 11 7 10\nend\nopen -\ndone 1\n";
 
 // The calls of the shelf are the reading of both files, and for a dossier the taking of a disk.
 #[test]
