@@ -41,7 +41,7 @@ use Rattle.selfrun_engine.specs.declared.end.SelfrunEnd.TheVariants as selfrun_e
 use Rattle.user_desk.specs.Causes.{Opens}
 use Rattle.user_desk.specs.declared.standing.DeskError.{DeskError}
 use Rattle.cqe_top.specs.declared.end.CommandEnd.TheVariants as ends
-use Rattle.cqe_top.specs.declared.end.FileKind.TheVariants as kind
+use Rattle.cqe_top.specs.declared.end.FileKind.TheVariants as file_kind
 use Rattle.cqe_top.specs.declared.end.FilesEnd.{FilesEnd}
 use Rattle.cqe_top.specs.declared.end.FilesEnd.TheVariants as files_end
 use Rattle.cqe_top.specs.declared.report.Report.TheVariants as report
@@ -61,7 +61,7 @@ use Rattle.cqe_top.specs.Steps.{reading_over}
 use Rattle.cqe_top.specs.declared.over_files.Task.{Task}
 use Rattle.cqe_top.specs.declared.over_files.Task.TheVariants as task
 use Rattle.cqe_top.specs.declared.over_files.UserTask.{UserTask}
-use Rattle.cqe_top.specs.declared.over_files.UserTask.TheVariants as one
+use Rattle.cqe_top.specs.declared.over_files.UserTask.TheVariants as user_task
 use Rattle.cqe_top.proofs.Failing.{CanOpen, none_refused, none_broken}
 
 -- ---- what the files say
@@ -382,19 +382,14 @@ module _ (s : Scene) (files : FileNames) (user : Text) where
 
 -- ---- two files without a directory of journals
 
--- they say the same
-pub say_two : (P : PolicyValue → FactSet → List ℕ → Type 0) (shelf : ShelfScene) (files : FileNames) → SayOn shelf files P
-    → SayOn shelf (two_files files.policy files.facts) P
-say_two P shelf files says = says
-
 nobody_of : (s : Scene) (files : FileNames) (user : Text) → FindsNobody s.shelf s.output files user
     → FindsNobody s.shelf s.output (two_files files.policy files.facts) user
 nobody_of s files user finds = record { over_files = finds.over_files; looks = finds.looks; disks = finds.disks; writes_nothing = finds.writes_nothing }
 
 why_of : (s : Scene) (files : FileNames) (end : FilesEnd) → IsWhyUnread s.shelf files end → IsWhyUnread s.shelf (two_files files.policy files.facts) end
 why_of s files (files_end.Missing name) why = why
-why_of s files (files_end.ShelfFault kind.Policy) why = why
-why_of s files (files_end.ShelfFault kind.Facts) why = why
+why_of s files (files_end.ShelfFault file_kind.Policy) why = why
+why_of s files (files_end.ShelfFault file_kind.Facts) why = why
 why_of s files (files_end.Policy refusal) why = why
 why_of s files (files_end.Facts refusal) why = why
 why_of s files files_end.Memory why = why
@@ -408,11 +403,11 @@ unread_of s files end is = record { refused = λ told. why_of s files end (is.re
 pub nobody_there : (s : Scene) (files : FileNames) (user : Bor (List ℕ)) (what : UserTask) → FindsNobody s.shelf s.output files user.now
     → SameInput s.input → SameLinks s.links
     → OfReading s (Some (reading_over files (task.OfUser user what))) ends.Nobody
-nobody_there s files user (one.Audit json) finds input links =
+nobody_there s files user (user_task.Audit json) finds input links =
     record { ends = finds; succeeds = nobody_succeeds s files user.now json finds; reads_nothing = input; listens_nowhere = links }
-nobody_there s files user one.Dossier finds input links =
+nobody_there s files user user_task.Dossier finds input links =
     record { ends = finds; succeeds = no_dossier s files user.now finds; reads_nothing = input; listens_nowhere = links }
-nobody_there s files user one.Check finds input links =
+nobody_there s files user user_task.Check finds input links =
     let found = nobody_of s files user.now finds in
     record { ends = (found, input); succeeds = no_check s (two_files files.policy files.facts) user.now found; listens_nowhere = links }
 
@@ -436,19 +431,19 @@ unread s files (task.Batch workers) end is cause input output links = record {
       read_succeeds s files (CanBeOpened (journals_of s.shelf files)) end (is.refused told) cause says shelf;
   listens_nowhere = links;
 }
-unread s files (task.OfUser name (one.Audit json)) end is cause input output links = record {
+unread s files (task.OfUser name (user_task.Audit json)) end is cause input output links = record {
   ends = (is, output);
   succeeds = λ told out_told says shelf write. read_succeeds s files (CanBeAudited (journals_of s.shelf files) name.now) end (is.refused told) cause says shelf;
   reads_nothing = input;
   listens_nowhere = links;
 }
-unread s files (task.OfUser name one.Dossier) end is cause input output links = record {
+unread s files (task.OfUser name user_task.Dossier) end is cause input output links = record {
   ends = (is, output);
   succeeds = λ told out_told says shelf write. read_succeeds s files (CanBeAudited (journals_of s.shelf files) name.now) end (is.refused told) cause says shelf;
   reads_nothing = input;
   listens_nowhere = links;
 }
-unread s files (task.OfUser name one.Check) end is cause input output links =
+unread s files (task.OfUser name user_task.Check) end is cause input output links =
     let two = two_files files.policy files.facts in
     let unread_two = unread_of s files end is in
     record {
