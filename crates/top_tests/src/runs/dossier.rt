@@ -1,11 +1,12 @@
-//! Runs of `dossier` and `check` in each of which one call of one object fails, and a dossier that is
-//! too long.
+//! Runs of `dossier` and `check` in each of which one call of one object fails, the dossiers of a
+//! workload, and one that is too long.
 use super::failing::{CALLS, are_empty, failing, told, ward_by};
-use super::ward::{JOURNALS, journal_bytes};
+use super::ward::{BATCH, JOURNALS, init, journal_bytes, shelf_of};
 use super::{joined, run_over};
 use outside::{MemoryDisk, MemorySink, MemorySource, Pieces, Plan};
 use std::alloc::{AllocError, Global};
 use std::test::Fail;
+use workload::make;
 
 const DOSSIER: [&str; 9] = [
     "dossier",
@@ -21,7 +22,7 @@ const DOSSIER: [&str; 9] = [
 
 const CHECK: [&str; 7] = ["check", "--policy", "p", "--facts", "f", "--user", "eve"];
 
-// The dossier of eve before she asks, and behind an ask that was told no: it was worked out by hand.
+// The dossier of eve before she asks, and behind an ask that was told no, worked out by hand.
 const EMPTY: &str = "dossier 1 eve lying open\nadmission\nopen -\ndone 0\n";
 
 const TOLD: &str =
@@ -169,6 +170,52 @@ fn a_dossier_has_a_greatest_length(rt: HostRuntime) -> Result<(), Fail> {
         )?;
         run.check(&rt, 14, "", complaint, "a long text");
         assert_eq!(rt; run.source.left().len(), left);
+    }
+    Ok(())
+}
+
+// The dossiers of all users of a workload, behind its asks. Each was told twenty marks.
+#[test]
+fn the_dossiers_of_a_workload_are_accepted(rt: HostRuntime) -> Result<(), Fail> {
+    let alloc = rt.alloc();
+    let made = make(alloc, 7, 3, 60)?;
+    let mut shelf = shelf_of(alloc, &made.policy, &made.facts)?;
+    let _made = init(&rt, alloc, &mut shelf)?;
+    let asked = run_over(
+        &rt,
+        alloc,
+        &BATCH,
+        &mut shelf,
+        MemorySource::new(made.script.clone()?),
+        MemorySink::new(alloc),
+        MemorySink::new(alloc),
+    )?;
+    assert_eq!(rt; asked.status, 0);
+    for user in ["u0", "u1", "u2"] {
+        let mut words = DOSSIER;
+        words[8] = user;
+        let shown = run_over(
+            &rt,
+            alloc,
+            &words,
+            &mut shelf,
+            MemorySource::new(Vec::new(alloc)),
+            MemorySink::new(alloc),
+            MemorySink::new(alloc),
+        )?;
+        assert_eq!(rt; shown.status, 0);
+        let mut words = CHECK;
+        words[6] = user;
+        let checked = run_over(
+            &rt,
+            alloc,
+            &words,
+            &mut shelf,
+            MemorySource::new(Vec::from_slice(alloc, shown.sink.bytes())?),
+            MemorySink::new(alloc),
+            MemorySink::new(alloc),
+        )?;
+        checked.check(&rt, 0, "sound 20\n", "", user);
     }
     Ok(())
 }
