@@ -9,6 +9,8 @@ _cqe_options() {
         selfrun) echo --seed --users --asks ;;
         serve) echo --policy --facts --journals --listen --workers --sessions ;;
         migrate) echo --policy --facts --journals --to ;;
+        dossier) echo --policy --facts --journals --user ;;
+        check) echo --policy --facts --user ;;
     esac
 }
 
@@ -107,7 +109,7 @@ _cqe() {
     elif [[ ${COMP_WORDS[0]##*/} == cqe-lrat ]]; then
         choices="--policy --facts --user --to --help"
     elif ((COMP_CWORD == 1)); then
-        choices="case init batch audit selfrun serve migrate"
+        choices="case init batch audit selfrun serve migrate dossier check"
     else
         choices=$(_cqe_options "${COMP_WORDS[1]}")
     fi
