@@ -4,11 +4,12 @@
 _cqe_options() {
     case $1 in
         init) echo --policy --facts --journals ;;
-        batch) echo --policy --facts --journals --workers ;;
+        batch) echo --policy --facts --journals --workers --standby ;;
         audit) echo --policy --facts --journals --user --json ;;
         selfrun) echo --seed --users --asks ;;
-        serve) echo --policy --facts --journals --listen --workers --sessions ;;
+        serve) echo --policy --facts --journals --listen --workers --sessions --standby ;;
         migrate) echo --policy --facts --journals --to ;;
+        standby) echo --policy --facts --journals --listen --sessions ;;
     esac
 }
 
@@ -47,7 +48,7 @@ _cqe_value() {
             mapfile -t COMPREPLY < <(compgen -d -- "$2")
             ;;
         --user) mapfile -t COMPREPLY < <(compgen -W "$(_cqe_users)" -- "$2") ;;
-        --listen) mapfile -t COMPREPLY < <(compgen -W 127.0.0.1:7007 -- "$2") ;;
+        --listen | --standby) mapfile -t COMPREPLY < <(compgen -W 127.0.0.1:7007 -- "$2") ;;
         --seed | --users | --asks | --status | --workers | --sessions | --connect-timeout | --reply-timeout) ;;
         *) return 1 ;;
     esac
@@ -105,7 +106,7 @@ _cqe() {
         choices="--phrase-file --history --connect-timeout --reply-timeout --tls --ca --cert --key --help"
         [[ $current == -* ]] || return
     elif ((COMP_CWORD == 1)); then
-        choices="case init batch audit selfrun serve migrate"
+        choices="case init batch audit selfrun serve migrate standby"
     else
         choices=$(_cqe_options "${COMP_WORDS[1]}")
     fi

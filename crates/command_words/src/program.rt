@@ -4,7 +4,8 @@ ghost use Rattle.clap.specs.Words.{app_of, rule_of};
 ghost use Rattle.clap.specs.declared.builder.command.Command.TheViews.{out-Command};
 ghost use Rattle.command_words.specs.Matched.{audit_command, batch_command, file_command};
 ghost use Rattle.command_words.specs.Matched.{flag_rule, migrate_command, needed_rule};
-ghost use Rattle.command_words.specs.Matched.{optional_rule, program, serve_command, three_command};
+ghost use Rattle.command_words.specs.Matched.{optional_rule, program, serve_command};
+ghost use Rattle.command_words.specs.Matched.{standby_command, three_command};
 
 use clap::builder::ValueParser;
 use clap::{Arg, ArgAction, Command};
@@ -21,6 +22,7 @@ pub(crate) fn program<'a>(alloc: Global) -> Result<Command<'a>, AllocError>
     let selfrun = with_three(alloc, "selfrun", "seed", "users", "asks")?;
     let serve = serve(alloc)?;
     let migrate = migrate(alloc)?;
+    let standby = standby(alloc)?;
     let program = Command::new(alloc, "cqe")
         .no_binary_name(true)
         .disable_help_flag(true)
@@ -33,7 +35,8 @@ pub(crate) fn program<'a>(alloc: Global) -> Result<Command<'a>, AllocError>
         .subcommand(audit)?
         .subcommand(selfrun)?
         .subcommand(serve)?
-        .subcommand(migrate)?;
+        .subcommand(migrate)?
+        .subcommand(standby)?;
     Ok(program)
 }
 
@@ -46,8 +49,9 @@ fn batch<'a>(alloc: Global) -> Result<Command<'a>, AllocError>
     ensures plain { IfOk result (λ command. (out-Command command).has_globals ≡ false) }
 {
     let workers = optional(alloc, "workers");
+    let standby = optional(alloc, "standby");
     let files = with_files(alloc, "batch")?;
-    let command = files.arg(workers)?;
+    let command = files.arg(workers)?.arg(standby)?;
     Ok(command)
 }
 
@@ -71,8 +75,25 @@ fn serve<'a>(alloc: Global) -> Result<Command<'a>, AllocError>
     let listen = needed(alloc, "listen");
     let workers = optional(alloc, "workers");
     let sessions = optional(alloc, "sessions");
+    let standby = optional(alloc, "standby");
     let files = with_files(alloc, "serve")?;
-    let command = files.arg(listen)?.arg(workers)?.arg(sessions)?;
+    let command = files
+        .arg(listen)?
+        .arg(workers)?
+        .arg(sessions)?
+        .arg(standby)?;
+    Ok(command)
+}
+
+// The standby.
+fn standby<'a>(alloc: Global) -> Result<Command<'a>, AllocError>
+    ensures shape { IfOk result (λ command. app_of command ≡ standby_command) }
+    ensures plain { IfOk result (λ command. (out-Command command).has_globals ≡ false) }
+{
+    let listen = needed(alloc, "listen");
+    let sessions = optional(alloc, "sessions");
+    let files = with_files(alloc, "standby")?;
+    let command = files.arg(listen)?.arg(sessions)?;
     Ok(command)
 }
 

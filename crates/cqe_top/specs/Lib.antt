@@ -10,6 +10,8 @@ pub mod Batch
 pub mod Audit
 pub mod Selfrun
 pub mod Serve
+pub mod Copied
+pub mod Standby
 pub mod Promise
 pub mod Lives
 pub mod Calls

@@ -22,4 +22,6 @@ returns c =
     c.in_ok-subcommand-5.ensures.shape c.in_ok-selfrun.ensures.plain ∙ ap₂ with_subcommand audit (ap (λ (a : App). a.top) c.in_ok-selfrun.ensures.shape) in
     let serve =
     c.in_ok-subcommand-6.ensures.shape c.in_ok-serve.ensures.plain ∙ ap₂ with_subcommand selfrun (ap (λ (a : App). a.top) c.in_ok-serve.ensures.shape) in
-    c.in_ok-program.ensures.shape c.in_ok-migrate.ensures.plain ∙ ap₂ with_subcommand serve (ap (λ (a : App). a.top) c.in_ok-migrate.ensures.shape)
+    let migrate =
+    c.in_ok-subcommand-7.ensures.shape c.in_ok-migrate.ensures.plain ∙ ap₂ with_subcommand serve (ap (λ (a : App). a.top) c.in_ok-migrate.ensures.shape) in
+    c.in_ok-program.ensures.shape c.in_ok-standby.ensures.plain ∙ ap₂ with_subcommand migrate (ap (λ (a : App). a.top) c.in_ok-standby.ensures.shape)

@@ -1,0 +1,235 @@
+//! The mirrors of the users' journals, by the names of their disks.
+ghost use Rattle.std.specs.Prelude.{◌≡◌, ◌≤◌, ◌<◌, ◌+◌, ℕ, List, [], Some, None, position, length};
+ghost use Rattle.std.specs.Prelude.{bytes_eq, string_bytes, IsSome, IfSome, IfNone, IfOk, OnOk};
+ghost use Rattle.outside.specs.Shelf.{SameOthers};
+ghost use Rattle.log_journal.specs.Names.{journal_name};
+ghost use Rattle.standby_core.specs.Mirrors.{dial_of, user_of};
+ghost use Rattle.standby_core.specs.MirroredDisks.{faults_by};
+ghost use Rattle.standby_core.specs.Slots.{slots_of, slot_name, place_at, mirror_in, new_in};
+ghost use Rattle.standby_core.specs.Slots.{place_with, faults_in, dial_faults, RisesAtLeast};
+ghost use Rattle.standby_core.specs.Doors.{KeepsDoors};
+
+use crate::Mirror;
+use cqe_base::user::User;
+use log_journal::{Header, journal_name};
+use outside::{Dial, Links};
+use std::alloc::{AllocError, Global};
+use std::mem;
+
+// What stands under the name of a disk. A mirror is taken with its disk, and once: so its count of
+// faults was 0 as it was taken, and is that of its dial as it is back.
+#[derive(Drop)]
+pub(crate) enum Place<'h, C: Dial> {
+    New(Mirror<'h, C>),
+    Out,
+    Back(Mirror<'h, C>),
+}
+
+// A place under its name.
+#[derive(Drop)]
+pub(crate) struct Slot<'h, C: Dial> {
+    journal: String,
+    place: Place<'h, C>,
+    ghost fresh: { faults_by C.faults (new_in (Some place)) ≡ 0 },
+}
+
+impl<'h, C: Dial + Drop> Slot<'h, C> {
+    // Takes the mirror, where it wasn't taken yet.
+    fn take(&mut self) -> Option<Mirror<'h, C>>
+        ensures taken { result ≡ new_in (Some self.old.place) }
+        ensures out { IfSome result (λ mirror. self.new.place ≡ Place.Out) }
+        ensures none { IfNone result (self.new.place ≡ self.old.place) }
+        ensures name { slot_name self.new ≡ slot_name self.old }
+        ensures faultless { IfSome result (λ mirror. C.faults (dial_of mirror) ≡ 0) }
+    {
+        match mem::replace(&mut self.place, Place::Out) {
+            Place::New(mirror) => Some(mirror),
+            Place::Out => None,
+            Place::Back(mirror) => {
+                self.place = Place::Back(mirror);
+                None
+            }
+        }
+    }
+
+    // Puts a mirror back that wasn't used.
+    fn put_new(&mut self, mirror: Mirror<'h, C>)
+        requires { C.faults (dial_of mirror) ≡ 0 }
+        ensures put { self.new.place ≡ Place.New mirror.entry }
+        ensures name { slot_name self.new ≡ slot_name self.old }
+    {
+        let _before = mem::replace(&mut self.place, Place::New(mirror));
+    }
+
+    // Puts a mirror back, or none.
+    fn put_back(&mut self, mirror: Option<Mirror<'h, C>>)
+        ensures put { self.new.place ≡ place_with mirror.entry }
+        ensures name { slot_name self.new ≡ slot_name self.old }
+    {
+        let place = match mirror {
+            Some(mirror) => Place::Back(mirror),
+            None => Place::Out,
+        };
+        let _before = mem::replace(&mut self.place, place);
+    }
+}
+
+/// The mirrors of users' journals, by the names of their disks.
+#[derive(Drop)]
+pub struct Mirrors<'h, C: Dial> {
+    slots: Vec<Slot<'h, C>>,
+}
+
+impl<'h, C: Dial + Drop> Mirrors<'h, C> {
+    /// Takes the mirror of this name, where it wasn't taken yet. Its place is kept.
+    pub(crate) fn take(&mut self, name: &str) -> Option<Mirror<'h, C>>
+        ensures taken { result ≡ new_in (place_at (slots_of self.old) name.now) }
+        ensures out { IfSome result
+            (λ mirror. place_at (slots_of self.new) name.now ≡ Some Place.Out) }
+        ensures none { IfNone result ((other : List ℕ)
+            → place_at (slots_of self.new) other ≡ place_at (slots_of self.old) other) }
+        ensures others { SameOthers name.now (place_at (slots_of self.old))
+            (place_at (slots_of self.new)) }
+        ensures faultless { IfSome result (λ mirror. C.faults (dial_of mirror) ≡ 0) }
+    {
+        let Some(place) = slot_place(self.slots.as_slice(), name) else {
+            return None;
+        };
+        let slot = &mut self.slots[place];
+        slot.take()
+    }
+
+    /// Puts a mirror back that wasn't used. It takes no memory.
+    pub(crate) fn put_new(&mut self, name: &str, mirror: Mirror<'h, C>)
+        requires there { IsSome (place_at (slots_of self.old) name.now) }
+        requires faultless { C.faults (dial_of mirror) ≡ 0 }
+        ensures put { place_at (slots_of self.new) name.now ≡ Some (Place.New mirror.entry) }
+        ensures others { SameOthers name.now (place_at (slots_of self.old))
+            (place_at (slots_of self.new)) }
+    {
+        let Some(place) = slot_place(self.slots.as_slice(), name) else {
+            return;
+        };
+        let slot = &mut self.slots[place];
+        slot.put_new(mirror);
+    }
+
+    /// Puts the mirror of a disk that was taken, or none, to the place of this name. It takes no
+    /// memory.
+    pub(crate) fn put_back(&mut self, name: &str, mirror: Option<Mirror<'h, C>>)
+        requires { IsSome (place_at (slots_of self.old) name.now) }
+        ensures put { place_at (slots_of self.new) name.now ≡ Some (place_with mirror.entry) }
+        ensures others { SameOthers name.now (place_at (slots_of self.old))
+            (place_at (slots_of self.new)) }
+    {
+        let Some(place) = slot_place(self.slots.as_slice(), name) else {
+            return;
+        };
+        let slot = &mut self.slots[place];
+        slot.put_back(mirror);
+    }
+}
+
+// The place of the slot of this name.
+fn slot_place<C: Dial>(slots: &[Slot<'_, C>], name: &str) -> Option<usize>
+    ensures place { result ≡ position (λ slot. bytes_eq (slot_name slot) name.now) slots.now }
+    ensures within { IfSome result (λ place. place < length slots.now) }
+{
+    slots
+        .iter()
+        .position(|slot| slot.journal.as_str() == name)
+}
+
+/// A mirror for the journal of each user in a directory, with a dial to the standby at an address.
+/// The links open no connection for them.
+pub fn mirrors_for<'h, L: Links>(
+    alloc: Global,
+    links: &mut L,
+    address: &str,
+    header: &'h Header,
+    directory: &str,
+    users: &[User],
+) -> Result<Mirrors<'h, L::Dial>, AllocError>
+    ensures fresh { IfOk result
+        (λ mirrors. (name : List ℕ) → dial_faults L.Dial.faults mirrors name ≡ 0) }
+    ensures mirror { OnOk result (L.mirror links.new ≡ L.mirror links.old) }
+    ensures later { L.mirror links.old ≤ L.mirror links.new }
+    ensures doors { KeepsDoors L.Links links.old links.new }
+{
+    let mut slots = Vec::new(alloc);
+    slots.reserve(users.len())?;
+    for user in users {
+        match slot_for(alloc, links, address, header, directory, user) {
+            Ok(slot) => slots.push_reserved(slot),
+            Err(AllocError) => {
+                hang_up_all(links, Mirrors { slots });
+                return Err(AllocError);
+            }
+        }
+    }
+    Ok(Mirrors { slots })
+}
+
+// The mirror for the journal of a user, under its name.
+fn slot_for<'h, L: Links>(
+    alloc: Global,
+    links: &mut L,
+    address: &str,
+    header: &'h Header,
+    directory: &str,
+    user: &User,
+) -> Result<Slot<'h, L::Dial>, AllocError>
+    ensures name { IfOk result
+        (λ slot. slot_name slot ≡ journal_name directory.now (string_bytes user.now.name)) }
+    ensures fresh { IfOk result (λ slot. faults_in L.Dial.faults (Some slot.place) ≡ 0) }
+    ensures mirror { OnOk result (L.mirror links.new ≡ L.mirror links.old) }
+    ensures later { L.mirror links.old ≤ L.mirror links.new }
+    ensures doors { KeepsDoors L.Links links.old links.new }
+{
+    let journal = journal_name(alloc, directory, user.name.as_str())?;
+    let name = frame_name(alloc, user.name.as_str())?;
+    let dial = links.dial(alloc, address)?;
+    let place = Place::New(Mirror::new(header, name, dial));
+    Ok(Slot { journal, place })
+}
+
+// The name of a user in his frames: his own where a frame has room for it. A standby refuses those
+// without a name.
+fn frame_name(alloc: Global, name: &str) -> Result<String, AllocError>
+    ensures short { IfOk result (λ text. length (string_bytes text) ≤ 32) }
+    ensures same { IfOk result (λ text. length name.now ≤ 32 → string_bytes text ≡ name.now) }
+{
+    if name.len() <= 32 {
+        return String::from_str(alloc, name);
+    }
+    Ok(String::new(alloc))
+}
+
+/// Hangs the dials of mirrors up: the links' second count rises by the faults of each. It takes no
+/// memory.
+pub fn hang_up_all<L: Links>(links: &mut L, mirrors: Mirrors<'_, L::Dial>)
+    ensures mirror { (name : List ℕ) → RisesAtLeast (L.mirror links.old)
+        (dial_faults L.Dial.faults mirrors.entry name) (L.mirror links.new) }
+    ensures later { L.mirror links.old ≤ L.mirror links.new }
+    ensures doors { KeepsDoors L.Links links.old links.new }
+{
+    let Mirrors { mut slots } = mirrors;
+    while let Some(slot) = slots.pop() {
+        hang_up(links, slot);
+    }
+}
+
+// Hangs the dial of a place up, where its mirror is there.
+fn hang_up<L: Links>(links: &mut L, slot: Slot<'_, L::Dial>)
+    ensures mirror { RisesAtLeast (L.mirror links.old)
+        (faults_in L.Dial.faults (Some slot.entry.place)) (L.mirror links.new) }
+    ensures later { L.mirror links.old ≤ L.mirror links.new }
+    ensures doors { KeepsDoors L.Links links.old links.new }
+{
+    let Slot { journal: _, place } = slot;
+    match place {
+        Place::New(mirror) => links.hang_up(mirror.into_dial()),
+        Place::Back(mirror) => links.hang_up(mirror.into_dial()),
+        Place::Out => (),
+    }
+}
