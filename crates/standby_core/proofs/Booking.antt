@@ -153,5 +153,5 @@ module _ {D : Type 0} {g : _} where
 -- whose append failed, where the copy of a name is this one
 pub failed_there : {copies : List Copy} {name : List ℕ} (copy : Copy) → Some copy ≡ copy_at copies name → HasFailed copies name → copy.failed ≡ true
 failed_there copy is failed =
-    let same : Some copy ≡ Some failed.0 = is ∙ failed.1.0 in
-    ap (λ (k : Copy). k.failed) (same_Some copy failed.0 same) ∙ failed.1.1
+    let same : Some copy ≡ Some failed.0 = is ∙ failed.1 in
+    ap (λ (k : Copy). k.failed) (same_Some copy failed.0 same) ∙ failed.2

@@ -41,15 +41,15 @@ module _ (header : Header) where
       let split : room ++ (drop (length room) room' ++ rest) ≡ room' ++ rest =
       sym (append_assoc room (drop (length room) room') rest)
       ∙ ap (λ l. l ++ rest) (ap (λ l. l ++ drop (length room) room') (sym front) ∙ take-append-drop (length room) room') in
-      let most = shows.1.1.0 one (drop (length room) room' ++ rest) more proper (split ∙ is) in
+      let most = shows.2 one (drop (length room) room' ++ rest) more proper (split ∙ is) in
       omega (arith, most, size)
 
   module _ (room before left : List ℕ) (is : before ≡ room ++ left) where
     pub bad_read : Shows header room Bad → IsBad header before
     bad_read shows = record {
       some = λ none. shows.0 (front_none room left (sym is ∙ none));
-      no_frame = λ one rest proper came. shows.1.0 one left rest proper (sym is ∙ came);
-      same_header = λ other. shows.1.1 left (subst (IsOther header) is other);
+      no_frame = λ one rest proper came. shows.1 one left rest proper (sym is ∙ came);
+      same_header = λ other. shows.2 left (subst (IsOther header) is other);
     }
       where
         front_none : (xs ys : List ℕ) → xs ++ ys ≡ [] → xs ≡ []
@@ -79,7 +79,7 @@ module _ (header : Header) where
           some = λ empty. let clash : byte ∷ more ≡ [] = sym whole ∙ empty in absurd cc;
           no_frame = λ one rest proper came.
               let goes : (byte ∷ more) ++ [] ≡ frame_bytes header one ++ rest = append-nil (byte ∷ more) ∙ sym whole ∙ came in
-              let most = short.1.1.0 one [] rest proper goes in
+              let most = short.2 one [] rest proper goes in
               omega (arith, most, short.0, ap length (sym whole ∙ came), length-append (frame_bytes header one) rest);
-          same_header = λ other. short.1.1.1 (subst (IsOther header) whole other);
+          same_header = λ other. short.3 (subst (IsOther header) whole other);
         }

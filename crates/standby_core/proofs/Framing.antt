@@ -215,12 +215,12 @@ module _ (header : Header) (policy_size : length header.policy ≡ 32) (facts_si
     pub tail_shows : (judged : Judged) → ShowsTail named tail judged → Shows header bytes judged
     tail_shows (Frame frame) shows = record {
       proper = shows.0;
-      is = headed ∙ (λ i. head_bytes (sym shows.1.0 i) ++ shows.1.1 i) ∙ sym (frame_split (carried_in frame));
+      is = headed ∙ (λ i. head_bytes (sym shows.1 i) ++ shows.2 i) ∙ sym (frame_split (carried_in frame));
     }
     tail_shows (Short need) shows = (
       omega (arith, length_is, shows.0),
-      shows.1.0,
-      λ one rest more proper is. omega (arith, frame_size one, shows.1.1 one (goes_on one rest more proper is)),
+      shows.1,
+      λ one rest more proper is. omega (arith, frame_size one, shows.2 one (goes_on one rest more proper is)),
       not_other_now bytes same,
     )
     tail_shows Bad shows = (
@@ -362,11 +362,11 @@ module _ (header : Header) (policy_size : length header.policy ≡ 32) (facts_si
 
   pub never_short : (need : ℕ) → Shows header room (Short need) → ⊥
   never_short need shows =
-      let most = shows.1.1.0 one [] [] frame.proper (ap (λ l. l ++ []) frame.is) in
+      let most = shows.2 one [] [] frame.proper (ap (λ l. l ++ []) frame.is) in
       omega (arith, most, shows.0, ap length frame.is)
 
   pub never_bad : Shows header room Bad → ⊥
-  never_bad shows = shows.1.0 one [] [] frame.proper (ap (λ l. l ++ []) frame.is)
+  never_bad shows = shows.1 one [] [] frame.proper (ap (λ l. l ++ []) frame.is)
 
   pub never_other : Shows header room Other → ⊥
   never_other other =

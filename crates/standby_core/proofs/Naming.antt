@@ -68,7 +68,7 @@ module _ {X : Type 0} (name : X → List ℕ) (wanted : List ℕ) where
       by true it is = let same : i ≡ found = cc in (0, omega (arith, same), at_front x xs other it)
       by false miss is =
           let later = found_from xs (i + 1) found other is in
-          (suc later.0, omega (arith, later.1.0), at_next x xs later.0 other miss later.1.1)
+          (suc later.0, omega (arith, later.1), at_next x xs later.0 other miss later.2)
 
   none_from : (xs : List X) (i : ℕ) → position_from has_it i xs ≡ None → first_named name xs wanted ≡ None
   none_from [] i is = refl
@@ -81,8 +81,8 @@ module _ {X : Type 0} (name : X → List ℕ) (wanted : List ℕ) where
   pub found : (xs : List X) (place : ℕ) (other : X) → position has_it xs ≡ Some place → IsAt xs place other
   found xs place other is =
       let at = found_from xs 0 place other (sym (position_from-zero has_it xs) ∙ is) in
-      let same : at.0 ≡ place = omega (arith, at.1.0) in
-      subst (λ k. IsAt xs k other) same at.1.1
+      let same : at.0 ≡ place = omega (arith, at.1) in
+      subst (λ k. IsAt xs k other) same at.2
 
   pub not_found : (xs : List X) → position has_it xs ≡ None → first_named name xs wanted ≡ None
   not_found xs is = none_from xs 0 (sym (position_from-zero has_it xs) ∙ is)

@@ -24,15 +24,15 @@ module _ (header : Header) (bytes : List ℕ) (copies : List Copy) where
       → Took header room before after mid new (Ok done) → SoFar rest after old new
   one_more left rest room old mid new before after done so_far came took =
       let one = took.0 in
-      let frame = took.1.0 in
-      let count = took.1.1.0 in
-      let taken = took.1.1.1.0 in
+      let frame = took.1 in
+      let count = took.2.0 in
+      let taken = took.2.1 in
       record {
         answers = so_far.answers ++ answer_bytes count;
         took = subst (λ c. Takes header bytes copies (so_far.answers ++ answer_bytes count) rest c) (sym taken.left)
             (more so_far.answers left rest before one count so_far.took frame.proper (came ∙ ap (λ l. l ++ rest) frame.is)
             (subst (λ c. HasCount c one.name count) taken.left taken.counted));
-        written = took.1.1.1.1 ∙ ap (λ l. l ++ answer_bytes count) so_far.written ∙ append_assoc old so_far.answers (answer_bytes count);
+        written = took.2.2 ∙ ap (λ l. l ++ answer_bytes count) so_far.written ∙ append_assoc old so_far.answers (answer_bytes count);
       }
 
   -- what is promised of an end
@@ -70,17 +70,17 @@ module _ (header : Header) (bytes : List ℕ) (copies : List Copy) where
       left = left;
       copies_left = before;
       took = so_far.took;
-      ended = (took.0, rest, took.1.0.proper, came ∙ ap (λ l. l ++ rest) took.1.0.is);
+      ended = (took.0, rest, took.1.proper, came ∙ ap (λ l. l ++ rest) took.1.is);
       are_left = tt;
     },
-    took.1.1 ∙ so_far.written,
+    took.2 ∙ so_far.written,
   )
   ends_taking left rest room old mid new before after end.WriteFault at so_far came took =
       let one = took.0 in
-      let frame = took.1.0 in
-      let count = took.1.1.0 in
-      let taken = took.1.1.1.0 in
-      let part = took.1.1.1.1 in
+      let frame = took.1 in
+      let count = took.2.0 in
+      let taken = took.2.1 in
+      let part = took.2.2 in
       let answers = so_far.answers ++ answer_bytes count in (
         record {
           answers = answers;
@@ -94,8 +94,8 @@ module _ (header : Header) (bytes : List ℕ) (copies : List Copy) where
         },
         (
           length so_far.answers + part.0,
-          omega (arith, length-append so_far.answers (answer_bytes count), part.1.0),
-          part.1.1 ∙ ap (λ l. l ++ take part.0 (answer_bytes count)) so_far.written ∙ append_assoc old so_far.answers (take part.0 (answer_bytes count))
+          omega (arith, length-append so_far.answers (answer_bytes count), part.1),
+          part.2 ∙ ap (λ l. l ++ take part.0 (answer_bytes count)) so_far.written ∙ append_assoc old so_far.answers (take part.0 (answer_bytes count))
               ∙ ap (λ l. old ++ l) (sym (take_into so_far.answers (answer_bytes count) part.0)),
         ),
       )

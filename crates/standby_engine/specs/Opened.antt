@@ -1,7 +1,7 @@
 -- The journals of a standby that were opened, and those that were refused.
 use Rattle.std.specs.Prelude.{◌≡◌, ◌≢◌, ℕ, false, List, [], ◌∷◌, Option, Some, None, string_bytes}
-use Rattle.std.specs.List.{AllByRecursion}
-use Rattle.outside.specs.Shelf.{IsTaken}
+use Rattle.std.specs.List.{AllByRecursion, AllZip}
+use Rattle.outside.specs.Shelf.{IsTaken, SameBytes, NoNewImages, NoNewMoments}
 use Rattle.outside.specs.declared.disk.Disk.{Ghosts as DiskGhosts}
 use Rattle.cqe_base.specs.declared.user.User.{User}
 use Rattle.log_journal.specs.Journal.{disk_of, is_broken, count_of}
@@ -18,6 +18,12 @@ use Rattle.standby_core.specs.declared.book.Held.{Held}
 use Rattle.standby_engine.specs.declared.opening.Given.{Given}
 use Rattle.standby_engine.specs.declared.opening.Place.{Place}
 use Rattle.standby_engine.specs.declared.opening.Place.TheVariants.{Opened, Refused}
+
+-- Under all names the same bytes are read, and no crash leaves anything new, at no moment either.
+abbrev pub AllStay : {D : Type 0} → DiskGhosts D → (List ℕ → Option D) → (List ℕ → Option D)
+    → Type 0
+AllStay Disk old new = SameBytes Disk.reads old new × NoNewImages Disk.image old new
+    × NoNewMoments Disk.moment Disk.image_since Disk.image old new
 
 -- the name of the disk of a place
 abbrev pub place_journal : {D : Type 0} {g : _} → Place D g → List ℕ
@@ -90,16 +96,17 @@ module _ {D : Type 0} (told : Type 0) (Disk : DiskGhosts D) where
   abbrev pub AreGiven : (List ℕ → Option D) → (List ℕ → ℕ) → List (Given D) → Type 0
   AreGiven disk count all = AllByRecursion (IsGiven disk count) all
 
-  module _ (header directory : List ℕ) where
-    -- a user's disk was taken and opened, or refused; either way it was only read
-    pub record IsPlaceOf {g : _} (disk : List ℕ → Option D) (count : List ℕ → ℕ) (user : User)
-        (place : Place D g) : Type 0 where
-      pub journal_is : place_journal place ≡ journal_name directory (string_bytes user.name)
-      pub named : IsNamed place (string_bytes user.name)
+  module _ (header : List ℕ) where
+    -- The disk of this name was taken and opened as the journal of a user of the other, or refused;
+    -- either way it was only read.
+    pub record IsPlaceUnder {g : _} (disk : List ℕ → Option D) (count : List ℕ → ℕ)
+        (journal name : List ℕ) (place : Place D g) : Type 0 where
+      pub journal_is : place_journal place ≡ journal
+      pub named : IsNamed place name
       pub memory : HasMemory place
       pub taken : D
-      pub from : told → IsTaken Disk.reads Disk.image (disk (place_journal place)) taken
-      pub counted : Disk.faults taken ≡ count (place_journal place)
+      pub from : told → IsTaken Disk.reads Disk.image (disk journal) taken
+      pub counted : Disk.faults taken ≡ count journal
       pub opened : Disk.tells → (first : List Recorded)
           × IsOpenedAs Disk header taken place first
       pub sound : IsSound Disk header taken place
@@ -108,10 +115,15 @@ module _ {D : Type 0} (told : Type 0) (Disk : DiskGhosts D) where
           (Disk.image_since taken) (Disk.image_since (place_disk place)) (Disk.faults taken)
           (Disk.faults (place_disk place))
 
-    -- those of all users were
-    abbrev pub ArePlacesOf : {g : _} → (List ℕ → Option D) → (List ℕ → ℕ) → List User
-        → List (Place D g) → Type 0
-    ArePlacesOf disk count [] [] = Unit {0}
-    ArePlacesOf disk count (user ∷ users) (place ∷ places) =
-        IsPlaceOf disk count user place × ArePlacesOf disk count users places
-    ArePlacesOf disk count users places = ⊥
+    module _ (directory : List ℕ) where
+      -- so it was with a user's journal
+      abbrev pub IsPlaceOf : {g : _} → (List ℕ → Option D) → (List ℕ → ℕ) → User → Place D g
+          → Type 0
+      IsPlaceOf disk count user place =
+          IsPlaceUnder disk count (journal_name directory (string_bytes user.name))
+          (string_bytes user.name) place
+
+      -- and with those of all users
+      abbrev pub ArePlacesOf : {g : _} → (List ℕ → Option D) → (List ℕ → ℕ) → List User
+          → List (Place D g) → Type 0
+      ArePlacesOf disk count users places = AllZip (IsPlaceOf disk count) users places

@@ -1,17 +1,18 @@
 //! The journals of a standby, from the shelf and back.
 ghost use Rattle.std.specs.Prelude.{◌≡◌, ◌≤◌, [], false, true, List, map, length, string_bytes};
-ghost use Rattle.std.specs.Prelude.{IfOk, OnOk, OnErr, IsErrOf, vec_capacity};
+ghost use Rattle.std.specs.Prelude.{IfOk, OnOk, OnErr, IsErrOf, IsTrue, vec_capacity};
 ghost use Rattle.outside.specs.Faults.{Rose};
 ghost use Rattle.outside.specs.Shelf.{SameNames, SameOthers, SameBeside, AllOut, AllIn, NoneOut};
-ghost use Rattle.outside.specs.Shelf.{NoneFell, AreOut, SameBytes, NoNewImages};
+ghost use Rattle.outside.specs.Shelf.{NoneFell, AreOut};
 ghost use Rattle.cqe_base.specs.Schema.{has_duplicate};
 ghost use Rattle.log_journal.specs.Names.{journal_name};
 ghost use Rattle.log_journal.specs.Opening.{header_bytes, IsOnlyRead};
 ghost use Rattle.log_journal.specs.Records.{Recorded};
 ghost use Rattle.desk_crew.specs.Registered.{registered_journals, HaveOwnNames};
-ghost use Rattle.standby_engine.specs.Opened.{place_journal, place_disk, place_refusal};
+ghost use Rattle.standby_engine.specs.Opened.{place_journal, place_disk, place_refusal, HasMemory};
 ghost use Rattle.standby_engine.specs.Opened.{given_journal, IsOpenedAs, IsSound, IsNamed};
-ghost use Rattle.standby_engine.specs.Opened.{IsPlaceOf, ArePlacesOf, AreGiven};
+ghost use Rattle.standby_engine.specs.Opened.{IsPlaceUnder, IsPlaceOf, ArePlacesOf};
+ghost use Rattle.standby_engine.specs.Opened.{AreGiven, AllStay};
 
 use cqe_base::user::User;
 use desk_crew::room_for;
@@ -59,6 +60,16 @@ impl<D: Disk> Place<D> {
         }
     }
 
+    // Whether it wasn't refused since memory was wanting.
+    fn has_memory(&self) -> bool
+        ensures { IsTrue result → HasMemory self.now }
+    {
+        match self {
+            Place::Opened(_, _) => true,
+            Place::Refused(_, _, why) => *why != OpenError::Memory,
+        }
+    }
+
     /// Why it was refused.
     pub(crate) fn refusal(&self) -> Option<DeskError>
         ensures { result ≡ place_refusal self.now }
@@ -71,7 +82,7 @@ impl<D: Disk> Place<D> {
 }
 
 /// Opens the journal of each user in order. A refusal leaves all disks on the shelf, with the same
-/// bytes.
+/// bytes, and a crash leaves nothing new of them.
 pub(crate) fn open_journals<F: Shelf>(
     alloc: Global,
     shelf: &mut F,
@@ -87,10 +98,8 @@ pub(crate) fn open_journals<F: Shelf>(
         (λ places. AreOut (map place_journal places.items) (F.is_out shelf.new)) }
     ensures counts { OnOk result (SameNames (F.disk_faults shelf.old) (F.disk_faults shelf.new)) }
     ensures refused_out { OnErr result (NoneOut (F.is_out shelf.new)) }
-    ensures refused_bytes { F.tells
-        → OnErr result (SameBytes F.D.reads (F.disk shelf.old) (F.disk shelf.new)) }
-    ensures refused_images { F.tells
-        → OnErr result (NoNewImages F.D.image (F.disk shelf.old) (F.disk shelf.new)) }
+    ensures refused { F.tells
+        → OnErr result (AllStay F.D.Disk (F.disk shelf.old) (F.disk shelf.new)) }
     ensures disks { SameBeside (registered_journals directory.now users.now) (F.disk shelf.old)
         (F.disk shelf.new) }
     ensures other_counts { SameBeside (registered_journals directory.now users.now)
@@ -143,34 +152,64 @@ fn open_one<F: Shelf>(
     ensures other_counts { SameOthers (journal_name directory.now (string_bytes user.now.name))
         (F.disk_faults shelf.old) (F.disk_faults shelf.new) }
     ensures refused_out { OnErr result (SameNames (F.is_out shelf.old) (F.is_out shelf.new)) }
-    ensures refused_bytes { F.tells
-        → OnErr result (SameBytes F.D.reads (F.disk shelf.old) (F.disk shelf.new)) }
-    ensures refused_images { F.tells
-        → OnErr result (NoNewImages F.D.image (F.disk shelf.old) (F.disk shelf.new)) }
+    ensures refused { F.tells
+        → OnErr result (AllStay F.D.Disk (F.disk shelf.old) (F.disk shelf.new)) }
     ensures files { SameNames (F.file shelf.old) (F.file shelf.new) }
     ensures looked { F.looked shelf.new ≡ F.looked shelf.old }
     ensures later { F.faults shelf.old ≤ F.faults shelf.new }
     ensures cause { IsErrOf result NotOpened.Shelf
         → Rose (F.faults shelf.old) (F.faults shelf.new) }
 {
-    let (Ok(journal), Ok(name)) = (
-        journal_name(alloc, directory, user.name.as_str()),
-        String::from_str(alloc, user.name.as_str()),
-    ) else {
+    let Ok(journal) = journal_name(alloc, directory, user.name.as_str()) else {
         return Err(NotOpened::Memory);
     };
+    let Ok(name) = String::from_str(alloc, user.name.as_str()) else {
+        return Err(NotOpened::Memory);
+    };
+    open_named(alloc, shelf, header, journal, name)
+}
+
+// Opens the journal of this name, of the user of the other.
+fn open_named<F: Shelf>(
+    alloc: Global,
+    shelf: &mut F,
+    header: &Header,
+    journal: String,
+    name: String,
+) -> Result<Place<F::D>, NotOpened>
+    requires { F.is_out shelf.old (string_bytes journal) ≡ false }
+    ensures opened { IfOk result (IsPlaceUnder F.tells F.D.Disk (header_bytes header.now)
+        (F.disk shelf.old) (F.disk_faults shelf.old) (string_bytes journal) (string_bytes name)) }
+    ensures out { OnOk result (F.is_out shelf.new (string_bytes journal) ≡ true) }
+    ensures others_out { SameOthers (string_bytes journal) (F.is_out shelf.old)
+        (F.is_out shelf.new) }
+    ensures disks { SameOthers (string_bytes journal) (F.disk shelf.old) (F.disk shelf.new) }
+    ensures counts { OnOk result (SameNames (F.disk_faults shelf.old) (F.disk_faults shelf.new)) }
+    ensures fell { NoneFell (F.disk_faults shelf.old) (F.disk_faults shelf.new) }
+    ensures other_counts { SameOthers (string_bytes journal) (F.disk_faults shelf.old)
+        (F.disk_faults shelf.new) }
+    ensures refused_out { OnErr result (SameNames (F.is_out shelf.old) (F.is_out shelf.new)) }
+    ensures refused { F.tells
+        → OnErr result (AllStay F.D.Disk (F.disk shelf.old) (F.disk shelf.new)) }
+    ensures files { SameNames (F.file shelf.old) (F.file shelf.new) }
+    ensures looked { F.looked shelf.new ≡ F.looked shelf.old }
+    ensures later { F.faults shelf.old ≤ F.faults shelf.new }
+    ensures cause { IsErrOf result NotOpened.Shelf
+        → Rose (F.faults shelf.old) (F.faults shelf.new) }
+{
     let disk = match shelf.take_disk(alloc, journal.as_str()) {
         Ok(disk) => disk,
         Err(ShelfError::Failed) => return Err(NotOpened::Shelf),
         Err(_) => return Err(NotOpened::Memory),
     };
-    match open_held(alloc, disk, header, journal, name) {
-        Place::Refused(journal, disk, OpenError::Memory) => {
-            shelf.give_disk(journal.as_str(), disk);
-            Err(NotOpened::Memory)
-        }
-        place => Ok(place),
+    let place = open_held(alloc, disk, header, journal, name);
+    if place.has_memory() {
+        return Ok(place);
     }
+    let back = place.into_given();
+    let disk = back.disk;
+    shelf.give_disk(back.journal.as_str(), disk);
+    Err(NotOpened::Memory)
 }
 
 // Opens a disk as the journal of a user.

@@ -40,7 +40,7 @@ returns-then-length-lt-size c =
     let named : c.len-named.result ≡ length c.args.name.now = search rules in
     let shows = short_of_text c.args.name.now c.args.fields.now c.args.text.now c.requires.fields c.size_in.result is c.requires.few
     (omega (arith, c.if-size-gt-TEXT.false)) (omega (arith, long, c.if-length-lt-size.true)) in
-    (omega (arith, named, shows.0), omega (arith, named, shows.1.0), λ one goes. omega (arith, named, shows.1.1 one goes))
+    (omega (arith, named, shows.0), omega (arith, named, shows.1), λ one goes. omega (arith, named, shows.2 one goes))
 
 -- the record whole
 pub returns : goal.returns

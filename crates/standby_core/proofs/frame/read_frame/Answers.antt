@@ -21,7 +21,7 @@ pub take_up_to-requires-clause-more : goal.take_up_to-requires-clause-more
 take_up_to-requires-clause-more g c = omega (arith, c.in-Short.ensures.0, ap length c.bytes.ensures)
 
 pub take_up_to-requires-clause-fits : goal.take_up_to-requires-clause-fits
-take_up_to-requires-clause-fits g c = c.in-Short.ensures.1.0
+take_up_to-requires-clause-fits g c = c.in-Short.ensures.1
 
 pub loop-size-preserved : goal.loop-size-preserved
 loop-size-preserved g c =
@@ -30,7 +30,7 @@ loop-size-preserved g c =
     subst (λ l. Shows c.args.header.now l (Short c.in-Short.size)) c.bytes.ensures c.in-Short.ensures in
     record {
       within = more_within c.args.header.now c.loop-size.room c.take_up_to.new.self c.in-Short.size shows c.in-Ok.ensures.front c.in-Ok.ensures.size;
-      room = omega (arith, c.in-Ok.ensures.size, shows.1.0);
+      room = omega (arith, c.in-Ok.ensures.size, shows.1);
       taken = λ told. before.taken told ∙ c.in-Ok.ensures.moved told;
       held = c.take_up_to.ensures.held ∙ before.held;
       later = omega (arith, before.later, c.take_up_to.ensures.cause.later);
@@ -39,7 +39,7 @@ loop-size-preserved g c =
 pub loop-size-smaller : goal.loop-size-smaller
 loop-size-smaller g c =
     let shows = c.in-Short.ensures in
-    omega (arith, c.in-Ok.ensures.more, c.in-Ok.ensures.size, shows.1.0, c.if-count-eq-0.false)
+    omega (arith, c.in-Ok.ensures.more, c.in-Ok.ensures.size, shows.1, c.if-count-eq0.false)
 
 -- ---- a whole frame
 
@@ -69,25 +69,25 @@ returns-in-Err-clause-cause g c = λ is.
 
 -- ---- the end of the input
 
-pub returns-then-count-eq-0-clause-reads : goal.returns-then-count-eq-0-clause-reads
-returns-then-count-eq-0-clause-reads g c = λ told.
+pub returns-then-count-eq0-clause-reads : goal.returns-then-count-eq0-clause-reads
+returns-then-count-eq0-clause-reads g c = λ told.
     let same : c.take_up_to.new.self ≡ c.loop-size.room =
-    same_room c.loop-size.room c.take_up_to.new.self (omega (arith, c.in-Ok.ensures.more, c.if-count-eq-0.true)) c.in-Ok.ensures.front in
+    same_room c.loop-size.room c.take_up_to.new.self (omega (arith, c.in-Ok.ensures.more, c.if-count-eq0.true)) c.in-Ok.ensures.front in
     subst (λ room. Reads c.end_behind.result c.args.header.now (g.S.Source.left c.args.source.now) (g.S.Source.left c.take_up_to.new.source) room)
     (sym same)
     (end_read c.args.header.now c.loop-size.room (g.S.Source.left c.args.source.now) (g.S.Source.left c.loop-size.source)
     (c.loop-size.invariant.taken told) c.in-Short.size (g.S.Source.left c.take_up_to.new.source) c.end_behind.result
     (subst (λ l. Shows c.args.header.now l (Short c.in-Short.size)) c.bytes.ensures c.in-Short.ensures)
-    (c.in-Ok.ensures.end told c.if-count-eq-0.true)
+    (c.in-Ok.ensures.end told c.if-count-eq0.true)
     (c.end_behind.ensures ∙ ap end_behind same))
 
-pub returns-then-count-eq-0-clause-frame : goal.returns-then-count-eq-0-clause-frame
-returns-then-count-eq-0-clause-frame g c whole =
+pub returns-then-count-eq0-clause-frame : goal.returns-then-count-eq0-clause-frame
+returns-then-count-eq0-clause-frame g c whole =
     absurd (never_whole c.take_up_to.new.self (sym c.end_behind.ensures ∙ whole))
 
-pub returns-then-count-eq-0-clause-later : goal.returns-then-count-eq-0-clause-later
-returns-then-count-eq-0-clause-later g c = omega (arith, c.loop-size.invariant.later, c.take_up_to.ensures.cause.later)
+pub returns-then-count-eq0-clause-later : goal.returns-then-count-eq0-clause-later
+returns-then-count-eq0-clause-later g c = omega (arith, c.loop-size.invariant.later, c.take_up_to.ensures.cause.later)
 
-pub returns-then-count-eq-0-clause-cause : goal.returns-then-count-eq-0-clause-cause
-returns-then-count-eq-0-clause-cause g c fault =
+pub returns-then-count-eq0-clause-cause : goal.returns-then-count-eq0-clause-cause
+returns-then-count-eq0-clause-cause g c fault =
     absurd (never_fault c.take_up_to.new.self (sym c.end_behind.ensures ∙ fault))

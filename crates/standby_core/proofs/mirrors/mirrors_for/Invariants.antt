@@ -10,7 +10,7 @@ abbrev pub invariant-loop-user : goal.invariant-loop-user
 invariant-loop-user g l = record {
   fresh : AllByRecursion (λ slot. faults_in g.L.Dial.Dial.faults (Some slot.place) ≡ 0) l.slots.items;
   count : vec_len l.slots ≡ l.user-index;
-  room : length l.users.now ≤ vec_capacity l.slots;
+  room : length l.users ≤ vec_capacity l.slots;
   mirror : g.L.Links.mirror l.links ≡ g.L.Links.mirror l.fn.links;
   doors : KeepsDoors g.L.Links l.fn.links l.links;
 }

@@ -9,7 +9,7 @@ use Rattle.standby_core.proofs.serve.serve_standby.Given as goal
 abbrev pub invariant-loop : goal.invariant-loop
 invariant-loop g l = record {
   so_far : g.S.Source.tells → g.D.Disk.tells → g.K.Sink.tells
-      → SoFar l.header.now (g.S.Source.left l.fn.source) (copies_in g.D.Disk.reads l.fn.book) (g.S.Source.left l.source) (copies_in g.D.Disk.reads l.book)
+      → SoFar l.header (g.S.Source.left l.fn.source) (copies_in g.D.Disk.reads l.fn.book) (g.S.Source.left l.source) (copies_in g.D.Disk.reads l.book)
       (g.K.Sink.written l.fn.sink) (g.K.Sink.written l.sink);
   lasts : g.D.Disk.tells → (own : List ℕ) (firsts : List (List Recorded)) → AllLast g.D.Disk.reads g.D.Disk.image own firsts l.fn.book.journals.items
       → AllLast g.D.Disk.reads g.D.Disk.image own firsts l.book.journals.items;

@@ -84,9 +84,11 @@ returns-in-Ok-write_all-clause-took g c disk sink =
     (
       carried_in c.in-Frame.frame,
       in_room g (goal.at.returns-in-Ok-write_all-clause-took g c).In-Frame,
-      c.in-Ok.count,
-      record { left = c.in-Ok.ensures.taken disk; counted = c.in-Ok.ensures.count disk },
-      c.in-Ok-write_all.ensures.all sink ∙ ap (λ l. g.K.Sink.written c.args.sink.now ++ l) c.to_be_bytes.ensures,
+      (
+        c.in-Ok.count,
+        record { left = c.in-Ok.ensures.taken disk; counted = c.in-Ok.ensures.count disk },
+        c.in-Ok-write_all.ensures.all sink ∙ ap (λ l. g.K.Sink.written c.args.sink.now ++ l) c.to_be_bytes.ensures,
+      ),
     )
 
 pub returns-in-Err-write_all-clause-took : goal.returns-in-Err-write_all-clause-took
@@ -95,11 +97,13 @@ returns-in-Err-write_all-clause-took g c disk sink =
     (
       carried_in c.in-Frame.frame,
       in_room g (goal.at.returns-in-Err-write_all-clause-took g c).In-Frame,
-      c.in-Ok.count,
-      record { left = c.in-Ok.ensures.taken disk; counted = c.in-Ok.ensures.count disk },
       (
-        part.0,
-        omega (arith, part.1.0, ap length c.to_be_bytes.ensures),
-        part.1.1 ∙ ap (λ l. g.K.Sink.written c.args.sink.now ++ take part.0 l) c.to_be_bytes.ensures,
+        c.in-Ok.count,
+        record { left = c.in-Ok.ensures.taken disk; counted = c.in-Ok.ensures.count disk },
+        (
+          part.0,
+          omega (arith, part.1, ap length c.to_be_bytes.ensures),
+          part.2 ∙ ap (λ l. g.K.Sink.written c.args.sink.now ++ take part.0 l) c.to_be_bytes.ensures,
+        ),
       ),
     )

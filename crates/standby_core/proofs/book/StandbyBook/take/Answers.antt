@@ -31,7 +31,7 @@ returns-in_default-clause-broken g c =
     let nobody : copy_at (map (copy_in g.D.Disk.reads) journals) c.args.name.now ≡ None =
     copy_of g.D.Disk.reads c.args.name.now journals
     ∙ ap (option_map (copy_in g.D.Disk.reads)) (not_found held_name c.args.name.now journals (sym none)) in
-    (λ is. absurd cc, λ failed. let clash : None ≡ Some failed.0 = sym nobody ∙ failed.1.0 in absurd cc)
+    (λ is. absurd cc, λ failed. let clash : None ≡ Some failed.0 = sym nobody ∙ failed.1 in absurd cc)
 
 -- ---- the journal of the name
 
