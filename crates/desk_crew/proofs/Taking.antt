@@ -66,7 +66,8 @@ length-journals [] = refl
 length-journals (s ∷ seats) = ap (λ n. suc n) (length-journals seats)
 
 module _ (directory : Text) where
-  pub journal_among : JournalsDiffer → (ns : List Text) (name : Text) → is_among (map (journal_name directory) ns) (journal_name directory name) ≡ is_among ns name
+  pub journal_among : JournalsDiffer → (ns : List Text) (name : Text)
+      → is_among (map (journal_name directory) ns) (journal_name directory name) ≡ is_among ns name
   journal_among differ [] name = refl
   journal_among differ (n ∷ ns) name =
       ap (λ b. b || is_among (map (journal_name directory) ns) (journal_name directory name)) (differ directory name n)

@@ -401,8 +401,8 @@ pub fn open<D: Disk>(
     }
 }
 
-/// Opens a journal of version 1 with these digests, as `open` does one of version 2, but for telling
-/// the disk. It is for who moves its records to a journal of version 2.
+/// Opens a journal of version 1 with these digests, as `open` does one of version 2, but the disk
+/// isn't told. It is for who moves its records to a journal of version 2.
 pub fn open_old<D: Disk>(
     alloc: Global,
     disk: D,

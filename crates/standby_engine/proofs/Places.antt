@@ -88,16 +88,15 @@ module _ (directory header : List ℕ) {D : Type 0} {g : _} (told : Type 0) (Dis
       ∙ ap (λ js. journal_name directory (string_bytes u.name) ∷ js) (place_journals users places are.1)
 
   -- a disk that was only read is as it was taken
-  same_one : told → (disk' : Text → Option D) (count' : Text → ℕ) (journal name : Text) (p : Place D g)
+  pub same_under : told → (disk' : Text → Option D) (count' : Text → ℕ) (journal name : Text) (p : Place D g)
       → IsPlaceUnder told Disk header disk0 count0 journal name p → IsUnder told Disk disk' count' (place_journal p) (place_disk p)
-      → Same Disk disk0 disk' (place_journal p)
-  same_one t disk' count' journal name p is under =
-      subst (Same Disk disk0 disk') (sym is.journal_is) (
-        ap (bytes_on Disk.reads) held ∙ is.only.reads ∙ taken_reads Disk.reads Disk.image (disk0 journal) is.taken (is.from t),
-        λ c here. taken_images Disk.reads Disk.image (disk0 journal) is.taken c (is.from t)
-            (is.only.images c (subst (λ o. image_on Disk.image o c) held here)),
-        taken_rests Disk (disk0 journal) (disk' journal) is.taken (place_disk p) (is.from t) is.only.moments held,
-      )
+      → Same Disk disk0 disk' journal
+  same_under t disk' count' journal name p is under = (
+    ap (bytes_on Disk.reads) held ∙ is.only.reads ∙ taken_reads Disk.reads Disk.image (disk0 journal) is.taken (is.from t),
+    λ c here. taken_images Disk.reads Disk.image (disk0 journal) is.taken c (is.from t)
+        (is.only.images c (subst (λ o. image_on Disk.image o c) held here)),
+    taken_rests Disk (disk0 journal) (disk' journal) is.taken (place_disk p) (is.from t) is.only.moments held,
+  )
     where
       held : disk' journal ≡ Some (place_disk p)
       held = ap disk' (sym is.journal_is) ∙ under.held t
@@ -109,7 +108,8 @@ module _ (directory header : List ℕ) {D : Type 0} {g : _} (told : Type 0) (Dis
   same_each t disk' count' [] (p ∷ places) are under = absurd are
   same_each t disk' count' (u ∷ users) [] are under = absurd are
   same_each t disk' count' (u ∷ users) (p ∷ places) are under = (
-    same_one t disk' count' (journal_name directory (string_bytes u.name)) (string_bytes u.name) p are.0 under.0,
+    subst (Same Disk disk0 disk') (sym are.0.journal_is)
+        (same_under t disk' count' (journal_name directory (string_bytes u.name)) (string_bytes u.name) p are.0 under.0),
     same_each t disk' count' users places are.1 under.1,
   )
 

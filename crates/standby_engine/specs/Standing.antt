@@ -1,6 +1,7 @@
 -- What a standby leaves of its users' journals.
-use Rattle.std.specs.Prelude.{◌≡◌, ◌≢◌, ◌⊎◌, ℕ, ◌+◌, true, List, [], ◌∷◌, ◌++◌, length}
-use Rattle.std.specs.Prelude.{Option, Some, None, string_bytes}
+use Rattle.std.specs.Prelude.{◌≡◌, ◌≢◌, ◌⊎◌, ℕ, ◌+◌, Bool, true, List, [], ◌∷◌, ◌++◌, length}
+use Rattle.std.specs.Prelude.{Option, Some, None, Vec, string_bytes}
+use Rattle.std.specs.declared.alloc.Global.{Global}
 use Rattle.outside.specs.Faults.{Rose}
 use Rattle.outside.specs.Visits.{Visit}
 use Rattle.cqe_base.specs.declared.user.User.{User}
@@ -17,6 +18,8 @@ use Rattle.standby_engine.specs.Served.{AreServed}
 use Rattle.standby_engine.specs.declared.run.CopyEnd.{CopyEnd}
 use Rattle.standby_engine.specs.declared.run.CopyEnd.TheVariants.{Done, LinksFault}
 use Rattle.standby_engine.specs.declared.run.CopyEnd.TheVariants.{ShelfFault, Memory}
+use Rattle.standby_engine.specs.declared.serving.DoorEnd.{DoorEnd}
+use Rattle.standby_engine.specs.declared.serving.DoorEnd.TheVariants.{Ended, Limit, Failed}
 
 -- The journal of this name had these records, and whatever a crash leaves of it, it has them in
 -- front; what came stands behind them.
@@ -67,7 +70,7 @@ LeavesCopies header journals users (Done refusals broken) =
     AreCopied header journals users refusals.items
     × (broken ≡ true → SomeFailed journals users)
 LeavesCopies header journals users LinksFault =
-    (refusals : List (Option DeskError)) × AreCopied header journals users refusals
+    ((refusals : List (Option DeskError)) × AreCopied header journals users refusals)
     ⊎ KeepsJournals journals
 LeavesCopies header journals users end = KeepsJournals journals
 
@@ -85,3 +88,10 @@ IsServed end = ⊥
 abbrev pub IsBroken : CopyEnd → Type 0
 IsBroken (Done refusals broken) = broken ≡ true
 IsBroken end = ⊥
+
+-- the end of a standby whose door came to this one: where the door didn't fail it has the refusals,
+-- and whether an append failed
+abbrev pub copy_end : DoorEnd → Vec (Option DeskError) Global → Bool → CopyEnd
+copy_end Ended refusals broken = Done refusals broken
+copy_end Limit refusals broken = Done refusals broken
+copy_end Failed refusals broken = LinksFault

@@ -121,7 +121,8 @@ pub(crate) fn open_journals<F: Shelf>(
         match open_one(alloc, shelf, header, directory, user) {
             Ok(place) => places.push_reserved(place),
             Err(why) => {
-                give_back(shelf, disks_of(places, room));
+                let back = disks_of(places, room);
+                give_back(shelf, back);
                 return Err(why);
             }
         }

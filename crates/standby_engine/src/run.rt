@@ -1,6 +1,6 @@
 //! A standby from the first listening to the last journal that is back.
-ghost use Rattle.std.specs.Prelude.{◌≡◌, ◌⊎◌, ◌≤◌, ◌+◌, ◌++◌, ◌∷◌, ◌^◌, [], List, map, length};
-ghost use Rattle.std.specs.Prelude.{IfOk, string_bytes, vec_capacity};
+ghost use Rattle.std.specs.Prelude.{◌≡◌, ◌⊎◌, ◌≤◌, ◌<◌, ◌+◌, ◌++◌, ◌∷◌, ◌^◌, [], List, map};
+ghost use Rattle.std.specs.Prelude.{IfOk, length, string_bytes, vec_len, vec_capacity};
 ghost use Rattle.outside.specs.Faults.{Rose};
 ghost use Rattle.outside.specs.Shelf.{SameNames, SameBeside, NoneOut, NoneFell, SomeRose};
 ghost use Rattle.outside.specs.Visits.{place_of};
@@ -14,14 +14,14 @@ ghost use Rattle.standby_engine.specs.Opened.{given_journal, journals_in, names_
 ghost use Rattle.standby_engine.specs.Opened.{place_refusal};
 ghost use Rattle.standby_engine.specs.Served.{IsDoorServed};
 ghost use Rattle.standby_engine.specs.Standing.{LeavesCopies, ServesCopies, IsServed, IsBroken};
-ghost use Rattle.standby_engine.specs.Standing.{IsSilent};
+ghost use Rattle.standby_engine.specs.Standing.{IsSilent, copy_end};
 ghost use Rattle.standby_engine.specs.declared.run.CopyEnd.{CopyEnd};
 
-use crate::opening::{Given, NotOpened, Place, disks_of, give_back, open_journals};
+use crate::opening::{Given, NotOpened, Place, give_back, open_journals};
 use crate::serving::{DoorEnd, serve_door};
 use cqe_base::user::User;
 use desk_crew::room_for;
-use log_journal::Header;
+use log_journal::{Header, law_journals_differ};
 use outside::{Disk, Door, Links, LinksError, Shelf};
 use standby_core::{Held, StandbyBook};
 use std::alloc::{AllocError, Global};
@@ -112,21 +112,27 @@ pub fn run_standby<R: Wait, F: Shelf, L: Links>(
     ensures disk_cause { IsBroken result
         → SomeRose (F.disk_faults shelf.old) (F.disk_faults shelf.new) }
 {
-    let mut doors = match links.listen(alloc, copying.address, 1) {
+    let doors = match links.listen(alloc, copying.address, 1) {
         Ok(doors) => doors,
         Err(LinksError::Failed) => return CopyEnd::LinksFault,
         Err(LinksError::Memory) => return CopyEnd::Memory,
     };
-    let Some(door) = doors.pop() else {
-        return CopyEnd::Memory;
-    };
-    let mut door = door;
+    let mut door = only_door(doors);
     let limit = copying.sessions;
     let end = serve_opened(
         rt, alloc, users, header, directory, shelf, &mut door, limit,
     );
     links.take_back(door);
     end
+}
+
+// The door of a list that has one.
+fn only_door<O: Drop>(doors: Vec<O>) -> O
+    requires { length doors.items ≡ 1 }
+    ensures { doors.items ≡ result ∷ [] }
+{
+    let mut doors = doors;
+    doors.remove(0)
 }
 
 // Opens the journals of all users, serves the door, and gives the journals back.
@@ -167,6 +173,7 @@ fn serve_opened<R: Wait, F: Shelf, O: Door>(
     ensures disk_cause { IsBroken result
         → SomeRose (F.disk_faults shelf.old) (F.disk_faults shelf.new) }
 {
+    law_journals_differ();
     let count = users.len();
     let Ok(rooms) = Rooms::new(alloc, count) else {
         return CopyEnd::Memory;
@@ -176,22 +183,24 @@ fn serve_opened<R: Wait, F: Shelf, O: Door>(
         Err(NotOpened::Shelf) => return CopyEnd::ShelfFault,
         Err(NotOpened::Memory) => return CopyEnd::Memory,
     };
-    let Rooms {
-        journals,
-        names,
-        given,
-        refusals,
-    } = rooms;
-    let refusals = refusals_of(refusals, places.as_slice());
-    let (journals, names, given) = take_apart(places, journals, names, given);
+    let refusals = refusals_of(rooms.refusals, places.as_slice());
+    let (journals, names, others) = take_apart(places, rooms.journals, rooms.names, rooms.given);
     let mut book = StandbyBook::new(journals);
     let end = serve_door(rt, &mut book, header, door, limit);
-    let (given, broken) = put_together(book.close(), names, given);
-    give_back(shelf, given);
+    let journals = book.close();
+    let (all, broken) = put_together(journals, names, others);
+    give_back(shelf, all);
+    end_of(end, refusals, broken)
+}
+
+// The end of a standby whose door came to this one.
+fn end_of(end: DoorEnd, refusals: Vec<Option<DeskError>>, broken: bool) -> CopyEnd
+    ensures { result ≡ copy_end end refusals broken }
+{
     match end {
-        DoorEnd::Failed => CopyEnd::LinksFault,
         DoorEnd::Ended => CopyEnd::Done(refusals, broken),
         DoorEnd::Limit => CopyEnd::Done(refusals, broken),
+        DoorEnd::Failed => CopyEnd::LinksFault,
     }
 }
 
@@ -259,15 +268,36 @@ fn take_apart<D: Disk + Drop>(
 {
     let (mut journals, mut names, mut given) = (journals, names, given);
     for place in places {
-        match place {
-            Place::Opened(name, held) => {
-                journals.push_reserved(held);
-                names.push_reserved(name);
-            }
-            Place::Refused(journal, disk, _) => given.push_reserved(Given { journal, disk }),
-        }
+        take_part(place, &mut journals, &mut names, &mut given);
     }
     (journals, names, given)
+}
+
+// Puts a place into the lists: its journal and the name of its disk, or its disk with its name.
+fn take_part<D: Disk + Drop>(
+    place: Place<D>,
+    journals: &mut Vec<Held<D>>,
+    names: &mut Vec<String>,
+    given: &mut Vec<Given<D>>,
+)
+    requires { (vec_len journals.old < vec_capacity journals.old)
+        × (vec_len names.old < vec_capacity names.old)
+        × (vec_len given.old < vec_capacity given.old) }
+    ensures journals { journals.new.items ≡ journals.old.items ++ journals_in (place ∷ []) }
+    ensures names { map string_bytes names.new.items
+        ≡ map string_bytes names.old.items ++ names_in (place ∷ []) }
+    ensures others { given.new.items ≡ given.old.items ++ others_in (place ∷ []) }
+    ensures rooms { (vec_capacity journals.new ≡ vec_capacity journals.old)
+        × (vec_capacity names.new ≡ vec_capacity names.old)
+        × (vec_capacity given.new ≡ vec_capacity given.old) }
+{
+    match place {
+        Place::Opened(name, held) => {
+            names.push_reserved(name);
+            journals.push_reserved(held);
+        }
+        Place::Refused(journal, disk, _) => given.push_reserved(Given { journal, disk }),
+    }
 }
 
 // The disks of journals behind those of the others, in a list with the room for them, and whether
@@ -288,11 +318,11 @@ fn put_together<D: Disk + Drop>(
     let (mut names, mut given) = (names, given);
     let mut broken = false;
     for held in journals {
-        broken |= held.journal.has_failed();
-        given.push_reserved(Given {
-            journal: names.remove(0),
-            disk: held.journal.close(),
-        });
+        let failed = held.journal.has_failed();
+        let journal = names.remove(0);
+        let disk = held.journal.close();
+        given.push_reserved(Given { journal, disk });
+        broken |= failed;
     }
     (given, broken)
 }
