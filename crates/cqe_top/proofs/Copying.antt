@@ -1,5 +1,5 @@
 -- A shelf whose disks a standby copies shows the journals of the shelf that it was lent, where the faults of each disk are counted with those of its dial.
-use Rattle.std.proofs.Common.{◌≡◌, ◌⊎◌, ℕ, ◌+◌, ◌≤◌, ◌<◌, List, Option, Some, None, map, refl, sym, subst, ap, ◌∙◌, arith}
+use Rattle.std.proofs.Common.{◌≡◌, ◌⊎◌, ℕ, ◌+◌, ◌≤◌, ◌<◌, List, [], ◌∷◌, Option, Some, None, map, refl, sym, subst, ap, ◌∙◌, arith}
 use Rattle.std.specs.Prelude.{option_map}
 use Rattle.outside.specs.Faults.{Rose}
 use Rattle.outside.specs.Visits.{Visit, Place as Listened}
@@ -59,19 +59,20 @@ none_more n m is = omega (arith, is)
 
 -- ---- all of them
 
-module _ {F D C : Type 0} {g : _} (Shelf : ShelfGhosts F D) (Disk : DiskGhosts D) (faults : C → ℕ) (old new : F) (slots slots' : List (Slot C g))
-    (fresh : (name : Text) → faults_in faults (place_at slots name) ≡ 0) where
+-- the shelf and the mirrors as they were lent, by what the shelf with mirrors has of them
+module _ {F D C : Type 0} {g : _} (Shelf : ShelfGhosts F D) (Disk : DiskGhosts D) (faults : C → ℕ) (lent old new : F) (was : lent ≡ old)
+    (lent_slots slots slots' : List (Slot C g)) (were : lent_slots ≡ slots) (fresh : (name : Text) → faults_in faults (place_at slots name) ≡ 0) where
   -- the exchanges that failed for the disk of a name
   abbrev failed : Text → ℕ
   failed name = faults_in faults (place_at slots' name)
 
-  pub same_copied : (directory : Text)
+  mirrors_copied : (directory : Text)
       → journals_by (λ d. Disk.reads (inner_of d)) (λ d. Disk.image (inner_of d)) (λ d. Disk.moment (inner_of d)) (λ d. Disk.image_since (inner_of d)) directory
       (λ name. mirrored_at (Shelf.disk old name) (place_at slots name)) (λ name. mirrored_at (Shelf.disk new name) (place_at slots' name))
       (λ name. Shelf.disk_faults old name + faults_in faults (place_at slots name))
       (λ name. Shelf.disk_faults new name + faults_in faults (place_at slots' name))
       ≡ copied_journals Shelf Disk directory old new failed
-  same_copied directory = λ i. record {
+  mirrors_copied directory = λ i. record {
     bytes = λ name. bytes_under Disk.reads (Shelf.disk old (journal_name directory name)) (place_at slots (journal_name directory name)) i;
     image_before = λ name. image_under Disk.image (Shelf.disk old (journal_name directory name)) (place_at slots (journal_name directory name)) i;
     before = λ name. none_more (Shelf.disk_faults old (journal_name directory name)) (faults_in faults (place_at slots (journal_name directory name)))
@@ -84,6 +85,26 @@ module _ {F D C : Type 0} {g : _} (Shelf : ShelfGhosts F D) (Disk : DiskGhosts D
     since = λ name. since_under Disk.image_since (Shelf.disk new (journal_name directory name)) (place_at slots' (journal_name directory name)) i;
   }
 
+  pub same_copied : (directory : Text)
+      → journals_by (λ d. Disk.reads (inner_of d)) (λ d. Disk.image (inner_of d)) (λ d. Disk.moment (inner_of d)) (λ d. Disk.image_since (inner_of d)) directory
+      (λ name. mirrored_at (Shelf.disk lent name) (place_at lent_slots name)) (λ name. mirrored_at (Shelf.disk new name) (place_at slots' name))
+      (λ name. Shelf.disk_faults lent name + faults_in faults (place_at lent_slots name))
+      (λ name. Shelf.disk_faults new name + faults_in faults (place_at slots' name))
+      ≡ copied_journals Shelf Disk directory old new failed
+  same_copied directory =
+      (λ i. journals_by (λ d. Disk.reads (inner_of d)) (λ d. Disk.image (inner_of d)) (λ d. Disk.moment (inner_of d)) (λ d. Disk.image_since (inner_of d))
+      directory (λ name. mirrored_at (Shelf.disk (was i) name) (place_at (were i) name)) (λ name. mirrored_at (Shelf.disk new name) (place_at slots' name))
+      (λ name. Shelf.disk_faults (was i) name + faults_in faults (place_at (were i) name))
+      (λ name. Shelf.disk_faults new name + faults_in faults (place_at slots' name))) ∙ mirrors_copied directory
+
+  before : (name : Text) → mirrored_at (Shelf.disk lent name) (place_at lent_slots name) ≡ mirrored_at (Shelf.disk old name) (place_at slots name)
+  before name = λ i. mirrored_at (Shelf.disk (was i) name) (place_at (were i) name)
+
+  counts_before : (name : Text) → Shelf.disk_faults lent name + faults_in faults (place_at lent_slots name) ≡ Shelf.disk_faults old name
+  counts_before name =
+      (λ i. Shelf.disk_faults (was i) name + faults_in faults (place_at (were i) name))
+      ∙ none_more (Shelf.disk_faults old name) (faults_in faults (place_at slots name)) (fresh name)
+
   -- a disk that the shelf with mirrors has as before, the lent shelf has as before
   same_disk : (name : Text) → mirrored_at (Shelf.disk new name) (place_at slots' name) ≡ mirrored_at (Shelf.disk old name) (place_at slots name)
       → Shelf.disk new name ≡ Shelf.disk old name
@@ -91,44 +112,66 @@ module _ {F D C : Type 0} {g : _} (Shelf : ShelfGhosts F D) (Disk : DiskGhosts D
       sym (lent_disk (Shelf.disk new name) (place_at slots' name)) ∙ ap (option_map inner_of) same ∙ lent_disk (Shelf.disk old name) (place_at slots name)
 
   pub disks_under : (names : List Text)
-      → SameBeside names (λ name. mirrored_at (Shelf.disk old name) (place_at slots name)) (λ name. mirrored_at (Shelf.disk new name) (place_at slots' name))
-      → SameBeside names (Shelf.disk old) (Shelf.disk new)
-  disks_under names same name other = same_disk name (same name other)
+      → SameBeside names (λ name. mirrored_at (Shelf.disk lent name) (place_at lent_slots name))
+      (λ name. mirrored_at (Shelf.disk new name) (place_at slots' name)) → SameBeside names (Shelf.disk old) (Shelf.disk new)
+  disks_under names same name other = same_disk name (same name other ∙ before name)
 
-  pub all_disks_under : SameNames (λ name. mirrored_at (Shelf.disk old name) (place_at slots name))
+  pub all_disks_under : SameNames (λ name. mirrored_at (Shelf.disk lent name) (place_at lent_slots name))
       (λ name. mirrored_at (Shelf.disk new name) (place_at slots' name)) → SameNames (Shelf.disk old) (Shelf.disk new)
-  all_disks_under same name = same_disk name (same name)
+  all_disks_under same name = same_disk name (same name ∙ before name)
 
   -- the counts beside those of the dials
   pub counts_under : (names : List Text)
-      → SameBeside names (λ name. Shelf.disk_faults old name + faults_in faults (place_at slots name))
+      → SameBeside names (λ name. Shelf.disk_faults lent name + faults_in faults (place_at lent_slots name))
       (λ name. Shelf.disk_faults new name + faults_in faults (place_at slots' name))
       → SameBeside names (Shelf.disk_faults old) (copied_counts (Shelf.disk_faults new) failed)
-  counts_under names same name other =
-      same name other ∙ none_more (Shelf.disk_faults old name) (faults_in faults (place_at slots name)) (fresh name)
+  counts_under names same name other = same name other ∙ counts_before name
 
-  pub all_counts_under : SameNames (λ name. Shelf.disk_faults old name + faults_in faults (place_at slots name))
+  pub all_counts_under : SameNames (λ name. Shelf.disk_faults lent name + faults_in faults (place_at lent_slots name))
       (λ name. Shelf.disk_faults new name + faults_in faults (place_at slots' name))
       → SameNames (Shelf.disk_faults old) (copied_counts (Shelf.disk_faults new) failed)
-  all_counts_under same name = same name ∙ none_more (Shelf.disk_faults old name) (faults_in faults (place_at slots name)) (fresh name)
+  all_counts_under same name = same name ∙ counts_before name
 
   -- a count that rose on the shelf with mirrors rose by the disk or by its dial
-  pub some_rose_under : SomeRose (λ name. Shelf.disk_faults old name + faults_in faults (place_at slots name))
+  pub some_rose_under : SomeRose (λ name. Shelf.disk_faults lent name + faults_in faults (place_at lent_slots name))
       (λ name. Shelf.disk_faults new name + faults_in faults (place_at slots' name))
       → SomeRose (Shelf.disk_faults old) (copied_counts (Shelf.disk_faults new) failed)
-  some_rose_under (name, rose) = (
-    name,
-    subst (λ n. Rose n (Shelf.disk_faults new name + faults_in faults (place_at slots' name)))
-    (none_more (Shelf.disk_faults old name) (faults_in faults (place_at slots name)) (fresh name)) rose,
+  some_rose_under rose = (
+    rose.0,
+    subst (λ n. Rose n (Shelf.disk_faults new rose.0 + faults_in faults (place_at slots' rose.0))) (counts_before rose.0) rose.1,
   )
 
   -- and none fell
-  pub none_fell_under : NoneFell (λ name. Shelf.disk_faults old name + faults_in faults (place_at slots name))
+  pub none_fell_under : NoneFell (λ name. Shelf.disk_faults lent name + faults_in faults (place_at lent_slots name))
       (λ name. Shelf.disk_faults new name + faults_in faults (place_at slots' name))
       → NoneFell (Shelf.disk_faults old) (copied_counts (Shelf.disk_faults new) failed)
   none_fell_under fell name =
-      subst (λ n. n ≤ Shelf.disk_faults new name + faults_in faults (place_at slots' name))
-      (none_more (Shelf.disk_faults old name) (faults_in faults (place_at slots name)) (fresh name)) (fell name)
+      subst (λ n. n ≤ Shelf.disk_faults new name + faults_in faults (place_at slots' name)) (counts_before name) (fell name)
+
+-- ---- what was lent is back
+
+-- the names of the references through which a shelf with mirrors reaches what was lent to it
+abbrev first_name : List ℕ → ℕ
+first_name [] = 0
+first_name (one ∷ names) = one
+
+abbrev second_name : List ℕ → ℕ
+second_name [] = 0
+second_name (one ∷ []) = 0
+second_name (one ∷ other ∷ names) = other
+
+-- they stay the same, so what was lent is what it has in the end
+pub shelf_back : {X : Type 0} (x now : X) (old new : List ℕ) → new ≡ old → (first_name old ≡ first_name new → x ≡ now) → x ≡ now
+shelf_back x now old new lent rule = rule (sym (ap first_name lent))
+
+pub mirrors_back : {X : Type 0} (x now : X) (old new : List ℕ) → new ≡ old → (second_name old ≡ second_name new → x ≡ now) → x ≡ now
+mirrors_back x now old new lent rule = rule (sym (ap second_name lent))
+
+pub lent_one : {X : Type 0} (P : X → Type 0) (x now : X) → x ≡ now → P now → P x
+lent_one P x now is p = subst P (sym is) p
+
+pub lent_two : {X Y : Type 0} (P : X → Y → Type 0) (x now : X) (y left : Y) → x ≡ now → y ≡ left → P now left → P x y
+lent_two P x now y left is are p = subst (λ a. P a y) (sym is) (subst (λ b. P now b) (sym are) p)
 
 -- ---- the scene of a call with a standby
 
@@ -176,7 +219,7 @@ module _ {F D : Type 0} (Shelf : ShelfGhosts F D) (Disk : DiskGhosts D) (old mid
   -- a count that rose behind the files rose in the call
   pub some_rose_counted : SomeRose (Shelf.disk_faults mid) (copied_counts (Shelf.disk_faults new) failed)
       → SomeRose (Shelf.disk_faults old) (copied_counts (Shelf.disk_faults new) failed)
-  some_rose_counted (name, rose) = (name, subst (λ n. Rose n (copied_counts (Shelf.disk_faults new) failed name)) (counts name) rose)
+  some_rose_counted rose = (rose.0, subst (λ n. Rose n (copied_counts (Shelf.disk_faults new) failed rose.0)) (counts rose.0) rose.1)
 
   -- and none fell
   pub none_fell_counted : NoneFell (Shelf.disk_faults mid) (copied_counts (Shelf.disk_faults new) failed)
