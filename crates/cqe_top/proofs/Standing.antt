@@ -1,5 +1,5 @@
 -- Without a fault, a standby serves its primary to the end over journals that can be opened, or memory was wanting.
-use Rattle.std.proofs.Common.{◌≡◌, ◌≢◌, ◌⊎◌, inl, inr, ℕ, Bool, true, false, List, [], ◌∷◌, map, Option, None, Some, refl, sym, subst, ◌∙◌}
+use Rattle.std.proofs.Common.{◌≡◌, ◌≢◌, inl, inr, ℕ, true, false, List, [], ◌∷◌, map, Option, None, Some, refl, sym, subst}
 use Rattle.std.proofs.Common.{string_bytes}
 use Rattle.std.specs.Prelude.{Vec}
 use Rattle.std.specs.List.{AllByRecursion}

@@ -1,8 +1,8 @@
 -- How many records a journal has, and which has which number.
-use Rattle.std.proofs.Common.{◌≡◌, ℕ, zero, suc, ◌+◌, ◌<◌, ◌≤◌, ◌^◌, List, [], ◌∷◌, ◌++◌, length, take, drop, map, get_or, All, Some, refl, sym, ◌∙◌, ap, subst}
+use Rattle.std.proofs.Common.{◌≡◌, ℕ, zero, suc, ◌+◌, ◌<◌, ◌≤◌, ◌^◌, List, [], ◌∷◌, ◌++◌, length, take, map, get_or, All, Some, refl, sym, ◌∙◌, ap, subst}
 use Rattle.std.proofs.Common.{arith, length-append, length-take, length-drop}
 use Rattle.std.specs.List.{slice_get}
-use Rattle.log_journal.specs.Records.{Recorded, record_bytes, written, Adds}
+use Rattle.log_journal.specs.Records.{Recorded, written, Adds}
 use Rattle.log_journal.specs.Walk.{records, IsNumbered}
 use Rattle.log_journal.specs.Bytes.{EndsAt}
 use Rattle.log_journal.specs.Opening.{recorded, IsRecord}

@@ -1,9 +1,9 @@
 -- What came of reading a frame piece by piece.
-use Rattle.std.proofs.Common.{◌≡◌, ◌≢◌, ℕ, ◌+◌, ◌≤◌, ◌<◌, List, [], ◌∷◌, ◌++◌, length, take, drop, refl, sym, ap, subst, ◌∙◌, arith, append_assoc, append-nil}
+use Rattle.std.proofs.Common.{◌≡◌, ◌≢◌, ℕ, ◌+◌, ◌≤◌, List, [], ◌∷◌, ◌++◌, length, take, drop, refl, sym, ap, subst, ◌∙◌, arith, append_assoc, append-nil}
 use Rattle.std.proofs.Common.{length-append, length-take, take-append-drop}
 use Rattle.std.proofs.lemmas.List.{take-append-le, drop-append-le, take_all}
 use Rattle.log_journal.specs.declared.header.Header.{Header}
-use Rattle.standby_core.specs.Frames.{Carried, IsCarried, frame_bytes, agree, IsOther, IsBad, IsWithin, Shows, Reads, end_behind}
+use Rattle.standby_core.specs.Frames.{frame_bytes, agree, IsOther, IsBad, IsWithin, Shows, Reads, end_behind}
 use Rattle.standby_core.specs.declared.frame.FrameOutcome.TheVariants.{Whole, InputEnd, BadFrame, ReadFault}
 use Rattle.standby_core.specs.declared.frame.Judged.TheVariants.{Short, Bad}
 use Rattle.standby_core.proofs.Agreeing.{agree-longer}

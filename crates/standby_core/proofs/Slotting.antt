@@ -1,19 +1,18 @@
 -- What stands under the names of mirrors, where one is taken or put back.
-use Rattle.std.proofs.Common.{◌≡◌, ℕ, ◌+◌, ◌≤◌, ◌^◌, ◌⊎◌, inl, inr, Bool, true, false, Option, Some, None, List, [], ◌∷◌, ◌++◌, length, get_or, refl, sym}
+use Rattle.std.proofs.Common.{◌≡◌, ℕ, ◌+◌, ◌≤◌, ◌⊎◌, inl, inr, Bool, true, false, Option, Some, None, List, [], ◌∷◌, ◌++◌, length, get_or, refl, sym}
 use Rattle.std.proofs.Common.{ap, subst, ◌∙◌, arith, option_map}
 use Rattle.std.specs.Prelude.{bytes_eq, position, slice_set, is_some, IfNone, if◌then◌else◌}
 use Rattle.std.specs.List.{AllByRecursion}
 use Rattle.std.specs.Cmp.Lexicographic.{same_text}
 use Rattle.std.proofs.lemmas.Option.{none-some, same_Some}
-use Rattle.outside.specs.Disk.{Only}
 use Rattle.outside.specs.Faults.{RisesBy}
-use Rattle.outside.specs.Shelf.{IsTaken, SameNames, SameOthers}
+use Rattle.outside.specs.Shelf.{IsTaken, SameOthers}
 use Rattle.standby_core.specs.declared.mirror.Mirror.{Mirror}
 use Rattle.standby_core.specs.declared.mirrors.Place.{Place}
 use Rattle.standby_core.specs.declared.mirrors.Place.TheVariants.{New, Out, Back}
 use Rattle.standby_core.specs.declared.mirrors.Slot.{Slot}
 use Rattle.standby_core.specs.Mirrors.{dial_of}
-use Rattle.standby_core.specs.MirroredDisks.{inner_of, mirrored, faults_by}
+use Rattle.standby_core.specs.MirroredDisks.{inner_of, mirrored}
 use Rattle.standby_core.specs.Named.{first_named}
 use Rattle.standby_core.specs.Slots.{slot_name, place_at, mirror_in, new_in, place_with, faults_in, mirrored_at, RisesAtLeast, HavePlaces}
 use Rattle.standby_core.proofs.Naming.{IsAt, found, not_found, still_named}

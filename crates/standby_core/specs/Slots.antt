@@ -7,7 +7,6 @@ use Rattle.standby_core.specs.declared.mirrors.Mirrors.{Mirrors}
 use Rattle.standby_core.specs.declared.mirrors.Place.{Place}
 use Rattle.standby_core.specs.declared.mirrors.Place.TheVariants.{New, Out, Back}
 use Rattle.standby_core.specs.declared.mirrors.Slot.{Slot}
-use Rattle.standby_core.specs.Mirrors.{dial_of}
 use Rattle.standby_core.specs.MirroredDisks.{mirrored, faults_by}
 use Rattle.standby_core.specs.Named.{first_named}
 

@@ -6,7 +6,7 @@ use Rattle.std.specs.Cmp.Lexicographic.{same_text}
 use Rattle.std.proofs.lemmas.List.{take_more, take-append-drop, map-append}
 use Rattle.outside.specs.Shelf.{IsTaken, SameNames, SameOthers, SameBeside, AllOut, AllIn, AreOut, NoneOut, NoneFell, NoNewSince, is_among, bytes_on, image_on}
 use Rattle.outside.specs.declared.disk.Disk.{Ghosts as DiskGhosts}
-use Rattle.outside.proofs.Taken.{taken_reads, taken_images, taken_rests, same_rests}
+use Rattle.outside.proofs.Taken.{taken_reads, taken_images, taken_rests}
 use Rattle.cqe_base.specs.Schema.{Text, has_duplicate}
 use Rattle.cqe_base.specs.declared.user.User.{User}
 use Rattle.cqe_base.proofs.Truths.{or_first, or_second}
@@ -14,7 +14,7 @@ use Rattle.log_journal.specs.Names.{journal_name, JournalsDiffer}
 use Rattle.desk_crew.specs.Registered.{registered_journals}
 use Rattle.desk_crew.proofs.Giving.{AreReturned, Same, AreUnopened}
 use Rattle.desk_crew.proofs.Placing.{zip_push}
-use Rattle.desk_crew.proofs.Shelving.{among-append, among_none_first, among_none_second, by_among, none_out, none_fell, at_names}
+use Rattle.desk_crew.proofs.Shelving.{among-append, among_none_first, among_none_second, by_among, none_out, at_names}
 use Rattle.desk_crew.proofs.Taking.{names, names-append, names_split, next_apart, first_distinct, journal_among, journals_distinct}
 use Rattle.standby_engine.specs.Opened.{place_journal, place_disk, given_journal, AllStay, IsGiven, AreGiven, IsPlaceUnder, ArePlacesOf}
 use Rattle.standby_engine.specs.declared.opening.Given.{Given as Back}

@@ -1,11 +1,11 @@
 -- Connections that are served one after the other.
-use Rattle.std.proofs.Common.{◌≡◌, ℕ, ◌+◌, List, [], ◌∷◌, ◌++◌, length, sym, ap, subst, ◌∙◌, arith, append_assoc, append-nil, length-append}
+use Rattle.std.proofs.Common.{◌≡◌, ℕ, ◌+◌, List, [], ◌∷◌, ◌++◌, sym, ap, subst, ◌∙◌, arith, append_assoc, append-nil, length-append}
 use Rattle.outside.specs.Visits.{Visit}
 use Rattle.log_journal.specs.declared.header.Header.{Header}
 use Rattle.standby_core.specs.Books.{Copy}
 use Rattle.standby_core.specs.Exchanges.{IsAnswered}
 use Rattle.standby_core.specs.declared.serve.StandbyEnd.{StandbyEnd}
-use Rattle.standby_engine.specs.Served.{IsServedVisit, AreServed, nobody, further, IsDoorServed}
+use Rattle.standby_engine.specs.Served.{IsServedVisit, nobody, further, IsDoorServed}
 
 module _ {O : Type 0} (given : O → ℕ) (back : O → List Visit) (header : Header) where
   pub none_served : (copies : List Copy) (door : O) → IsDoorServed given back header copies copies door door

@@ -6,9 +6,8 @@ use Rattle.outside.specs.declared.disk.Disk.{Ghosts as DiskGhosts}
 use Rattle.cqe_base.specs.declared.user.User.{User}
 use Rattle.log_journal.specs.Journal.{disk_of, is_broken, count_of}
 use Rattle.log_journal.specs.Names.{journal_name}
-use Rattle.log_journal.specs.Opening.{IsOnlyRead, IsRefused, recorded}
+use Rattle.log_journal.specs.Opening.{IsOnlyRead, IsRefused}
 use Rattle.log_journal.specs.Records.{Recorded, IsJournal}
-use Rattle.log_journal.specs.declared.header.OpenError.{OpenError}
 use Rattle.log_journal.specs.declared.header.OpenError.TheVariants.{Memory}
 use Rattle.user_desk.specs.declared.standing.DeskError.{DeskError}
 use Rattle.user_desk.specs.declared.standing.DeskError.TheVariants.{Journal}

@@ -1,4 +1,4 @@
-use Rattle.std.proofs.Common.{◌≡◌, length, sym, ap, ◌∙◌, arith, rules}
+use Rattle.std.proofs.Common.{◌≡◌, length, sym, ap, arith, rules}
 use Rattle.standby_core.proofs.Frames.{ends_empty, ends_inside}
 use Rattle.standby_core.proofs.frame.end_behind.Goals as goal
 

@@ -1,6 +1,6 @@
-use Rattle.std.proofs.Common.{◌≡◌, ℕ, List, length, drop, sym, ◌∙◌, subst, arith, rules}
+use Rattle.std.proofs.Common.{◌≡◌, ℕ, List, length, sym, ◌∙◌, subst, arith, rules}
 use Rattle.std.proofs.lemmas.List.{take_rest}
-use Rattle.standby_core.specs.Frames.{Shows, ShowsTail, GoesOn, tail_bytes}
+use Rattle.standby_core.specs.Frames.{ShowsTail, GoesOn, tail_bytes}
 use Rattle.standby_core.proofs.Framing.{unmarked, of_other, short_of_head, tail_within, tail_shows}
 use Rattle.standby_core.proofs.frame.judge.Goals as goal
 

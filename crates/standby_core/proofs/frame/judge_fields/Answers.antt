@@ -1,5 +1,5 @@
 use Rattle.std.proofs.Common.{◌≡◌, ◌≤◌, ◌++◌, inl, inr, ℕ, List, length, take, drop, ap, subst, ◌∙◌, arith, rules, length-take, length-drop, take-append-drop}
-use Rattle.standby_core.specs.Frames.{ShowsTail, GoesOn, tail_bytes}
+use Rattle.standby_core.specs.Frames.{ShowsTail, GoesOn}
 use Rattle.standby_core.proofs.Framing.{badly_named, short_of_fields}
 use Rattle.standby_core.proofs.frame.judge_fields.Goals as goal
 

@@ -1,6 +1,6 @@
 use Rattle.std.proofs.Common.{◌≡◌, ◌<◌, ◌^◌, ◌++◌, inl, inr, ℕ, List, length, drop, get_or, sym, ap, subst, ◌∙◌, arith, rules, refl}
 use Rattle.std.proofs.lemmas.List.{take_rest}
-use Rattle.std.specs.Int.{w16, w64, to_be_bytes, from_be_bytes}
+use Rattle.std.specs.Int.{w16, to_be_bytes, from_be_bytes}
 use Rattle.standby_core.specs.Frames.{IsCarried, tail_bytes}
 use Rattle.standby_core.proofs.Framing.{bad_name, bad_kind, bad_size, bad_text, short_of_text, whole_tail}
 use Rattle.standby_core.proofs.frame.judge_record.Goals as goal

@@ -1,4 +1,4 @@
-use Rattle.std.proofs.Common.{refl, ap, ◌∙◌, arith}
+use Rattle.std.proofs.Common.{ap, ◌∙◌, arith}
 use Rattle.log_journal.specs.Names.{journal_name}
 use Rattle.standby_core.proofs.Keeping.{keeps_all}
 use Rattle.standby_core.proofs.mirrors.slot_for.Goals as goal

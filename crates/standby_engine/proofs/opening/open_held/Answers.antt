@@ -1,4 +1,4 @@
-use Rattle.std.proofs.Common.{◌≡◌, [], List, map, arith}
+use Rattle.std.proofs.Common.{[], List, map, arith}
 use Rattle.log_journal.specs.Opening.{header_bytes, recorded}
 use Rattle.log_journal.specs.Records.{Recorded}
 use Rattle.standby_engine.proofs.Opening.{lasts_first}

@@ -1,4 +1,4 @@
-use Rattle.std.proofs.Common.{List, ◌≡◌, ◌∷◌, ◌++◌, ◌||◌, [], length, map, refl, sym, ap, ◌∙◌, arith, rules, append-nil, length-append}
+use Rattle.std.proofs.Common.{List, ◌∷◌, ◌++◌, ◌||◌, [], length, map, refl, sym, ap, ◌∙◌, arith, rules, append-nil, length-append}
 use Rattle.std.specs.Prelude.{string_bytes}
 use Rattle.std.proofs.Math.Bool.{or-false}
 use Rattle.std.proofs.lemmas.List.{length-map}

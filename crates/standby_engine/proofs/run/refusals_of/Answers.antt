@@ -1,4 +1,4 @@
-use Rattle.std.proofs.Common.{◌++◌, ◌∷◌, [], map, take, sym, ap, ◌∙◌, arith}
+use Rattle.std.proofs.Common.{◌++◌, ◌∷◌, [], sym, ◌∙◌, arith}
 use Rattle.desk_crew.proofs.Taken.{map_more}
 use Rattle.standby_engine.specs.Opened.{place_refusal}
 use Rattle.standby_engine.proofs.run.refusals_of.Goals as goal

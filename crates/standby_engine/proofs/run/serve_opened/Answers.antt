@@ -1,5 +1,4 @@
-use Rattle.std.proofs.Common.{◌≡◌, ◌+◌, ◌++◌, length, map, inl, inr, refl, sym, ap, subst, ◌∙◌, arith, All, length-append}
-use Rattle.std.specs.List.{AllByRecursion}
+use Rattle.std.proofs.Common.{◌≡◌, ◌+◌, ◌++◌, length, map, inl, inr, refl, sym, ap, subst, ◌∙◌, arith, All}
 use Rattle.std.specs.Prelude.{string_bytes}
 use Rattle.std.proofs.lemmas.List.{length-map}
 use Rattle.std.proofs.lemmas.List.Elements.{All-from_recursion}
@@ -10,9 +9,9 @@ use Rattle.desk_crew.specs.Shelved.{journals_by}
 use Rattle.desk_crew.proofs.Lasting.{keeps_same, keeps_all}
 use Rattle.desk_crew.proofs.Giving.{AllReturned}
 use Rattle.standby_core.specs.Books.{held_name}
-use Rattle.standby_core.specs.Lasting.{AllLast, AllCounted, has_broken}
+use Rattle.standby_core.specs.Lasting.{AllLast, AllCounted}
 use Rattle.standby_core.specs.declared.book.Held.{Held}
-use Rattle.standby_engine.specs.Opened.{place_refusal, given_journal, journals_in, names_in, others_in}
+use Rattle.standby_engine.specs.Opened.{place_refusal, given_journal, journals_in}
 use Rattle.standby_engine.specs.Standing.{LeavesCopies, AreCopied, IsServed, IsSilent, IsBroken}
 use Rattle.standby_engine.specs.declared.opening.Given.{Given as Back}
 use Rattle.standby_engine.proofs.Parting.{each_parted, names_many}
