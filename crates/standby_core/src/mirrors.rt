@@ -1,11 +1,11 @@
 //! The mirrors of the users' journals, by the names of their disks.
-ghost use Rattle.std.specs.Prelude.{◌≡◌, ◌≤◌, ◌<◌, ◌+◌, ℕ, List, [], Some, None, position, length};
+ghost use Rattle.std.specs.Prelude.{◌≡◌, ◌≤◌, ◌<◌, ℕ, List, [], Some, position, length};
 ghost use Rattle.std.specs.Prelude.{bytes_eq, string_bytes, IsSome, IfSome, IfNone, IfOk, OnOk};
 ghost use Rattle.outside.specs.Shelf.{SameOthers};
 ghost use Rattle.log_journal.specs.Names.{journal_name};
-ghost use Rattle.standby_core.specs.Mirrors.{dial_of, user_of};
+ghost use Rattle.standby_core.specs.Mirrors.{dial_of};
 ghost use Rattle.standby_core.specs.MirroredDisks.{faults_by};
-ghost use Rattle.standby_core.specs.Slots.{slots_of, slot_name, place_at, mirror_in, new_in};
+ghost use Rattle.standby_core.specs.Slots.{slots_of, slot_name, place_at, new_in};
 ghost use Rattle.standby_core.specs.Slots.{place_with, faults_in, dial_faults, RisesAtLeast};
 ghost use Rattle.standby_core.specs.Doors.{KeepsDoors};
 

@@ -1,5 +1,5 @@
 //! A shelf whose disks a standby copies.
-ghost use Rattle.std.specs.Prelude.{◌≡◌, ◌++◌, ◌∷◌, [], ◌+◌, List, ℕ};
+ghost use Rattle.std.specs.Prelude.{◌≡◌, ◌∷◌, [], ◌+◌};
 ghost use Rattle.outside.specs.Shelf.{NoneOut};
 ghost use Rattle.standby_core.specs.Slots.{slots_of, place_at, mirrored_at, faults_in, HavePlaces};
 

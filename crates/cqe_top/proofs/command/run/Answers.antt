@@ -1,5 +1,6 @@
 use Rattle.std.proofs.Common.{sym, ap, ◌∙◌, map, string_bytes}
 use Rattle.std.specs.Prelude.{Some, option_map}
+use Rattle.cqe_base.specs.Schema.{Text}
 use Rattle.command_words.specs.Readings.{FileNames, reading_in, names_of_files, runs_selfrun}
 use Rattle.cqe_top.specs.Steps.{reading_over, reading_copied, KeepsBounds, KeepsCopiedBounds}
 use Rattle.cqe_top.specs.declared.over_files.Task.{Task}
