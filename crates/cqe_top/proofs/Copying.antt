@@ -10,9 +10,10 @@ use Rattle.cqe_base.specs.Schema.{Text}
 use Rattle.desk_crew.specs.Shelved.{journals_by}
 use Rattle.log_journal.specs.Names.{journal_name}
 use Rattle.standby_core.specs.MirroredDisks.{inner_of}
-use Rattle.standby_core.specs.Slots.{place_at, mirrored_at, faults_in}
-use Rattle.standby_core.specs.declared.mirrors.Place.{Place}
-use Rattle.standby_core.specs.declared.mirrors.Slot.{Slot}
+use Rattle.standby_core.specs.Places.{faults_in}
+use Rattle.standby_core.specs.Slots.{place_at, mirrored_at}
+use Rattle.standby_core.specs.declared.slot.Place.{Place}
+use Rattle.standby_core.specs.declared.slot.Slot.{Slot}
 use Rattle.standby_core.specs.Doors as doors
 use Rattle.command_words.specs.Readings.{FileNames}
 use Rattle.cqe_base.specs.declared.user.User.{User}

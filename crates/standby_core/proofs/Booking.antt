@@ -6,7 +6,7 @@ use Rattle.std.proofs.lemmas.Bool.{eq-eqb, eqb-true}
 use Rattle.std.proofs.lemmas.Option.{same_Some}
 use Rattle.log_journal.specs.Journal.{is_broken}
 use Rattle.log_journal.specs.Records.{Recorded, IsJournal, Adds, KeepsOrAdds}
-use Rattle.standby_core.specs.Books.{Copy, copy_in, copy_at, copy_after, copies_after, held_name, HasCount, HasFailed}
+use Rattle.standby_core.specs.Copies.{Copy, copy_in, copy_at, copy_after, copies_after, held_name, HasCount, HasFailed}
 use Rattle.standby_core.specs.Frames.{Carried}
 use Rattle.standby_core.specs.Lasting.{HasBeginning, Lasts, AllLast, IsCounted, AllCounted, has_broken}
 use Rattle.standby_core.specs.Named.{first_named}

@@ -1,7 +1,7 @@
 -- A connection that is served, frame by frame.
 use Rattle.std.proofs.Common.{◌≡◌, ℕ, ◌+◌, List, [], ◌∷◌, ◌++◌, length, take, Err, Ok, refl, sym, ap, subst, ◌∙◌, arith, append_assoc, length-append}
 use Rattle.log_journal.specs.declared.header.Header.{Header}
-use Rattle.standby_core.specs.Books.{Copy, HasCount}
+use Rattle.standby_core.specs.Copies.{Copy, HasCount}
 use Rattle.standby_core.specs.Exchanges.{Takes, more, Serves, HasEnded, IsAnswered, AreLeft, IsTaking, Took}
 use Rattle.standby_core.specs.Frames.{answer_bytes}
 use Rattle.standby_core.specs.declared.serve.StandbyEnd.{StandbyEnd}

@@ -8,13 +8,14 @@ use Rattle.std.proofs.lemmas.Option.{none-some, same_Some}
 use Rattle.outside.specs.Faults.{RisesBy}
 use Rattle.outside.specs.Shelf.{IsTaken, SameOthers}
 use Rattle.standby_core.specs.declared.mirror.Mirror.{Mirror}
-use Rattle.standby_core.specs.declared.mirrors.Place.{Place}
-use Rattle.standby_core.specs.declared.mirrors.Place.TheVariants.{New, Out, Back}
-use Rattle.standby_core.specs.declared.mirrors.Slot.{Slot}
+use Rattle.standby_core.specs.declared.slot.Place.{Place}
+use Rattle.standby_core.specs.declared.slot.Place.TheVariants.{New, Out, Back}
+use Rattle.standby_core.specs.declared.slot.Slot.{Slot}
 use Rattle.standby_core.specs.Mirrors.{dial_of}
 use Rattle.standby_core.specs.MirroredDisks.{inner_of, mirrored}
 use Rattle.standby_core.specs.Named.{first_named}
-use Rattle.standby_core.specs.Slots.{slot_name, place_at, mirror_in, new_in, place_with, faults_in, mirrored_at, RisesAtLeast, HavePlaces}
+use Rattle.standby_core.specs.Places.{mirror_in, new_in, place_with, faults_in}
+use Rattle.standby_core.specs.Slots.{slot_name, place_at, mirrored_at, RisesAtLeast, HavePlaces}
 use Rattle.standby_core.proofs.Naming.{IsAt, found, not_found, still_named}
 
 -- what holds of a name and of all others holds of all

@@ -3,7 +3,7 @@ use Rattle.std.specs.Prelude.{◌≡◌, ℕ, ◌≤◌, List, [], ◌++◌, len
 use Rattle.log_journal.specs.declared.header.Header.{Header}
 use Rattle.standby_core.specs.Frames.{Carried, IsCarried, IsFrame, frame_bytes, answer_bytes}
 use Rattle.standby_core.specs.Frames.{IsBad, IsOther}
-use Rattle.standby_core.specs.Books.{Copy, copies_after, HasCount}
+use Rattle.standby_core.specs.Copies.{Copy, copies_after, HasCount}
 use Rattle.standby_core.specs.declared.serve.StandbyEnd.{StandbyEnd}
 use Rattle.standby_core.specs.declared.serve.StandbyEnd.TheVariants.{InputEnd, BadFrame}
 use Rattle.standby_core.specs.declared.serve.StandbyEnd.TheVariants.{OtherHeader, Take, ReadFault}

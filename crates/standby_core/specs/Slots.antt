@@ -1,14 +1,13 @@
 -- The mirrors of journals by the names of their disks, and the disks of a shelf with them.
-use Rattle.std.specs.Prelude.{◌≡◌, ◌⊎◌, ℕ, ◌+◌, ◌^◌, ◌≤◌, List, Option, Some, None, option_map}
+use Rattle.std.specs.Prelude.{◌≡◌, ◌⊎◌, ℕ, ◌+◌, ◌^◌, ◌≤◌, List, Option, option_map}
 use Rattle.std.specs.Prelude.{string_bytes, Bool, true, is_some}
-use Rattle.standby_core.specs.declared.mirror.Mirror.{Mirror}
 use Rattle.standby_core.specs.declared.mirrored_disk.MirroredDisk.{MirroredDisk}
 use Rattle.standby_core.specs.declared.mirrors.Mirrors.{Mirrors}
-use Rattle.standby_core.specs.declared.mirrors.Place.{Place}
-use Rattle.standby_core.specs.declared.mirrors.Place.TheVariants.{New, Out, Back}
-use Rattle.standby_core.specs.declared.mirrors.Slot.{Slot}
-use Rattle.standby_core.specs.MirroredDisks.{mirrored, faults_by}
+use Rattle.standby_core.specs.declared.slot.Place.{Place}
+use Rattle.standby_core.specs.declared.slot.Slot.{Slot}
+use Rattle.standby_core.specs.MirroredDisks.{mirrored}
 use Rattle.standby_core.specs.Named.{first_named}
+use Rattle.standby_core.specs.Places.{mirror_in, faults_in}
 
 -- the places of mirrors, each under its name
 abbrev pub slots_of : {C : Type 0} {g : _} → Mirrors C g → List (Slot C g)
@@ -21,26 +20,6 @@ slot_name slot = string_bytes slot.journal
 -- what stands under a name
 abbrev pub place_at : {C : Type 0} {g : _} → List (Slot C g) → List ℕ → Option (Place C g)
 place_at slots name = option_map (λ slot. slot.place) (first_named slot_name slots name)
-
--- the mirror that is there
-abbrev pub mirror_in : {C : Type 0} {g : _} → Option (Place C g) → Option (Mirror C g)
-mirror_in (Some (New mirror)) = Some mirror
-mirror_in (Some (Back mirror)) = Some mirror
-mirror_in _ = None
-
--- the mirror that is there and wasn't taken yet
-abbrev pub new_in : {C : Type 0} {g : _} → Option (Place C g) → Option (Mirror C g)
-new_in (Some (New mirror)) = Some mirror
-new_in _ = None
-
--- the place where a mirror is back, or where none is
-abbrev pub place_with : {C : Type 0} {g : _} → Option (Mirror C g) → Place C g
-place_with (Some mirror) = Back mirror
-place_with None = Out
-
--- the faults of its dial; a mirror that was taken and isn't back had none
-abbrev pub faults_in : {C : Type 0} {g : _} → (C → ℕ) → Option (Place C g) → ℕ
-faults_in faults place = faults_by faults (mirror_in place)
 
 -- the faults of the dial of a name
 abbrev pub dial_faults : {C : Type 0} {g : _} → (C → ℕ) → Mirrors C g → List ℕ → ℕ

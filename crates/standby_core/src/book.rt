@@ -5,7 +5,7 @@ ghost use Rattle.std.specs.Prelude.{None, position};
 ghost use Rattle.outside.specs.Faults.{Rose};
 ghost use Rattle.log_journal.specs.Journal.{disk_of, is_broken, count_of};
 ghost use Rattle.log_journal.specs.Records.{Recorded};
-ghost use Rattle.standby_core.specs.Books.{copy_in, copy_after, held_name};
+ghost use Rattle.standby_core.specs.Copies.{copy_in, copy_after, held_name};
 ghost use Rattle.standby_core.specs.Lasting.{Lasts, IsCounted};
 
 use log_journal::{AppendError, Journal};
@@ -39,8 +39,8 @@ pub struct StandbyBook<D: Disk> {
 }
 
 impl<D: Disk> StandbyBook<D> {
-    ghost use Rattle.standby_core.specs.Books.{copies_in, copy_at, copies_after, HasCount};
-    ghost use Rattle.standby_core.specs.Books.{HasFailed, book_faults};
+    ghost use Rattle.standby_core.specs.Books.{copies_in, book_faults};
+    ghost use Rattle.standby_core.specs.Copies.{copy_at, copies_after, HasCount, HasFailed};
     ghost use Rattle.standby_core.specs.Lasting.{AllLast, AllCounted, has_broken};
 
     /// The journals of users whose names differ. It takes no memory.

@@ -8,8 +8,8 @@
 //! user, and each answer is the count of the records that the standby has then. What that is worth
 //! whatever becomes of the frames on their way stands in `replica`.
 //!
-//! Read `specs/Frames.antt` and `specs/Books.antt` first, then `frame`, `mirror`, `mirrored_disk`,
-//! `mirrors`, `shelf`, `book` and `serve`.
+//! Read `specs/Frames.antt` and `specs/Copies.antt` first, then `frame`, `mirror`, `mirrored_disk`,
+//! `slot`, `mirrors`, `shelf`, `book` and `serve`.
 #![tactic(auto)]
 
 mod book;
@@ -19,6 +19,7 @@ mod mirrored_disk;
 mod mirrors;
 mod serve;
 mod shelf;
+mod slot;
 
 pub use book::{Held, StandbyBook, TakeError};
 pub use frame::{Frame, FrameOutcome, FrameRoom, Judged, judge, read_frame};

@@ -2,7 +2,8 @@
 ghost use Rattle.std.specs.Prelude.{◌≡◌, ◌⊎◌, ◌≤◌, List, ℕ, map, IsTrue, Err, IfErr};
 ghost use Rattle.outside.specs.Faults.{Rose};
 ghost use Rattle.log_journal.specs.Records.{Recorded};
-ghost use Rattle.standby_core.specs.Books.{copies_in, held_name};
+ghost use Rattle.standby_core.specs.Books.{copies_in};
+ghost use Rattle.standby_core.specs.Copies.{held_name};
 ghost use Rattle.standby_core.specs.Exchanges.{Serves, IsAnswered, Took, IsTaking};
 ghost use Rattle.standby_core.specs.Frames.{Carried, IsFrame};
 ghost use Rattle.standby_core.specs.Lasting.{AllLast, AllCounted, has_broken};

@@ -1,7 +1,8 @@
 //! A shelf whose disks a standby copies.
 ghost use Rattle.std.specs.Prelude.{◌≡◌, ◌∷◌, [], ◌+◌};
 ghost use Rattle.outside.specs.Shelf.{NoneOut};
-ghost use Rattle.standby_core.specs.Slots.{slots_of, place_at, mirrored_at, faults_in, HavePlaces};
+ghost use Rattle.standby_core.specs.Places.{faults_in};
+ghost use Rattle.standby_core.specs.Slots.{slots_of, place_at, mirrored_at, HavePlaces};
 
 use crate::{MirroredDisk, Mirrors};
 use outside::{Dial, Shelf, ShelfError};

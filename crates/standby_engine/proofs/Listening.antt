@@ -6,7 +6,7 @@ use Rattle.std.proofs.lemmas.List.Elements.{All-head}
 use Rattle.outside.specs.Faults.{Rose}
 use Rattle.outside.specs.Visits.{Visit}
 use Rattle.log_journal.specs.declared.header.Header.{Header}
-use Rattle.standby_core.specs.Books.{Copy}
+use Rattle.standby_core.specs.Copies.{Copy}
 use Rattle.standby_engine.specs.Served.{IsDoorServed, nobody}
 use Rattle.standby_engine.specs.Standing.{ServesCopies, IsSilent}
 use Rattle.standby_engine.specs.declared.run.CopyEnd.{CopyEnd}

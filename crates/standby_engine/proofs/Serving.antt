@@ -2,7 +2,7 @@
 use Rattle.std.proofs.Common.{◌≡◌, ℕ, ◌+◌, List, [], ◌∷◌, ◌++◌, sym, ap, subst, ◌∙◌, arith, append_assoc, append-nil, length-append}
 use Rattle.outside.specs.Visits.{Visit}
 use Rattle.log_journal.specs.declared.header.Header.{Header}
-use Rattle.standby_core.specs.Books.{Copy}
+use Rattle.standby_core.specs.Copies.{Copy}
 use Rattle.standby_core.specs.Exchanges.{IsAnswered}
 use Rattle.standby_core.specs.declared.serve.StandbyEnd.{StandbyEnd}
 use Rattle.standby_engine.specs.Served.{IsServedVisit, nobody, further, IsDoorServed}

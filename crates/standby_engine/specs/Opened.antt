@@ -11,7 +11,7 @@ use Rattle.log_journal.specs.Records.{Recorded, IsJournal}
 use Rattle.log_journal.specs.declared.header.OpenError.TheVariants.{Memory}
 use Rattle.user_desk.specs.declared.standing.DeskError.{DeskError}
 use Rattle.user_desk.specs.declared.standing.DeskError.TheVariants.{Journal}
-use Rattle.standby_core.specs.Books.{held_name}
+use Rattle.standby_core.specs.Copies.{held_name}
 use Rattle.standby_core.specs.Lasting.{Lasts}
 use Rattle.standby_core.specs.declared.book.Held.{Held}
 use Rattle.standby_engine.specs.declared.opening.Given.{Given}

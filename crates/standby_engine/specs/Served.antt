@@ -2,7 +2,7 @@
 use Rattle.std.specs.Prelude.{◌≡◌, ℕ, ◌+◌, List, [], ◌∷◌, ◌++◌, length}
 use Rattle.outside.specs.Visits.{Visit}
 use Rattle.log_journal.specs.declared.header.Header.{Header}
-use Rattle.standby_core.specs.Books.{Copy}
+use Rattle.standby_core.specs.Copies.{Copy}
 use Rattle.standby_core.specs.Exchanges.{Serves, IsAnswered}
 use Rattle.standby_core.specs.declared.serve.StandbyEnd.{StandbyEnd}
 

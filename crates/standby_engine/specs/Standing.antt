@@ -12,7 +12,7 @@ use Rattle.log_journal.specs.declared.header.Header.{Header}
 use Rattle.log_journal.specs.declared.header.OpenError.TheVariants.{Memory as Wanting}
 use Rattle.user_desk.specs.declared.standing.DeskError.{DeskError}
 use Rattle.user_desk.specs.declared.standing.DeskError.TheVariants.{Journal}
-use Rattle.standby_core.specs.Books.{Copy}
+use Rattle.standby_core.specs.Copies.{Copy}
 use Rattle.standby_core.specs.Lasting.{HasBeginning}
 use Rattle.standby_engine.specs.Served.{AreServed}
 use Rattle.standby_engine.specs.declared.run.CopyEnd.{CopyEnd}

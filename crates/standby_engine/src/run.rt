@@ -8,7 +8,7 @@ ghost use Rattle.log_journal.specs.Journal.{disk_of};
 ghost use Rattle.log_journal.specs.Opening.{header_bytes};
 ghost use Rattle.desk_crew.specs.Registered.{registered_journals, HaveOwnNames};
 ghost use Rattle.desk_crew.specs.Shelved.{journals_on};
-ghost use Rattle.standby_core.specs.Books.{Copy};
+ghost use Rattle.standby_core.specs.Copies.{Copy};
 ghost use Rattle.standby_core.specs.Lasting.{has_broken};
 ghost use Rattle.standby_engine.specs.Opened.{given_journal, journals_in, names_in, others_in};
 ghost use Rattle.standby_engine.specs.Opened.{place_refusal};

@@ -2,7 +2,8 @@
 ghost use Rattle.std.specs.Prelude.{◌≡◌, ◌≤◌, ◌+◌, ℕ, List, map};
 ghost use Rattle.outside.specs.Faults.{Rose};
 ghost use Rattle.log_journal.specs.Records.{Recorded};
-ghost use Rattle.standby_core.specs.Books.{copies_in, held_in, held_name};
+ghost use Rattle.standby_core.specs.Books.{copies_in, held_in};
+ghost use Rattle.standby_core.specs.Copies.{held_name};
 ghost use Rattle.standby_core.specs.Lasting.{AllLast, AllCounted};
 ghost use Rattle.standby_engine.specs.Served.{IsDoorServed};
 ghost use Rattle.standby_engine.specs.declared.serving.DoorEnd.{DoorEnd};

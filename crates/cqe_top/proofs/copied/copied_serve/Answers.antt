@@ -4,7 +4,8 @@ use Rattle.outside.specs.Shelf.{SameNames, SameBeside, NoneOut, NoneFell, SomeRo
 use Rattle.desk_crew.specs.Registered.{registered_journals}
 use Rattle.log_journal.specs.Opening.{header_bytes}
 use Rattle.serve_engine.specs.Serving as serving
-use Rattle.standby_core.specs.Slots.{slots_of, place_at, faults_in, dial_faults}
+use Rattle.standby_core.specs.Places.{faults_in}
+use Rattle.standby_core.specs.Slots.{slots_of, place_at, dial_faults}
 use Rattle.cqe_top.specs.Steps.{copied_counts, copied_journals}
 use Rattle.cqe_top.proofs.Copying.{same_copied, disks_under, counts_under, all_counts_under, some_rose_under, none_fell_under}
 use Rattle.cqe_top.proofs.Copying.{shelf_back, mirrors_back, lent_one, lent_two}

@@ -1,5 +1,6 @@
 use Rattle.std.proofs.Common.{Some, sym, subst, arith}
-use Rattle.standby_core.specs.Slots.{faults_in, RisesAtLeast}
+use Rattle.standby_core.specs.Places.{faults_in}
+use Rattle.standby_core.specs.Slots.{RisesAtLeast}
 use Rattle.standby_core.proofs.Keeping.{keeps_all}
 use Rattle.standby_core.proofs.Slotting.{risen_by, risen_none}
 use Rattle.standby_core.proofs.mirrors.hang_up.Goals as goal

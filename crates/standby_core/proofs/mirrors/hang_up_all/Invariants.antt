@@ -1,7 +1,8 @@
 use Rattle.std.proofs.Common.{◌≡◌, ◌≤◌, ◌⊎◌, List, ℕ}
 use Rattle.std.specs.Prelude.{vec_len}
 use Rattle.standby_core.specs.Doors.{KeepsDoors}
-use Rattle.standby_core.specs.Slots.{place_at, faults_in, RisesAtLeast}
+use Rattle.standby_core.specs.Places.{faults_in}
+use Rattle.standby_core.specs.Slots.{place_at, RisesAtLeast}
 use Rattle.standby_core.proofs.mirrors.hang_up_all.Given as goal
 
 -- what stood under a name still does, or its dial was hung up

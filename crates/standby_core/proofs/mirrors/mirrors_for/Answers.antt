@@ -1,6 +1,6 @@
 use Rattle.std.proofs.Common.{◌≡◌, Some, refl, sym, ap, subst, ◌∙◌, arith, length}
 use Rattle.std.specs.List.{AllByRecursion}
-use Rattle.standby_core.specs.Slots.{faults_in}
+use Rattle.standby_core.specs.Places.{faults_in}
 use Rattle.standby_core.proofs.Keeping.{keeps_all, keeps_then}
 use Rattle.standby_core.proofs.Slotting.{none_failed, all_more}
 use Rattle.standby_core.proofs.mirrors.mirrors_for.Goals as goal

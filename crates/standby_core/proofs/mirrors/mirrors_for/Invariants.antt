@@ -2,7 +2,7 @@ use Rattle.std.proofs.Common.{◌≡◌, ◌≤◌, Some, length}
 use Rattle.std.specs.Prelude.{vec_len, vec_capacity}
 use Rattle.std.specs.List.{AllByRecursion}
 use Rattle.standby_core.specs.Doors.{KeepsDoors}
-use Rattle.standby_core.specs.Slots.{faults_in}
+use Rattle.standby_core.specs.Places.{faults_in}
 use Rattle.standby_core.proofs.mirrors.mirrors_for.Given as goal
 
 -- the mirrors of the users so far, whose dials haven't failed

@@ -1,6 +1,7 @@
 use Rattle.std.proofs.Common.{◌≡◌, ◌≤◌, ℕ, List, map}
 use Rattle.log_journal.specs.Records.{Recorded}
-use Rattle.standby_core.specs.Books.{copies_in, held_name}
+use Rattle.standby_core.specs.Books.{copies_in}
+use Rattle.standby_core.specs.Copies.{held_name}
 use Rattle.standby_core.specs.Lasting.{AllLast, AllCounted}
 use Rattle.standby_core.proofs.Serving.{SoFar}
 use Rattle.standby_core.proofs.serve.serve_standby.Given as goal

@@ -8,7 +8,7 @@ use Rattle.desk_crew.specs.Registered.{registered_journals}
 use Rattle.desk_crew.specs.Shelved.{journals_by}
 use Rattle.desk_crew.proofs.Lasting.{keeps_same, keeps_all}
 use Rattle.desk_crew.proofs.Giving.{AllReturned}
-use Rattle.standby_core.specs.Books.{held_name}
+use Rattle.standby_core.specs.Copies.{held_name}
 use Rattle.standby_core.specs.Lasting.{AllLast, AllCounted}
 use Rattle.standby_core.specs.declared.book.Held.{Held}
 use Rattle.standby_engine.specs.Opened.{place_refusal, given_journal, journals_in}

@@ -3,7 +3,7 @@ use Rattle.outside.specs.Faults.{Rose}
 use Rattle.outside.proofs.Rises.{rose_since}
 use Rattle.log_journal.specs.Journal.{disk_of, is_broken, count_of}
 use Rattle.log_journal.specs.Walk.{records}
-use Rattle.standby_core.specs.Books.{held_name}
+use Rattle.standby_core.specs.Copies.{held_name}
 use Rattle.standby_core.specs.Lasting.{HasBeginning}
 use Rattle.standby_core.proofs.Booking.{copy_kept, copy_grown, begins_added, begins_either}
 use Rattle.standby_core.proofs.book.Held.take.Goals as goal

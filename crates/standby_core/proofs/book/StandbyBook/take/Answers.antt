@@ -5,7 +5,7 @@ use Rattle.std.proofs.lemmas.Result.{on_ok_weaker, IfOk-weaker}
 use Rattle.std.proofs.lemmas.List.Elements.{All-set}
 use Rattle.outside.specs.Faults.{Rose}
 use Rattle.log_journal.specs.Journal.{disk_of, count_of}
-use Rattle.standby_core.specs.Books.{copy_in, copy_at, copy_after, held_name, faults_held}
+use Rattle.standby_core.specs.Copies.{copy_in, copy_at, copy_after, held_name, faults_held}
 use Rattle.standby_core.specs.Named.{first_named}
 use Rattle.standby_core.proofs.Booking.{copy_of, copies_set, copies_same, lasts_set, names_set, counted_set, broken_set, count_there, failed_there}
 use Rattle.standby_core.proofs.Naming.{IsAt, Stands, found, not_found, still_named}

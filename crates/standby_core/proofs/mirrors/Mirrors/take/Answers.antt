@@ -1,7 +1,8 @@
 use Rattle.std.proofs.Common.{◌≡◌, ◌∙◌, Some, sym, ap, arith, length}
 use Rattle.std.specs.Prelude.{bytes_eq, position, slice_set}
 use Rattle.std.proofs.lemmas.Option.{IfSome_then}
-use Rattle.standby_core.specs.Slots.{slot_name, place_at, new_in}
+use Rattle.standby_core.specs.Places.{new_in}
+use Rattle.standby_core.specs.Slots.{slot_name, place_at}
 use Rattle.standby_core.proofs.Slotting.{for_all, if_none, slot_set, no_slot}
 use Rattle.standby_core.proofs.mirrors.Mirrors.take.Goals as goal
 

@@ -1,7 +1,8 @@
 use Rattle.std.proofs.Common.{◌+◌, Some, sym, ap, ◌∙◌}
 use Rattle.std.specs.Prelude.{is_some}
 use Rattle.standby_core.specs.MirroredDisks.{inner_of, mirror_of, faults_by}
-use Rattle.standby_core.specs.Slots.{mirrored_at, faults_in}
+use Rattle.standby_core.specs.Places.{faults_in}
+use Rattle.standby_core.specs.Slots.{mirrored_at}
 use Rattle.standby_core.proofs.Slotting.{kept_places, mirror_with, back_mirrored}
 use Rattle.standby_core.proofs.shelf.MirroredShelfShelf.give_disk.Goals as goal
 

@@ -2,7 +2,8 @@ use Rattle.std.proofs.Common.{◌≡◌, ◌+◌, Some, sym, ap, subst, ◌∙�
 use Rattle.std.specs.Prelude.{is_some}
 use Rattle.outside.specs.Shelf.{IsTaken}
 use Rattle.standby_core.specs.MirroredDisks.{inner_of, mirror_of, faults_by}
-use Rattle.standby_core.specs.Slots.{place_at, mirrored_at, faults_in, mirror_in}
+use Rattle.standby_core.specs.Places.{faults_in, mirror_in}
+use Rattle.standby_core.specs.Slots.{place_at, mirrored_at}
 use Rattle.standby_core.proofs.Slotting.{new_is, restored, taken_count, taken_mirrored, kept_places}
 use Rattle.standby_core.proofs.shelf.MirroredShelfShelf.take_disk.Goals as goal
 
