@@ -299,13 +299,5 @@ where
         (copied_counts (F.disk_faults shelf.new) (dial_faults C.faults mirrors.new)) }
 {
     let mut mirrored = MirroredShelf::new(shelf, mirrors);
-    run_serve(
-        rt,
-        alloc,
-        registry,
-        &mut mirrored,
-        links,
-        listening,
-        gate,
-    )
+    run_serve(rt, alloc, registry, &mut mirrored, links, listening, gate)
 }

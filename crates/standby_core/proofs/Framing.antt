@@ -74,8 +74,14 @@ module _ (header : Header) (policy_size : length header.policy ≡ 32) (facts_si
 
   head_size : (named : ℕ) → length (head_bytes named) ≡ 73
   head_size named =
-      omega (arith, length-append (frame_mark ++ header.policy ++ header.facts) (named ∷ []), length-append (frame_mark ++ header.policy) header.facts,
-      length-append frame_mark header.policy, policy_size, facts_size)
+      omega (
+        arith,
+        length-append (frame_mark ++ header.policy ++ header.facts) (named ∷ []),
+        length-append (frame_mark ++ header.policy) header.facts,
+        length-append frame_mark header.policy,
+        policy_size,
+        facts_size,
+      )
 
   head_split : (named : ℕ) (rest : List ℕ) → head_bytes named ++ rest ≡ frame_mark ++ (digests ++ (named ∷ rest))
   head_split named rest =
@@ -114,8 +120,13 @@ module _ (header : Header) (policy_size : length header.policy ≡ 32) (facts_si
       let number = to_be_bytes w64 one.number in
       let kind = one.kind ∷ [] in
       let size = to_be_bytes w16 (length one.text) in
-      omega (arith, length-append (one.name ++ number ++ kind ++ size) one.text, length-append (one.name ++ number ++ kind) size,
-      length-append (one.name ++ number) kind, length-append one.name number)
+      omega (
+        arith,
+        length-append (one.name ++ number ++ kind ++ size) one.text,
+        length-append (one.name ++ number ++ kind) size,
+        length-append (one.name ++ number) kind,
+        length-append one.name number,
+      )
 
   -- of what some bytes go on to as a frame, all agrees with the first bytes and the digests
   frame_marked : (bytes rest more : List ℕ) (one : Carried) → bytes ++ rest ≡ frame_bytes header one ++ more → agree (bytes ++ rest) frame_mark ≡ true
@@ -134,7 +145,7 @@ module _ (header : Header) (policy_size : length header.policy ≡ 32) (facts_si
     λ none. let some : 0 < length bytes = some_differ bytes frame_mark differs in omega (arith, some, ap length none),
     λ one rest more proper is. let clash : true ≡ false = sym (frame_marked bytes rest more one is) ∙ agree-longer bytes frame_mark rest differs in absurd cc,
     λ rest other.
-    let clash : true ≡ false = sym (begins_agree (bytes ++ rest) frame_mark other.marked) ∙ agree-longer bytes frame_mark rest differs in absurd cc,
+        let clash : true ≡ false = sym (begins_agree (bytes ++ rest) frame_mark other.marked) ∙ agree-longer bytes frame_mark rest differs in absurd cc,
   )
 
   pub of_other : (bytes : List ℕ) → agree bytes frame_mark ≡ true → agree (drop 8 bytes) digests ≡ false → IsOther header bytes
@@ -357,8 +368,16 @@ module _ (header : Header) (policy_size : length header.policy ≡ 32) (facts_si
       let named : length one.name ≡ length other.name = cc in
       let tails : tail_bytes one ++ rest ≡ tail_bytes other ++ more = cc in
       let sizes : length one.text ≡ length other.text = same_texts one other rest more frame.proper proper named tails in
-      omega (arith, ap length frame.is, frame_size header policy_size facts_size one, frame_size header policy_size facts_size other,
-      tail_size one, tail_size other, named, sizes)
+      omega (
+        arith,
+        ap length frame.is,
+        frame_size header policy_size facts_size one,
+        frame_size header policy_size facts_size other,
+        tail_size one,
+        tail_size other,
+        named,
+        sizes,
+      )
 
   pub never_short : (need : ℕ) → Shows header room (Short need) → ⊥
   never_short need shows =

@@ -273,7 +273,13 @@ fn size_in(bytes: &[u8]) -> u16
 fn agrees(first: &[u8], second: &[u8]) -> bool
     ensures { result ≡ agree first.now second.now }
 {
-    first.iter().zip(second).all(|(one, other)| one == other)
+    match first {
+        [] => true,
+        [one, first @ ..] => match second {
+            [] => true,
+            [other, second @ ..] => *one == *other && agrees(first, second),
+        },
+    }
 }
 
 /// What came of reading a frame.

@@ -77,9 +77,7 @@ fn slot_place<C: Dial>(slots: &[Slot<'_, C>], name: &str) -> Option<usize>
     ensures place { result ≡ position (λ slot. bytes_eq (slot_name slot) name.now) slots.now }
     ensures within { IfSome result (λ place. place < length slots.now) }
 {
-    slots
-        .iter()
-        .position(|slot| slot.journal.as_str() == name)
+    slots.iter().position(|slot| slot.journal.as_str() == name)
 }
 
 /// A mirror for the journal of each user in a directory, with a dial to the standby at an address.

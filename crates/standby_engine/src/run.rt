@@ -119,9 +119,7 @@ pub fn run_standby<R: Wait, F: Shelf, L: Links>(
     };
     let mut door = only_door(doors);
     let limit = copying.sessions;
-    let end = serve_opened(
-        rt, alloc, users, header, directory, shelf, &mut door, limit,
-    );
+    let end = serve_opened(rt, alloc, users, header, directory, shelf, &mut door, limit);
     links.take_back(door);
     end
 }
@@ -235,10 +233,7 @@ impl<D: Disk + Drop> Rooms<D> {
 }
 
 // The refusal of each place, in a list with the room for them.
-fn refusals_of<D: Disk>(
-    room: Vec<Option<DeskError>>,
-    places: &[Place<D>],
-) -> Vec<Option<DeskError>>
+fn refusals_of<D: Disk>(room: Vec<Option<DeskError>>, places: &[Place<D>]) -> Vec<Option<DeskError>>
     requires empty { room.items ≡ [] }
     requires room { length places.now ≤ vec_capacity room }
     ensures { result.items ≡ map place_refusal places.now }

@@ -140,16 +140,16 @@ pub returns-clause-unopened : goal.returns-clause-unopened
 returns-clause-unopened g c is =
     let same = c.run_batch.ensures.unopened is in (
       lent_one (λ shelf. SameNames (g.F.Shelf.disk c.args.shelf.now) (g.F.Shelf.disk shelf)) _ c.run_batch.new.shelf.shelf.now
-      (shelf_back _ c.run_batch.new.shelf.shelf.now _ _ c.run_batch.ensures.lent (search rules))
+          (shelf_back _ c.run_batch.new.shelf.shelf.now _ _ c.run_batch.ensures.lent (search rules))
           (λ name. (λ i. g.F.Shelf.disk (same i).shelf.now name) ∙ ap (λ shelf. g.F.Shelf.disk shelf name) c.new-mirrored.ensures.shelf),
       lent_two (λ shelf mirrors. SameNames (g.F.Shelf.disk_faults c.args.shelf.now)
-      (copied_counts (g.F.Shelf.disk_faults shelf) (dial_faults g.C.Dial.faults mirrors)))
+          (copied_counts (g.F.Shelf.disk_faults shelf) (dial_faults g.C.Dial.faults mirrors)))
           _ c.run_batch.new.shelf.shelf.now _ c.run_batch.new.shelf.mirrors.now
           (shelf_back _ c.run_batch.new.shelf.shelf.now _ _ c.run_batch.ensures.lent (search rules))
           (mirrors_back _ c.run_batch.new.shelf.mirrors.now _ _ c.run_batch.ensures.lent (search rules))
           (all_counts_under g.F.Shelf g.F.D.Disk g.C.Dial.faults c.new-mirrored.result.shelf.now c.args.shelf.now c.run_batch.new.shelf.shelf.now
           c.new-mirrored.ensures.shelf
-    (slots_of c.new-mirrored.result.mirrors.now) (slots_of c.args.mirrors.now) (slots_of c.run_batch.new.shelf.mirrors.now)
-    (ap slots_of c.new-mirrored.ensures.mirrors) c.requires.fresh
+          (slots_of c.new-mirrored.result.mirrors.now) (slots_of c.args.mirrors.now) (slots_of c.run_batch.new.shelf.mirrors.now)
+          (ap slots_of c.new-mirrored.ensures.mirrors) c.requires.fresh
           (λ name. (λ i. g.F.Shelf.disk_faults (same i).shelf.now name + faults_in g.C.Dial.faults (place_at (slots_of (same i).mirrors.now) name)))),
     )

@@ -36,8 +36,15 @@ judge_record-requires-clause-within c one goes =
     let goes_on : GoesOn named bytes one =
     subst (λ (n : ℕ). GoesOn n bytes one) (name_size bytes named within)
     (subst (λ (l : List ℕ). GoesOn (length (take named bytes)) l one) (split_is bytes named) goes) in
-    omega (arith, c.requires one goes_on, name_size bytes named within, length-drop named bytes, length-drop 11 (drop named bytes), size,
-    c.if-length-lt-start.false)
+    omega (
+      arith,
+      c.requires one goes_on,
+      name_size bytes named within,
+      length-drop named bytes,
+      length-drop 11 (drop named bytes),
+      size,
+      c.if-length-lt-start.false,
+    )
 
 pub returns : goal.returns
 returns c =

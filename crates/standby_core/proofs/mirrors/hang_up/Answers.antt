@@ -16,16 +16,16 @@ returns-in-New-clause-mirror g c =
 
 pub returns-in-New-clause-doors : goal.returns-in-New-clause-doors
 returns-in-New-clause-doors g c =
-  record {
-    faults = c.hang_up.ensures.faults;
-    out = c.hang_up.ensures.out;
-    ended = c.hang_up.ensures.ended;
-    given = c.hang_up.ensures.given;
-    left = c.hang_up.ensures.left;
-    at_hand = c.hang_up.ensures.at_hand;
-    back = c.hang_up.ensures.back;
-    listened = c.hang_up.ensures.listened;
-  }
+    record {
+      faults = c.hang_up.ensures.faults;
+      out = c.hang_up.ensures.out;
+      ended = c.hang_up.ensures.ended;
+      given = c.hang_up.ensures.given;
+      left = c.hang_up.ensures.left;
+      at_hand = c.hang_up.ensures.at_hand;
+      back = c.hang_up.ensures.back;
+      listened = c.hang_up.ensures.listened;
+    }
 
 pub returns-in-Back-clause-mirror : goal.returns-in-Back-clause-mirror
 returns-in-Back-clause-mirror g c =
@@ -38,16 +38,16 @@ returns-in-Back-clause-mirror g c =
 
 pub returns-in-Back-clause-doors : goal.returns-in-Back-clause-doors
 returns-in-Back-clause-doors g c =
-  record {
-    faults = c.hang_up.ensures.faults;
-    out = c.hang_up.ensures.out;
-    ended = c.hang_up.ensures.ended;
-    given = c.hang_up.ensures.given;
-    left = c.hang_up.ensures.left;
-    at_hand = c.hang_up.ensures.at_hand;
-    back = c.hang_up.ensures.back;
-    listened = c.hang_up.ensures.listened;
-  }
+    record {
+      faults = c.hang_up.ensures.faults;
+      out = c.hang_up.ensures.out;
+      ended = c.hang_up.ensures.ended;
+      given = c.hang_up.ensures.given;
+      left = c.hang_up.ensures.left;
+      at_hand = c.hang_up.ensures.at_hand;
+      back = c.hang_up.ensures.back;
+      listened = c.hang_up.ensures.listened;
+    }
 
 pub returns-in-Out-clause-mirror : goal.returns-in-Out-clause-mirror
 returns-in-Out-clause-mirror g c =

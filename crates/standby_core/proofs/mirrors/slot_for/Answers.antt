@@ -14,16 +14,16 @@ returns-in_err-dial-clause-later g c = omega (arith, c.dial.ensures.mirror)
 
 pub returns-in_err-dial-clause-doors : goal.returns-in_err-dial-clause-doors
 returns-in_err-dial-clause-doors g c =
-  record {
-    faults = c.dial.ensures.faults;
-    out = c.dial.ensures.out;
-    ended = c.dial.ensures.ended;
-    given = c.dial.ensures.given;
-    left = c.dial.ensures.left;
-    at_hand = c.dial.ensures.at_hand;
-    back = c.dial.ensures.back;
-    listened = c.dial.ensures.listened;
-  }
+    record {
+      faults = c.dial.ensures.faults;
+      out = c.dial.ensures.out;
+      ended = c.dial.ensures.ended;
+      given = c.dial.ensures.given;
+      left = c.dial.ensures.left;
+      at_hand = c.dial.ensures.at_hand;
+      back = c.dial.ensures.back;
+      listened = c.dial.ensures.listened;
+    }
 
 pub returns-clause-name : goal.returns-clause-name
 returns-clause-name g c = c.in_ok-journal.ensures ∙ ap (journal_name c.args.directory.now) c.as_str.ensures.value
@@ -33,13 +33,13 @@ returns-clause-later g c = omega (arith, c.dial.ensures.mirror)
 
 pub returns-clause-doors : goal.returns-clause-doors
 returns-clause-doors g c =
-  record {
-    faults = c.dial.ensures.faults;
-    out = c.dial.ensures.out;
-    ended = c.dial.ensures.ended;
-    given = c.dial.ensures.given;
-    left = c.dial.ensures.left;
-    at_hand = c.dial.ensures.at_hand;
-    back = c.dial.ensures.back;
-    listened = c.dial.ensures.listened;
-  }
+    record {
+      faults = c.dial.ensures.faults;
+      out = c.dial.ensures.out;
+      ended = c.dial.ensures.ended;
+      given = c.dial.ensures.given;
+      left = c.dial.ensures.left;
+      at_hand = c.dial.ensures.at_hand;
+      back = c.dial.ensures.back;
+      listened = c.dial.ensures.listened;
+    }

@@ -80,21 +80,19 @@ returns-in-Err-clause-took g c disk sink =
     (carried_in c.in-Frame.frame, in_room g (goal.at.returns-in-Err-clause-took g c).In-Frame, refl)
 
 pub returns-in-Ok-write_all-clause-took : goal.returns-in-Ok-write_all-clause-took
-returns-in-Ok-write_all-clause-took g c disk sink =
-    (
-      carried_in c.in-Frame.frame,
-      in_room g (goal.at.returns-in-Ok-write_all-clause-took g c).In-Frame,
-      (
-        c.in-Ok.count,
-        record { left = c.in-Ok.ensures.taken disk; counted = c.in-Ok.ensures.count disk },
-        c.in-Ok-write_all.ensures.all sink ∙ ap (λ l. g.K.Sink.written c.args.sink.now ++ l) c.to_be_bytes.ensures,
-      ),
-    )
+returns-in-Ok-write_all-clause-took g c disk sink = (
+  carried_in c.in-Frame.frame,
+  in_room g (goal.at.returns-in-Ok-write_all-clause-took g c).In-Frame,
+  (
+    c.in-Ok.count,
+    record { left = c.in-Ok.ensures.taken disk; counted = c.in-Ok.ensures.count disk },
+    c.in-Ok-write_all.ensures.all sink ∙ ap (λ l. g.K.Sink.written c.args.sink.now ++ l) c.to_be_bytes.ensures,
+  ),
+)
 
 pub returns-in-Err-write_all-clause-took : goal.returns-in-Err-write_all-clause-took
 returns-in-Err-write_all-clause-took g c disk sink =
-    let part = c.in-Err-write_all.ensures.part sink in
-    (
+    let part = c.in-Err-write_all.ensures.part sink in (
       carried_in c.in-Frame.frame,
       in_room g (goal.at.returns-in-Err-write_all-clause-took g c).In-Frame,
       (

@@ -97,7 +97,7 @@ new-book-requires g c = record {
   counted = subst (All (λ (held : Held _ _). held.count ≡ count_of held.journal)) (sym c.take_apart-journals.ensures.journals)
       (All-from_recursion (λ (held : Held _ _). held.count ≡ count_of held.journal) (journals_in c.in-Ok-open_journals.places.items)
       (first_sound c.args.directory.now (header_bytes c.args.header.now) g.F.Shelf.tells g.F.D.Disk (g.F.Shelf.disk c.args.shelf.now)
-    (g.F.Shelf.disk_faults c.args.shelf.now)
+      (g.F.Shelf.disk_faults c.args.shelf.now)
       c.args.users.now c.in-Ok-open_journals.places.items c.in-Ok-open_journals.ensures.opened));
 }
 

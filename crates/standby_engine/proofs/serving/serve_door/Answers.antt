@@ -47,8 +47,14 @@ loop-preserved g c =
           (copies_in g.D.Disk.reads c.serve_standby.new.book) c.args.door.now c.loop.door c.done.new.self _ (before.served told disk) visit
           (c.done.ensures.given told ∙ c.next.ensures.given told) (c.done.ensures.back told ∙ ap (λ l. l ++ _) (c.next.ensures.back told));
       count = λ told. omega (arith, before.count told, c.done.ensures.given told, c.next.ensures.given told);
-      left = λ told. omega (arith, before.left told, c.done.ensures.left told, c.done.ensures.given told, c.next.ensures.left told,
-          c.next.ensures.given told);
+      left = λ told. omega (
+        arith,
+        before.left told,
+        c.done.ensures.left told,
+        c.done.ensures.given told,
+        c.next.ensures.left told,
+        c.next.ensures.given told,
+      );
       lasts = λ disk own firsts all. served.lasts disk own firsts (before.lasts disk own firsts all);
       names = served.names ∙ before.names;
       counted = λ counts all. served.counted counts (before.counted counts all);

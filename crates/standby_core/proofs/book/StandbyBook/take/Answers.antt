@@ -131,14 +131,15 @@ returns-clause-count g c told =
 
 pub returns-clause-unknown : goal.returns-clause-unknown
 returns-clause-unknown g c =
-    let at = (goal.at.returns-clause-unknown g c).After-take in
-    (λ is. absurd (c.take.ensures.known is), λ none. let clash : Some (copy_in g.D.Disk.reads c.index_mut-held.result.now) ≡ None =
-    sym (copy_first g at) ∙ none in absurd cc)
+    let at = (goal.at.returns-clause-unknown g c).After-take in (
+      λ is. absurd (c.take.ensures.known is),
+      λ none. let clash : Some (copy_in g.D.Disk.reads c.index_mut-held.result.now) ≡ None =
+          sym (copy_first g at) ∙ none in absurd cc,
+    )
 
 pub returns-clause-broken : goal.returns-clause-broken
 returns-clause-broken g c =
-    let at = (goal.at.returns-clause-broken g c).After-take in
-    (
+    let at = (goal.at.returns-clause-broken g c).After-take in (
       λ is. (copy_in g.D.Disk.reads c.index_mut-held.result.now, copy_first g at, c.take.ensures.broken.0 is),
       λ failed. c.take.ensures.broken.1 (failed_there (copy_in g.D.Disk.reads c.index_mut-held.result.now) (sym (copy_first g at)) failed),
     )
