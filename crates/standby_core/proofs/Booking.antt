@@ -67,7 +67,7 @@ module _ {D : Type 0} {g : _} where
   -- ---- all copies
 
   module _ (reads : D → List ℕ) where
-    copy_name : Copy → List ℕ
+    abbrev copy_name : Copy → List ℕ
     copy_name copy = copy.name
 
     -- the copy of a name is that of its journal
