@@ -1,5 +1,6 @@
 use Rattle.std.proofs.Common.{◌≡◌, ◌+◌, ◌++◌, length, map, inl, inr, refl, sym, ap, subst, ◌∙◌, arith, All}
-use Rattle.std.specs.Prelude.{string_bytes}
+use Rattle.std.specs.Prelude.{Vec, string_bytes}
+use Rattle.std.specs.declared.alloc.Global.{Global}
 use Rattle.std.proofs.lemmas.List.{length-map}
 use Rattle.std.proofs.lemmas.List.Elements.{All-from_recursion}
 use Rattle.log_journal.specs.Journal.{count_of}
@@ -111,10 +112,10 @@ put_together-all-requires-clause-room g c =
     let parts = each_parted c.in-Ok-open_journals.places.items in
     let others = ap length c.take_apart-journals.ensures.others in
     let journals = ap length c.take_apart-journals.ensures.journals in
-    let book = ap (λ v. length v.items) c.new-book.ensures in
+    let book = ap (λ (v : Vec _ Global). length v.items) c.new-book.ensures in
     let same = sym (length-map c.serve_door-end.new.book.journals.items held_name) ∙ ap length c.serve_door-end.ensures.names
     ∙ length-map c.new-book.result.journals.items held_name in
-    let closed = ap (λ v. length v.items) c.close-journals.ensures.same in
+    let closed = ap (λ (v : Vec _ Global). length v.items) c.close-journals.ensures.same in
     let room = c.in-Ok.ensures.room.2 in
     let capacity = c.take_apart-journals.ensures.room in
     omega (arith, many, parts, others, journals, book, same, closed, room, capacity)
@@ -124,10 +125,10 @@ put_together-all-requires-clause-count g c =
     let names = sym (length-map c.take_apart-journals.result.1.items string_bytes) ∙ ap length c.take_apart-journals.ensures.names in
     let many = names_many c.in-Ok-open_journals.places.items in
     let journals = ap length c.take_apart-journals.ensures.journals in
-    let book = ap (λ v. length v.items) c.new-book.ensures in
+    let book = ap (λ (v : Vec _ Global). length v.items) c.new-book.ensures in
     let same = sym (length-map c.serve_door-end.new.book.journals.items held_name) ∙ ap length c.serve_door-end.ensures.names
     ∙ length-map c.new-book.result.journals.items held_name in
-    let closed = ap (λ v. length v.items) c.close-journals.ensures.same in
+    let closed = ap (λ (v : Vec _ Global). length v.items) c.close-journals.ensures.same in
     omega (arith, names, many, journals, book, same, closed)
 
 pub give_back-requires-clause-distinct : goal.give_back-requires-clause-distinct
@@ -169,7 +170,7 @@ back g c =
 
 -- the journals as the book began
 began : (g : Over) (c : After-end_of g) → c.new-book.result.journals.items ≡ journals_in c.in-Ok-open_journals.places.items
-began g c = ap (λ v. v.items) c.new-book.ensures ∙ c.take_apart-journals.ensures.journals
+began g c = ap (λ (v : Vec _ Global). v.items) c.new-book.ensures ∙ c.take_apart-journals.ensures.journals
 
 counted : (g : Over) (c : After-end_of g)
     → AllCounted g.F.D.Disk.faults (counts_of c.args.directory.now (header_bytes c.args.header.now) g.F.Shelf.tells g.F.D.Disk (g.F.Shelf.disk c.args.shelf.now)
@@ -179,7 +180,7 @@ counted g c =
     let counts = counts_of c.args.directory.now (header_bytes c.args.header.now) g.F.Shelf.tells g.F.D.Disk (g.F.Shelf.disk c.args.shelf.now)
     (g.F.Shelf.disk_faults c.args.shelf.now)
     c.args.users.now c.in-Ok-open_journals.places.items c.in-Ok-open_journals.ensures.opened in
-    subst (λ v. AllCounted g.F.D.Disk.faults counts v.items) (sym c.close-journals.ensures.same)
+    subst (λ (v : Vec _ Global). AllCounted g.F.D.Disk.faults counts v.items) (sym c.close-journals.ensures.same)
     (c.serve_door-end.ensures.counted counts (subst (AllCounted g.F.D.Disk.faults counts) (sym (began g c))
     (first_counted c.args.directory.now (header_bytes c.args.header.now) g.F.Shelf.tells g.F.D.Disk (g.F.Shelf.disk c.args.shelf.now)
     (g.F.Shelf.disk_faults c.args.shelf.now)
@@ -232,7 +233,7 @@ returns-clause-journals g c shelf_told =
     (g.F.Shelf.disk c.args.shelf.now)
     (g.F.Shelf.disk c.give_back.new.shelf) (g.F.Shelf.disk_faults c.args.shelf.now) (g.F.Shelf.disk_faults c.give_back.new.shelf)) in
     let lasts : AllLast g.F.D.Disk.reads g.F.D.Disk.image own firsts c.close-journals.result.items =
-    subst (λ v. AllLast g.F.D.Disk.reads g.F.D.Disk.image own firsts v.items) (sym c.close-journals.ensures.same)
+    subst (λ (v : Vec _ Global). AllLast g.F.D.Disk.reads g.F.D.Disk.image own firsts v.items) (sym c.close-journals.ensures.same)
     (c.serve_door-end.ensures.lasts disk_told own firsts (subst (AllLast g.F.D.Disk.reads g.F.D.Disk.image own firsts) (sym (began g c))
     (first_lasts c.args.directory.now (header_bytes c.args.header.now) g.F.Shelf.tells g.F.D.Disk (g.F.Shelf.disk c.args.shelf.now)
     (g.F.Shelf.disk_faults c.args.shelf.now)
