@@ -66,7 +66,12 @@ impl<D: Disk> Place<D> {
     {
         match self {
             Place::Opened(_, _) => true,
-            Place::Refused(_, _, why) => *why != OpenError::Memory,
+            Place::Refused(_, _, why) => {
+                if *why == OpenError::Memory {
+                    return false;
+                }
+                true
+            }
         }
     }
 
