@@ -26,7 +26,7 @@ use Rattle.cqe_top.proofs.Serving.{serve_succeeds, served_out}
 use Rattle.cqe_top.proofs.Users.{batch_names_are}
 use Rattle.cqe_top.proofs.copied.run_copied.Given.{Over}
 use Rattle.cqe_top.proofs.copied.run_copied.Goals as goal
-use Rattle.cqe_top.proofs.copied.run_copied.Goals.{In-Err, In-Err-mirrors_for, After-drop-inputs-in-Batch-4, After-drop-inputs-4}
+use Rattle.cqe_top.proofs.copied.run_copied.Goals.{In-Err, In-Err-mirrors_for, After-drop-inputs-in-Batch-4, After-drop-inputs-5}
 
 pub copied_batch-end-requires-clause-names : goal.copied_batch-end-requires-clause-names
 copied_batch-end-requires-clause-names g c κs within =
@@ -199,10 +199,10 @@ returns-in-Batch-clause-does g c =
 
 -- ---- a server
 
-abbrev serve_failed : (g : Over) → After-drop-inputs-4 g → Text → ℕ
+abbrev serve_failed : (g : Over) → After-drop-inputs-5 g → Text → ℕ
 serve_failed g c name = dial_faults g.L.Dial.Dial.faults c.copied_serve-end.new.mirrors name
 
-abbrev serve_scene : (g : Over) → After-drop-inputs-4 g → Scene
+abbrev serve_scene : (g : Over) → After-drop-inputs-5 g → Scene
 serve_scene g c =
     scene_of (shelf_of g.F.Shelf g.F.D.Disk c.args.shelf.now c.copied_serve-end.new.shelf) (input_of g.S.Source c.args.source.now c.args.source.now)
     (output_of g.K.Sink c.args.sink.now c.args.sink.now) (links_of g.L.Links c.args.links.now c.hang_up_all.new.links)
