@@ -3,8 +3,8 @@ use Rattle.standby_core.specs.Frames.{ShowsTail, GoesOn}
 use Rattle.standby_core.proofs.Framing.{badly_named, short_of_fields}
 use Rattle.standby_core.proofs.frame.judge_fields.Goals as goal
 
-pub returns-then-named-lt-1 : goal.returns-then-named-lt-1
-returns-then-named-lt-1 c = badly_named c.args.named c.args.bytes.now (inl c.if-named-lt-1.true)
+pub returns-then-named-lt1 : goal.returns-then-named-lt1
+returns-then-named-lt1 c = badly_named c.args.named c.args.bytes.now (inl c.if-named-lt1.true)
 
 pub returns-then-named-gt-NAME : goal.returns-then-named-gt-NAME
 returns-then-named-gt-NAME c = badly_named c.args.named c.args.bytes.now (inr c.if-named-gt-NAME.true)

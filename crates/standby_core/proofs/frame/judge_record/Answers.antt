@@ -8,10 +8,10 @@ use Rattle.standby_core.proofs.frame.judge_record.Goals as goal
 pub returns-in_default : goal.returns-in_default
 returns-in_default c = bad_name c.args.name.now c.args.fields.now c.args.text.now c.requires.fields c.in_default.ensures.cases.0
 
-pub returns-then-kind-lt-1 : goal.returns-then-kind-lt-1
-returns-then-kind-lt-1 c =
+pub returns-then-kind-lt1 : goal.returns-then-kind-lt1
+returns-then-kind-lt1 c =
     let is : c.index-kind.result ≡ get_or c.args.fields.now 8 0 = search rules in
-    bad_kind c.args.name.now c.args.fields.now c.args.text.now c.requires.fields (inl (omega (arith, is, c.if-kind-lt-1.true)))
+    bad_kind c.args.name.now c.args.fields.now c.args.text.now c.requires.fields (inl (omega (arith, is, c.if-kind-lt1.true)))
 
 pub returns-then-kind-gt-KINDS : goal.returns-then-kind-gt-KINDS
 returns-then-kind-gt-KINDS c =
@@ -61,7 +61,7 @@ returns c =
       name_short = c.requires.few;
       name_utf8 = c.in-Ok.ensures.cases.1;
       numbered = number;
-      kind_from = omega (arith, c.if-kind-lt-1.false);
+      kind_from = omega (arith, c.if-kind-lt1.false);
       kind_to = omega (arith, c.if-kind-gt-KINDS.false);
       short = omega (arith, size, c.if-size-gt-TEXT.false);
     } in
