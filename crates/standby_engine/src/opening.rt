@@ -275,7 +275,7 @@ pub(crate) fn give_back<F: Shelf>(shelf: &mut F, all: Vec<Given<F::D>>)
 }
 
 /// The disks of places, in a list with the room for them.
-pub(crate) fn disks_of<D: Disk>(places: Vec<Place<D>>, room: Vec<Given<D>>) -> Vec<Given<D>>
+pub(crate) fn disks_of<D: Disk + Drop>(places: Vec<Place<D>>, room: Vec<Given<D>>) -> Vec<Given<D>>
     requires empty { room.items ≡ [] }
     requires room { length places.items ≤ vec_capacity room }
     ensures names { map given_journal result.items ≡ map place_journal places.items }
