@@ -69,16 +69,17 @@ fn damaged(alloc: Global, damage: &Damage) -> Result<Vec<u8>, Fail> {
 fn book_of(alloc: Global, name: &str) -> Result<StandbyBook<MemoryDisk>, Fail> {
     let mut disk = MemoryDisk::new(alloc, Vec::new(alloc))?;
     format(&mut disk, &HEADER)?;
+    let Ok((journal, _records)) = open(alloc, disk, &HEADER) else {
+        return Ok(StandbyBook::new(Vec::new(alloc)));
+    };
+    let name = String::from_str(alloc, name)?;
+    let count = journal.count();
     let mut journals = Vec::new(alloc);
-    if let Ok((journal, _records)) = open(alloc, disk, &HEADER) {
-        let name = String::from_str(alloc, name)?;
-        let count = journal.count();
-        journals.push(Held {
-            name,
-            journal,
-            count,
-        })?;
-    }
+    journals.push(Held {
+        name,
+        journal,
+        count,
+    })?;
     Ok(StandbyBook::new(journals))
 }
 
