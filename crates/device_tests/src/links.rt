@@ -203,8 +203,11 @@ fn dials_are_answered_by_plan(rt: HostRuntime) -> Result<(), Fail> {
     links.hang_up(third);
     assert_eq!(rt; links.mirror(), 3);
     assert_eq!(rt; links.faults(), 0);
-    let mut frames = links.dials_back().iter().map(MemoryDial::frames);
-    assert_eq!(rt; frames.next(), Some(b"abcd".as_slice()));
-    assert_eq!(rt; frames.next(), Some(b"".as_slice()));
+    let back = links.dials_back();
+    assert_eq!(rt;
+        back.first().map(MemoryDial::frames),
+        Some(b"abcd".as_slice())
+    );
+    assert_eq!(rt; back.get(1).map(MemoryDial::frames), Some(b"".as_slice()));
     Ok(())
 }
