@@ -117,10 +117,6 @@ module _ {F D C : Type 0} {g : _} (Shelf : ShelfGhosts F D) (Disk : DiskGhosts D
       (λ name. mirrored_at (Shelf.disk new name) (place_at slots' name)) → SameBeside names (Shelf.disk old) (Shelf.disk new)
   disks_under names same name other = same_disk name (same name other ∙ before name)
 
-  pub all_disks_under : SameNames (λ name. mirrored_at (Shelf.disk lent name) (place_at lent_slots name))
-      (λ name. mirrored_at (Shelf.disk new name) (place_at slots' name)) → SameNames (Shelf.disk old) (Shelf.disk new)
-  all_disks_under same name = same_disk name (same name ∙ before name)
-
   -- the counts beside those of the dials
   pub counts_under : (names : List Text)
       → SameBeside names (λ name. Shelf.disk_faults lent name + faults_in faults (place_at lent_slots name))

@@ -128,15 +128,10 @@ module _ (header : Header) (policy_size : length header.policy ≡ 32) (facts_si
         length-append one.name number,
       )
 
-  -- of what some bytes go on to as a frame, all agrees with the first bytes and the digests
+  -- what some bytes go on to as a frame agrees with the first bytes
   frame_marked : (bytes rest more : List ℕ) (one : Carried) → bytes ++ rest ≡ frame_bytes header one ++ more → agree (bytes ++ rest) frame_mark ≡ true
   frame_marked bytes rest more one is =
       ap (λ l. agree l frame_mark) (is ∙ frame_goes one more) ∙ agree-with frame_mark (digests ++ (length one.name ∷ (tail_bytes one ++ more)))
-
-  frame_headed : (bytes rest more : List ℕ) (one : Carried) → bytes ++ rest ≡ frame_bytes header one ++ more
-      → agree (drop 8 (bytes ++ rest)) digests ≡ true
-  frame_headed bytes rest more one is =
-      ap (λ l. agree (drop 8 l) digests) (is ∙ frame_goes one more) ∙ agree-with digests (length one.name ∷ (tail_bytes one ++ more))
 
   -- ---- the first bytes or a digest differ
 

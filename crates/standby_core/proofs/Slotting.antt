@@ -79,9 +79,6 @@ module _ {C : Type 0} {g : _} where
   mirror_with None = refl
   mirror_with (Some one) = refl
 
-  pub some_is : {X : Type 0} (o : Option X) (x : X) → o ≡ Some x → is_some o ≡ true
-  some_is o x is = ap is_some is
-
   -- a mirror that is put back unused leaves all as it was
   pub restored : (name : List ℕ) (old mid new : List (Slot C g)) (mirror : Mirror C g) → Some mirror ≡ new_in (place_at old name)
       → SameOthers name (place_at old) (place_at mid) → place_at new name ≡ Some (New mirror) → SameOthers name (place_at mid) (place_at new)
