@@ -11,7 +11,7 @@ at-requires-clause-counted g c told =
     let all = map recorded c.in-Ok.records.items in
     let R = g.D.Disk.reads c.args.disk in
     let are : records R ≡ all = (walked (old_header (header_bytes c.args.header.now)) all R (c.in-Ok.ensures.opened told).0).are in
-    let size : c.len.result ≡ length c.in-Ok.records.items = search rules in
+    let size : c.len-count.result ≡ length c.in-Ok.records.items = search rules in
     size ∙ sym (length-map c.in-Ok.records.items recorded) ∙ sym (ap length are)
     ∙ sym (ap (λ (b : List ℕ). length (records b)) c.read_synced.ensures.reads)
 

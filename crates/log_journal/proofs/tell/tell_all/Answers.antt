@@ -1,5 +1,5 @@
-use Rattle.std.proofs.Common.{sym, ◌∙◌, ap, arith}
-use Rattle.log_journal.specs.Walk.{records}
+use Rattle.std.proofs.Common.{◌≤◌, List, ℕ, length, sym, subst, ◌∙◌, ap, arith}
+use Rattle.log_journal.specs.Walk.{records, IsNumbered}
 use Rattle.log_journal.proofs.Counts.{numbered, record_there}
 use Rattle.log_journal.proofs.Windows.{only_none, only_then}
 use Rattle.log_journal.proofs.tell.tell_all.Goals as goal
@@ -14,8 +14,9 @@ loop-number-init g c = record {
 
 pub tell_record-requires-clause-there : goal.tell_record-requires-clause-there
 tell_record-requires-clause-there g c told =
-    numbered (g.D.Disk.reads c.loop-number.disk) c.args.all.now c.loop-number.number c.index-all-number.result
-    (ap records c.loop-number.invariant.only.reads ∙ c.requires.there told) c.index-all-number.is c.loop-number-test.true
+    subst (λ (t : List ℕ). IsNumbered (g.D.Disk.reads c.loop-number.disk) c.loop-number.number (c.index-all-number.result.kind, t))
+    (sym c.deref.ensures.value) (numbered (g.D.Disk.reads c.loop-number.disk) c.args.all.now c.loop-number.number c.index-all-number.result
+    (ap records c.loop-number.invariant.only.reads ∙ c.requires.there told) c.index-all-number.is c.loop-number-test.true)
 
 pub tell_record-requires-clause-durable : goal.tell_record-requires-clause-durable
 tell_record-requires-clause-durable g c d is =
@@ -32,6 +33,7 @@ tell_record-requires-clause-high g c =
 
 pub tell_record-requires-clause-short : goal.tell_record-requires-clause-short
 tell_record-requires-clause-short g c =
+    subst (λ (t : List ℕ). length t ≤ 4096) (sym c.deref.ensures.value)
     (record_there c.args.all.now c.loop-number.number c.index-all-number.result c.requires.each c.index-all-number.is c.loop-number-test.true).short
 
 pub loop-number-preserved : goal.loop-number-preserved
