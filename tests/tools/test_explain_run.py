@@ -153,7 +153,7 @@ class Journals(InDirectory):
         directory.mkdir()
         good = journal(POLICY, FACTS, (1, b"true"), (2, b"hiv(carl)"))
         cases = [("not a journal", b"closed\n"), ("other policy", journal(POLICY, "other")), ("stale 1", good),
-                 ("damaged 1", good[:81] + b"\x09" + good[82:]), ("stale 0", journal(POLICY, FACTS, (5, b"true"))),
+                 ("damaged 1", good[:81] + b"\x09" + good[82:]), ("unsafe 0", journal(POLICY, FACTS, (5, b"true"))),
                  ("old version", journal(POLICY, "other", version=b"1")),
                  ("unlawful 0 stored no computed yes", journal(POLICY, FACTS, (2, b"true")))]
         for cause, data in cases:
