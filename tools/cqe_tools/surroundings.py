@@ -197,6 +197,10 @@ def bind_fault(address, port, error):
 
 
 def read_fault(said, context):
+    if context.words and context.words[0] == "check":
+        return Finding(said, "Standard input couldn't be read; nothing was checked.", None,
+                       "give the dossier as a file, as  cqe check .. < DOSSIER : a directory or a closed input can't be "
+                       "read")
     return Finding(said, "Standard input couldn't be read; nothing was answered.", None,
                    "give the script as a file, as  cqe batch .. < SCRIPT : a directory or a closed input can't be read")
 

@@ -30,7 +30,7 @@ pub fn disjunction(alloc: Global, sentences: &[Sentence]) -> Result<Sentence, Al
 
 /// What is guarded from a user for one more secret: for lying the disjunction of his secrets with
 /// it, and else the secret.
-pub(crate) fn guard_with(
+pub fn guard_with(
     alloc: Global,
     user: &User,
     secret: &Sentence,

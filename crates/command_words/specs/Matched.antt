@@ -9,7 +9,7 @@ use Rattle.clap.specs.declared.builder.value_parser.ValueParser.TheVariants.{Non
 use Rattle.command_words.specs.Numbers.{number_from, number_or}
 use Rattle.command_words.specs.Readings.{FileNames, Reading, runs_case, runs_init}
 use Rattle.command_words.specs.Readings.{files_said, batch_said, audit_said, selfrun_said}
-use Rattle.command_words.specs.Readings.{serve_said, migrate_said}
+use Rattle.command_words.specs.Readings.{serve_said, migrate_said, dossier_said, check_said}
 
 -- `--`, or a hyphen and a further byte that isn't one: no reading has such a word
 abbrev pub is_short : List ℕ → Bool
@@ -73,18 +73,26 @@ serve_command = with_rule
 abbrev pub migrate_command : App
 migrate_command = with_rule (file_command (codes "migrate")) (needed_rule (codes "to"))
 
+-- the subcommand `dossier`
+abbrev pub dossier_command : App
+dossier_command = with_rule (file_command (codes "dossier")) (needed_rule (codes "user"))
+
+-- the subcommand `check`
+abbrev pub check_command : App
+check_command = three_command (codes "check") (codes "policy") (codes "facts") (codes "user")
+
 -- a command line with no subcommand yet
 abbrev pub bare : App
 bare = on_top with_settings (new_app (codes "cqe"))
 
 -- the command line of the program
 abbrev pub program : App
-program = with_subcommand
+program = with_subcommand (with_subcommand (with_subcommand
     (with_subcommand (with_subcommand (with_subcommand (with_subcommand (with_subcommand
     (with_subcommand bare
     (new_app (codes "case")).top) (file_command (codes "init")).top)
     batch_command.top) audit_command.top) selfrun_command.top)
-    serve_command.top) migrate_command.top
+    serve_command.top) migrate_command.top) dossier_command.top) check_command.top
 
 -- the files that the rows that were matched name
 abbrev pub files_in : List Row → Option FileNames
@@ -124,6 +132,15 @@ serve_in rows =
 abbrev pub migrate_in : List Row → Option Reading
 migrate_in rows = migrate_said (files_in rows) (first_of (codes "to") rows)
 
+-- the dossier that rows say
+abbrev pub dossier_in : List Row → Option Reading
+dossier_in rows = dossier_said (files_in rows) (first_of (codes "user") rows)
+
+-- the check of a dossier that rows say
+abbrev pub check_in : List Row → Option Reading
+check_in rows = check_said (first_of (codes "policy") rows) (first_of (codes "facts") rows)
+    (first_of (codes "user") rows)
+
 -- the reading of a command with the rows that were matched
 abbrev pub command_with : List ℕ → List Row → Option Reading
 command_with command rows =
@@ -134,4 +151,6 @@ command_with command rows =
     else if bytes_eq command (codes "selfrun") then selfrun_in rows
     else if bytes_eq command (codes "serve") then serve_in rows
     else if bytes_eq command (codes "migrate") then migrate_in rows
+    else if bytes_eq command (codes "dossier") then dossier_in rows
+    else if bytes_eq command (codes "check") then check_in rows
     else None

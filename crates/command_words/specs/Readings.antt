@@ -7,6 +7,7 @@ use Rattle.command_words.specs.Numbers.{number_from, number_or}
 use Rattle.command_words.specs.declared.command.Command.{Command}
 use Rattle.command_words.specs.declared.command.Command.TheVariants.{Case, Init, Batch, Audit}
 use Rattle.command_words.specs.declared.command.Command.TheVariants.{Selfrun, Serve, Migrate}
+use Rattle.command_words.specs.declared.command.Command.TheVariants.{Dossier, Check}
 use Rattle.command_words.specs.declared.command.Files.{Files}
 
 -- ---- what words say
@@ -33,6 +34,10 @@ pub data Reading : Type 0 where
   runs_serve : FileNames → List ℕ → ℕ → ℕ → Reading
   -- the moving of the journals of these files to a directory
   runs_migrate : FileNames → List ℕ → Reading
+  -- the dossier of the user of this name
+  runs_dossier : FileNames → List ℕ → Reading
+  -- the check of a dossier of the user of this name, over a policy file and a facts file
+  runs_check : List ℕ → List ℕ → List ℕ → Reading
 
 -- ---- the uses of options
 
@@ -90,6 +95,16 @@ migrate_said (Some files) (Some to) =
     if bytes_eq files.directory to then None else Some (runs_migrate files to)
 migrate_said _ _ = None
 
+-- the dossier over these files, of this user
+abbrev pub dossier_said : Option FileNames → Option (List ℕ) → Option Reading
+dossier_said (Some files) (Some user) = Some (runs_dossier files user)
+dossier_said _ _ = None
+
+-- the check over these two files, of a dossier of this user
+abbrev pub check_said : Option (List ℕ) → Option (List ℕ) → Option (List ℕ) → Option Reading
+check_said (Some policy) (Some facts) (Some user) = Some (runs_check policy facts user)
+check_said _ _ _ = None
+
 -- the files that uses name
 abbrev pub files_of : List Use → Option FileNames
 files_of uses = files_said (value_of uses (codes "policy")) (value_of uses (codes "facts"))
@@ -123,6 +138,16 @@ serve_of uses =
 -- the moving of journals that uses say
 abbrev pub migrate_of : List Use → Option Reading
 migrate_of uses = migrate_said (files_of uses) (value_of uses (codes "to"))
+
+-- the dossier that uses say
+abbrev pub dossier_of : List Use → Option Reading
+dossier_of uses = dossier_said (files_of uses) (value_of uses (codes "user"))
+
+-- the check of a dossier that uses say
+abbrev pub check_of : List Use → Option Reading
+check_of uses =
+    check_said (value_of uses (codes "policy")) (value_of uses (codes "facts"))
+    (value_of uses (codes "user"))
 
 -- ---- the table
 
@@ -209,9 +234,28 @@ migrate_row = record {
   says = migrate_of;
 }
 
+-- `dossier --policy P --facts F --journals DIR --user NAME`
+abbrev pub dossier_row : CommandRow
+dossier_row = record {
+  name = codes "dossier";
+  options =
+      file_options (needed (codes "user") ∷ []);
+  says = dossier_of;
+}
+
+-- `check --policy P --facts F --user NAME`
+abbrev pub check_row : CommandRow
+check_row = record {
+  name = codes "check";
+  options =
+      needed (codes "policy") ∷ needed (codes "facts") ∷ needed (codes "user") ∷ [];
+  says = check_of;
+}
+
 -- all commands
 abbrev pub commands : List CommandRow
-commands = case_row ∷ init_row ∷ batch_row ∷ audit_row ∷ selfrun_row ∷ serve_row ∷ migrate_row ∷ []
+commands = case_row ∷ init_row ∷ batch_row ∷ audit_row ∷ selfrun_row ∷ serve_row ∷ migrate_row
+    ∷ dossier_row ∷ check_row ∷ []
 
 -- the command of this name
 abbrev pub command_of : List ℕ → Option CommandRow
@@ -252,3 +296,5 @@ reading_in (Selfrun words) = runs_selfrun words.seed words.users words.asks
 reading_in (Serve words) =
     runs_serve (names_of_files words.files) words.listen.now words.workers words.sessions
 reading_in (Migrate words) = runs_migrate (names_of_files words.files) words.to.now
+reading_in (Dossier words) = runs_dossier (names_of_files words.files) words.user.now
+reading_in (Check words) = runs_check words.policy.now words.facts.now words.user.now

@@ -5,9 +5,10 @@ ghost use Rattle.std.specs.List.{list_any};
 ghost use Rattle.clap.specs.Words.{found_of, kind_of, rows_of, subcommand_rows_of};
 ghost use Rattle.command_words.specs.Readings.{reading_of, reading_in, names_of_files, files_said};
 ghost use Rattle.command_words.specs.Readings.{batch_said, audit_said, selfrun_said, serve_said};
-ghost use Rattle.command_words.specs.Readings.{migrate_said};
+ghost use Rattle.command_words.specs.Readings.{migrate_said, dossier_said, check_said};
 ghost use Rattle.command_words.specs.Matched.{is_short, says_true, files_in, batch_in, audit_in};
-ghost use Rattle.command_words.specs.Matched.{selfrun_in, serve_in, migrate_in, command_with};
+ghost use Rattle.command_words.specs.Matched.{selfrun_in, serve_in, migrate_in, dossier_in};
+ghost use Rattle.command_words.specs.Matched.{check_in, command_with};
 
 use crate::number::{number_from, number_or, small_number_from, small_number_or};
 use crate::program::program;
@@ -79,6 +80,26 @@ pub struct MigrateWords<'a> {
     pub to: &'a str,
 }
 
+/// Whose dossier is written.
+#[derive(Clone, Copy, Debug, PartialEq, Eq)]
+pub struct DossierWords<'a> {
+    /// the files
+    pub files: Files<'a>,
+    /// the name of the user
+    pub user: &'a str,
+}
+
+/// Whose dossier is checked. It takes no journal.
+#[derive(Clone, Copy, Debug, PartialEq, Eq)]
+pub struct CheckWords<'a> {
+    /// the policy file
+    pub policy: &'a str,
+    /// the facts file
+    pub facts: &'a str,
+    /// the name of the user
+    pub user: &'a str,
+}
+
 /// What the program is to do. The texts are those of the words.
 #[derive(Clone, Copy, Debug, PartialEq, Eq)]
 pub enum Command<'a> {
@@ -96,6 +117,10 @@ pub enum Command<'a> {
     Serve(ServeWords<'a>),
     /// `migrate`: the old journals of one directory, moved to another.
     Migrate(MigrateWords<'a>),
+    /// `dossier`: the history of one user with what shows each reply.
+    Dossier(DossierWords<'a>),
+    /// `check`: the dossier of one user, without a search.
+    Check(CheckWords<'a>),
 }
 
 /// Reads the words behind the program's name.
@@ -175,6 +200,8 @@ fn command_with<'a>(name: &str, given: &ArgMatches<'a>) -> Option<Command<'a>>
         "selfrun" => selfrun_in(given),
         "serve" => serve_in(given),
         "migrate" => migrate_in(given),
+        "dossier" => dossier_in(given),
+        "check" => check_in(given),
         _ => None,
     }
 }
@@ -342,6 +369,54 @@ fn migrate_with<'a>(files: Option<Files<'a>>, to: Option<&'a str>) -> Option<Com
                 Some(Command::Migrate(MigrateWords { files, to }))
             }
         }
+        _ => None,
+    }
+}
+
+// The dossier that was matched.
+fn dossier_in<'a>(given: &ArgMatches<'a>) -> Option<Command<'a>>
+    ensures { option_map reading_in result ≡ dossier_in (rows_of (found_of given.now)) }
+{
+    dossier_with(files_in(given), given.get_str("user"))
+}
+
+fn dossier_with<'a>(files: Option<Files<'a>>, user: Option<&'a str>) -> Option<Command<'a>>
+    ensures { option_map reading_in result
+        ≡ dossier_said (option_map names_of_files files.entry)
+        (option_map (λ s. s.now) user.entry) }
+{
+    match (files, user) {
+        (Some(files), Some(user)) => Some(Command::Dossier(DossierWords { files, user })),
+        _ => None,
+    }
+}
+
+// The check of a dossier that was matched.
+fn check_in<'a>(given: &ArgMatches<'a>) -> Option<Command<'a>>
+    ensures { option_map reading_in result ≡ check_in (rows_of (found_of given.now)) }
+{
+    check_with(
+        given.get_str("policy"),
+        given.get_str("facts"),
+        given.get_str("user"),
+    )
+}
+
+fn check_with<'a>(
+    policy: Option<&'a str>,
+    facts: Option<&'a str>,
+    user: Option<&'a str>,
+) -> Option<Command<'a>>
+    ensures { option_map reading_in result
+        ≡ check_said (option_map (λ s. s.now) policy.entry) (option_map (λ s. s.now) facts.entry)
+        (option_map (λ s. s.now) user.entry) }
+{
+    match (policy, facts, user) {
+        (Some(policy), Some(facts), Some(user)) => Some(Command::Check(CheckWords {
+            policy,
+            facts,
+            user,
+        })),
         _ => None,
     }
 }

@@ -2,9 +2,10 @@
 ghost use Rattle.std.specs.Prelude.{◌≡◌, false, IfOk};
 ghost use Rattle.clap.specs.Words.{app_of, rule_of};
 ghost use Rattle.clap.specs.declared.builder.command.Command.TheViews.{out-Command};
-ghost use Rattle.command_words.specs.Matched.{audit_command, batch_command, file_command};
-ghost use Rattle.command_words.specs.Matched.{flag_rule, migrate_command, needed_rule};
-ghost use Rattle.command_words.specs.Matched.{optional_rule, program, serve_command, three_command};
+ghost use Rattle.command_words.specs.Matched.{audit_command, batch_command, dossier_command};
+ghost use Rattle.command_words.specs.Matched.{file_command, flag_rule, migrate_command};
+ghost use Rattle.command_words.specs.Matched.{needed_rule, optional_rule, program, serve_command};
+ghost use Rattle.command_words.specs.Matched.{three_command};
 
 use clap::builder::ValueParser;
 use clap::{Arg, ArgAction, Command};
@@ -21,6 +22,8 @@ pub(crate) fn program<'a>(alloc: Global) -> Result<Command<'a>, AllocError>
     let selfrun = with_three(alloc, "selfrun", "seed", "users", "asks")?;
     let serve = serve(alloc)?;
     let migrate = migrate(alloc)?;
+    let dossier = dossier(alloc)?;
+    let check = with_three(alloc, "check", "policy", "facts", "user")?;
     let program = Command::new(alloc, "cqe")
         .no_binary_name(true)
         .disable_help_flag(true)
@@ -33,7 +36,9 @@ pub(crate) fn program<'a>(alloc: Global) -> Result<Command<'a>, AllocError>
         .subcommand(audit)?
         .subcommand(selfrun)?
         .subcommand(serve)?
-        .subcommand(migrate)?;
+        .subcommand(migrate)?
+        .subcommand(dossier)?
+        .subcommand(check)?;
     Ok(program)
 }
 
@@ -84,6 +89,17 @@ fn migrate<'a>(alloc: Global) -> Result<Command<'a>, AllocError>
     let to = needed(alloc, "to");
     let files = with_files(alloc, "migrate")?;
     let command = files.arg(to)?;
+    Ok(command)
+}
+
+// The dossier of a user.
+fn dossier<'a>(alloc: Global) -> Result<Command<'a>, AllocError>
+    ensures shape { IfOk result (λ command. app_of command ≡ dossier_command) }
+    ensures plain { IfOk result (λ command. (out-Command command).has_globals ≡ false) }
+{
+    let user = needed(alloc, "user");
+    let files = with_files(alloc, "dossier")?;
+    let command = files.arg(user)?;
     Ok(command)
 }
 

@@ -10,8 +10,8 @@
 //! wanting for the words themselves, it ends as `top` does for want of memory.
 //!
 //! A standard stream that was closed before the start stays closed, and no journal gets its
-//! descriptor. An audit reads journals that a server may have open, and writes to none; every other
-//! command works on them alone.
+//! descriptor. An audit and a dossier read journals that a server may have open, and write to none;
+//! a check takes none; every other command works on them alone.
 //!
 //! Read `top` first, then `main` here.
 #![tactic(auto)]
@@ -38,7 +38,7 @@ fn main(rt: HostRuntime) -> ExitCode {
         let _given = write_all(&mut complaints, b"cqe: out of memory\n");
         return ExitCode::from(OUT_OF_MEMORY);
     };
-    let mut shelf = if is_audit(&words) {
+    let mut shelf = if only_reads(&words) {
         FileShelf::for_reading(rt.alloc(), &rt)
     } else {
         FileShelf::new(rt.alloc(), &rt)
@@ -81,10 +81,10 @@ fn hold_below(rt: &HostRuntime, how: &OpenOptions, limit: i32) -> io::Result<Opt
     }
 }
 
-// Whether the first word is the command that writes to no journal.
-fn is_audit(words: &[String]) -> bool {
+// Whether the first word is a command that writes to no journal.
+fn only_reads(words: &[String]) -> bool {
     match words.first() {
-        Some(word) => word.as_str() == "audit",
+        Some(word) => matches!(word.as_str(), "audit" | "dossier" | "check"),
         None => false,
     }
 }

@@ -12,6 +12,10 @@ use Rattle.batch_engine.specs.declared.run.BatchEnd.{BatchEnd}
 use Rattle.batch_engine.specs.declared.run.BatchEnd.TheVariants as batch_end
 use Rattle.case_engine.specs.declared.case.CaseEnd.{CaseEnd}
 use Rattle.case_engine.specs.declared.case.CaseEnd.TheVariants as case_end
+use Rattle.dossier_engine.specs.declared.end.CheckEnd.{CheckEnd}
+use Rattle.dossier_engine.specs.declared.end.CheckEnd.TheVariants as check_end
+use Rattle.dossier_engine.specs.declared.end.DossierEnd.{DossierEnd}
+use Rattle.dossier_engine.specs.declared.end.DossierEnd.TheVariants as dossier_end
 use Rattle.outside.specs.Shelf.{SomeRose}
 use Rattle.init_engine.specs.declared.end.InitEnd.{InitEnd}
 use Rattle.init_engine.specs.declared.end.InitEnd.TheVariants as init_end
@@ -111,6 +115,23 @@ module _ (s : Scene) where
   audit_cause name audit_end.WriteFault write shelf = has_cause _ (write refl)
   audit_cause name audit_end.ShelfFault write shelf = has_cause _ (shelf refl)
   audit_cause name audit_end.Memory write shelf = has_cause _ tt
+
+  pub dossier_cause : (name : Bor (List ℕ)) (end : DossierEnd) → (end ≡ dossier_end.WriteFault → HasRisen s.output.faults)
+      → (end ≡ dossier_end.ShelfFault → HasRisen s.shelf.faults)
+      → FaultsHaveCauses s (ends.Dossier name end)
+  dossier_cause name dossier_end.Done write shelf = has_cause _ tt
+  dossier_cause name (dossier_end.Refused why) write shelf = has_cause _ tt
+  dossier_cause name dossier_end.WriteFault write shelf = has_cause _ (write refl)
+  dossier_cause name dossier_end.ShelfFault write shelf = has_cause _ (shelf refl)
+  dossier_cause name dossier_end.Memory write shelf = has_cause _ tt
+
+  pub check_cause : (end : CheckEnd) → (end ≡ check_end.ReadFault → HasRisen s.input.faults)
+      → (end ≡ check_end.WriteFault → HasRisen s.output.faults) → FaultsHaveCauses s (ends.Check end)
+  check_cause check_end.Done read write = has_cause _ tt
+  check_cause (check_end.Refused why) read write = has_cause _ tt
+  check_cause check_end.ReadFault read write = has_cause _ (read refl)
+  check_cause check_end.WriteFault read write = has_cause _ (write refl)
+  check_cause check_end.Memory read write = has_cause _ tt
 
   pub selfrun_cause : (end : SelfrunEnd) → (end ≡ selfrun_end.WriteFault → HasRisen s.output.faults) → FaultsHaveCauses s (ends.Selfrun end)
   selfrun_cause selfrun_end.Done write = has_cause _ tt

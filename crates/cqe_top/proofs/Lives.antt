@@ -22,7 +22,7 @@ use Rattle.batch_engine.specs.declared.run.BatchEnd.{BatchEnd}
 use Rattle.batch_engine.specs.declared.run.BatchEnd.TheVariants as batch_end
 use Rattle.batch_engine.proofs.Joining.{batches_are_spans, cut_batches_are_calls, batches_join, cut_batches_join, late_batches_join}
 use Rattle.command_words.specs.Readings.{Reading, FileNames, reading_of, runs_case, runs_init, runs_batch, runs_audit, runs_selfrun, runs_serve}
-use Rattle.command_words.specs.Readings.{runs_migrate}
+use Rattle.command_words.specs.Readings.{runs_migrate, runs_dossier, runs_check}
 use Rattle.desk_crew.proofs.Lasting.{keeps_same, keeps_all}
 use Rattle.policy_files.specs.Memory.{policy_user_of}
 use Rattle.policy_files.specs.Policies.{PolicyUser, PolicyValue}
@@ -37,6 +37,7 @@ use Rattle.cqe_top.specs.declared.end.CommandEnd.{CommandEnd}
 use Rattle.cqe_top.specs.declared.end.CommandEnd.TheVariants as end
 use Rattle.cqe_top.specs.Audit.{AuditEnds, OfAudit}
 use Rattle.cqe_top.specs.Batch.{BatchEnds, RunsBatch, OfBatch, AnswersOverFiles}
+use Rattle.cqe_top.specs.Dossier.{DossierEnds, OfDossier}
 use Rattle.cqe_top.specs.Files.{both, said_on, SayOn, journals_of, new_user, new_users}
 use Rattle.cqe_top.specs.Lives.{TellsAll, IsEndOf, BatchCallsJoin, IsLeft, LeavesPart, LeavesParts, UsesJournals, CallsAreParts}
 use Rattle.cqe_top.specs.Promise.{Promise, OfReading}
@@ -265,6 +266,8 @@ module _ {F D : Type 0} (Shelf : ShelfGhosts F D) (Disk : DiskGhosts D) (old new
     of_batch (end.Selfrun run) runs = absurd runs
     of_batch (end.Serve users served) runs = absurd runs
     of_batch (end.Migrate users moved) runs = absurd runs
+    of_batch (end.Dossier name shown) runs = absurd runs
+    of_batch (end.Check checked) runs = absurd runs
 
     of_audit : (user : Text) (json : Bool) (e : CommandEnd) → AuditEnds shelf output files user json e → Parts
     of_audit user json (end.Audit name engine_end) runs =
@@ -280,6 +283,25 @@ module _ {F D : Type 0} (Shelf : ShelfGhosts F D) (Disk : DiskGhosts D) (old new
     of_audit user json (end.Selfrun run) runs = absurd runs
     of_audit user json (end.Serve users served) runs = absurd runs
     of_audit user json (end.Migrate users moved) runs = absurd runs
+    of_audit user json (end.Dossier name shown) runs = absurd runs
+    of_audit user json (end.Check checked) runs = absurd runs
+
+    of_dossier : (user : Text) (e : CommandEnd) → DossierEnds shelf output files user e → Parts
+    of_dossier user (end.Dossier name engine_end) runs =
+        inl (keeps_all Disk files.directory (Shelf.disk old) (Shelf.disk new) (Shelf.disk_faults old) (Shelf.disk_faults new) (runs.bytes tells)
+        (runs.images tells) (runs.moments tells))
+    of_dossier user end.Nobody finds = inl (kept_disks finds.disks)
+    of_dossier user (end.Files why) runs = inl (kept_disks runs.0.disks)
+    of_dossier user end.Memory runs = inl (kept_disks (same_disks runs.0))
+    of_dossier user end.Usage runs = absurd runs
+    of_dossier user (end.Case case) runs = absurd runs
+    of_dossier user (end.Init users init) runs = absurd runs
+    of_dossier user (end.Batch users batched) runs = absurd runs
+    of_dossier user (end.Audit name audit) runs = absurd runs
+    of_dossier user (end.Selfrun run) runs = absurd runs
+    of_dossier user (end.Serve users served) runs = absurd runs
+    of_dossier user (end.Migrate users moved) runs = absurd runs
+    of_dossier user (end.Check checked) runs = absurd runs
 
     of_serve : (address : Text) (workers limit : ℕ) (e : CommandEnd) → ServeEnds shelf links files address workers limit e → Parts
     of_serve address workers limit (end.Serve users engine_end) runs =
@@ -298,6 +320,8 @@ module _ {F D : Type 0} (Shelf : ShelfGhosts F D) (Disk : DiskGhosts D) (old new
     of_serve address workers limit (end.Audit name audit) runs = absurd runs
     of_serve address workers limit (end.Selfrun run) runs = absurd runs
     of_serve address workers limit (end.Migrate users moved) runs = absurd runs
+    of_serve address workers limit (end.Dossier name shown) runs = absurd runs
+    of_serve address workers limit (end.Check checked) runs = absurd runs
 
     of_reading : (r : Option Reading) (e : CommandEnd) → OfReading (scene_of shelf input output links) r e → UsesJournals files r → Parts
     of_reading (Some (runs_batch its workers)) e of same =
@@ -306,11 +330,14 @@ module _ {F D : Type 0} (Shelf : ShelfGhosts F D) (Disk : DiskGhosts D) (old new
         of_audit user json e (subst (λ (f : FileNames). OfAudit (scene_of shelf input output links) f user json e) same of).ends
     of_reading (Some (runs_serve its address workers limit)) e of same =
         of_serve address workers limit e (subst (λ (f : FileNames). OfServe (scene_of shelf input output links) f address workers limit e) same of).ends
+    of_reading (Some (runs_dossier its user)) e of same =
+        of_dossier user e (subst (λ (f : FileNames). OfDossier (scene_of shelf input output links) f user e) same of).ends
     of_reading None e of uses = absurd uses
     of_reading (Some runs_case) e of uses = absurd uses
     of_reading (Some (runs_init its)) e of uses = absurd uses
     of_reading (Some (runs_selfrun seed users asks)) e of uses = absurd uses
     of_reading (Some (runs_migrate its to)) e of uses = absurd uses
+    of_reading (Some (runs_check policy_file facts user)) e of uses = absurd uses
 
 pub calls_are_parts : {F D : Type 0} (Shelf : ShelfGhosts F D) (Disk : DiskGhosts D) (old new : F) (input : Input) (output : Output) (links : LinksScene)
     (complaints : Output) → ((d : D) (c : List ℕ) → Disk.image_since d (Disk.moment d) c → Disk.image d c)

@@ -9,7 +9,8 @@ use Rattle.line_protocol.specs.Words.{number_in}
 use Rattle.cqe_top.specs.Steps.{WorkersBounds, ServesBounds}
 use Rattle.command_words.specs.Readings.{Reading, FileNames, runs_init, runs_batch, runs_selfrun, runs_serve, reading_of, reading_with, reading_by, do_fit}
 use Rattle.command_words.specs.Readings.{CommandRow, case_row, init_row, batch_row, audit_row, selfrun_row, serve_row, files_of, audit_said, selfrun_said}
-use Rattle.command_words.specs.Readings.{batch_said, serve_said, value_of, is_used, runs_migrate, migrate_row, migrate_said}
+use Rattle.command_words.specs.Readings.{batch_said, serve_said, value_of, is_used, runs_migrate, migrate_row, migrate_said, dossier_row, dossier_said}
+use Rattle.command_words.specs.Readings.{check_row, check_said}
 
 -- a number between two, or one of them
 abbrev IsWithin : ℕ → ℕ → ℕ → Type 0
@@ -98,6 +99,17 @@ no_audit None user json = tt
 no_audit (Some files) None json = tt
 no_audit (Some files) (Some user) json = tt
 
+no_dossier : (files : Option FileNames) (user : Option (List ℕ)) → IfSome (dossier_said files user) Keeps
+no_dossier None user = tt
+no_dossier (Some files) None = tt
+no_dossier (Some files) (Some user) = tt
+
+no_check : (policy facts user : Option (List ℕ)) → IfSome (check_said policy facts user) Keeps
+no_check None facts user = tt
+no_check (Some policy) None user = tt
+no_check (Some policy) (Some facts) None = tt
+no_check (Some policy) (Some facts) (Some user) = tt
+
 of_migrate : (files : Option FileNames) (to : Option (List ℕ)) → IfSome (migrate_said files to) Keeps
 of_migrate None to = tt
 of_migrate (Some files) None = tt
@@ -121,30 +133,37 @@ unfolding reading_of
 in_bounds [] = tt
 in_bounds (command ∷ words) =
     by (bytes_eq (codes "case") command) (bytes_eq (codes "init") command) (bytes_eq (codes "batch") command) (bytes_eq (codes "audit") command)
-    (bytes_eq (codes "selfrun") command) (bytes_eq (codes "serve") command) (bytes_eq (codes "migrate") command)
+    (bytes_eq (codes "selfrun") command) (bytes_eq (codes "serve") command) (bytes_eq (codes "migrate") command) (bytes_eq (codes "dossier") command)
+    (bytes_eq (codes "check") command)
   where
-    by : (a b c d e f g : Bool)
+    by : (a b c d e f g h k : Bool)
         → IfSome (reading_with
         (cond a (Some case_row)
         (cond b (Some init_row)
         (cond c (Some batch_row)
-        (cond d (Some audit_row) (cond e (Some selfrun_row) (cond f (Some serve_row) (cond g (Some migrate_row) None))))))) words)
+        (cond d (Some audit_row) (cond e (Some selfrun_row) (cond f (Some serve_row) (cond g (Some migrate_row)
+        (cond h (Some dossier_row) (cond k (Some check_row) None))))))))) words)
         Keeps
-    by true b c d e f g = by_uses case_row (uses_of case_row.options words) (λ uses. tt)
-    by false true c d e f g = by_uses init_row (uses_of init_row.options words) (λ uses. no_init (files_of uses))
-    by false false true d e f g =
+    by true b c d e f g h k = by_uses case_row (uses_of case_row.options words) (λ uses. tt)
+    by false true c d e f g h k = by_uses init_row (uses_of init_row.options words) (λ uses. no_init (files_of uses))
+    by false false true d e f g h k =
         by_uses batch_row (uses_of batch_row.options words) (λ uses. of_batch (files_of uses) (value_of uses (codes "workers")))
-    by false false false true e f g =
+    by false false false true e f g h k =
         by_uses audit_row (uses_of audit_row.options words) (λ uses. no_audit (files_of uses) (value_of uses (codes "user")) (is_used uses (codes "json")))
-    by false false false false true f g =
+    by false false false false true f g h k =
         by_uses selfrun_row (uses_of selfrun_row.options words) (λ uses.
         of_run (value_of uses (codes "seed")) (value_of uses (codes "users")) (value_of uses (codes "asks")))
-    by false false false false false true g =
+    by false false false false false true g h k =
         by_uses serve_row (uses_of serve_row.options words) (λ uses.
         of_server (files_of uses) (value_of uses (codes "listen")) (value_of uses (codes "workers")) (value_of uses (codes "sessions")))
-    by false false false false false false true =
+    by false false false false false false true h k =
         by_uses migrate_row (uses_of migrate_row.options words) (λ uses. of_migrate (files_of uses) (value_of uses (codes "to")))
-    by false false false false false false false = tt
+    by false false false false false false false true k =
+        by_uses dossier_row (uses_of dossier_row.options words) (λ uses. no_dossier (files_of uses) (value_of uses (codes "user")))
+    by false false false false false false false false true =
+        by_uses check_row (uses_of check_row.options words) (λ uses.
+        no_check (value_of uses (codes "policy")) (value_of uses (codes "facts")) (value_of uses (codes "user")))
+    by false false false false false false false false false = tt
 
 -- what words say has its limits
 pub kept : (words : List (List ℕ)) (reading : Reading) → reading_of words ≡ Some reading → Keeps reading

@@ -15,6 +15,9 @@ use Rattle.cqe_base.specs.declared.user.User.{User}
 use Rattle.audit_engine.specs.Ends.{IsSilent}
 use Rattle.audit_engine.specs.declared.end.AuditEnd.{AuditEnd}
 use Rattle.audit_engine.specs.declared.end.AuditEnd.TheVariants as audit_end
+use Rattle.dossier_engine.specs.Ends as dossier
+use Rattle.dossier_engine.specs.declared.end.DossierEnd.{DossierEnd}
+use Rattle.dossier_engine.specs.declared.end.DossierEnd.TheVariants as dossier_end
 use Rattle.batch_engine.specs.Batch as batch
 use Rattle.batch_engine.specs.declared.run.BatchEnd.{BatchEnd}
 use Rattle.command_words.specs.Readings.{FileNames}
@@ -194,6 +197,14 @@ silent_end (audit_end.Refused why) fault wanted silent = absurd silent
 silent_end audit_end.WriteFault fault wanted silent = absurd silent
 silent_end audit_end.ShelfFault fault wanted silent = fault refl
 silent_end audit_end.Memory fault wanted silent = wanted refl
+
+-- so it is with dossiers
+pub silent_dossier : {S : Type 0} (end : DossierEnd) → (end ≡ dossier_end.ShelfFault → S) → (end ≡ dossier_end.Memory → S) → dossier.IsSilent end → S
+silent_dossier dossier_end.Done fault wanted silent = absurd silent
+silent_dossier (dossier_end.Refused why) fault wanted silent = absurd silent
+silent_dossier dossier_end.WriteFault fault wanted silent = absurd silent
+silent_dossier dossier_end.ShelfFault fault wanted silent = fault refl
+silent_dossier dossier_end.Memory fault wanted silent = wanted refl
 
 -- the end of a batch over other journals that are the same, and over the users of the policy
 pub batch_over : (policy : Policy) (world : FactSet) (header : List ℕ) (users : List User) (journals journals' : Journals) (end : BatchEnd)

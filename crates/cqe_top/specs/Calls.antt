@@ -169,9 +169,9 @@ module _ {F D S K E L Door In Out : Type 0} (Shelf : ShelfGhosts F D) (Disk : Di
     (Source : SourceGhosts S) (Sink : SinkGhosts K) (Complaints : SinkGhosts E)
     (Links : LinksGhosts L Door In Out) (files : FileNames) (policy : PolicyValue) (world : FactSet)
     (header : List ℕ) where
-  -- A call of `batch`, `serve` or `audit` over these files, which say this policy, these facts and
-  -- this header: its words and its status, its objects before it and behind it, and what `top`
-  -- promised.
+  -- A call of `batch`, `serve`, `audit` or `dossier` over these files, which say this policy, these
+  -- facts and this header: its words and its status, its objects before it and behind it, and what
+  -- `top` promised.
   pub record Promised : Type 0 where
     pub words : List Text
     pub status : ℕ

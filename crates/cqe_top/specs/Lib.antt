@@ -8,6 +8,8 @@ pub mod Init
 pub mod Migrate
 pub mod Batch
 pub mod Audit
+pub mod Dossier
+pub mod Check
 pub mod Selfrun
 pub mod Serve
 pub mod Promise

@@ -5,13 +5,16 @@ use Rattle.outside.specs.Streams.{AppendsUnless}
 use Rattle.cqe_base.specs.Schema.{Text}
 use Rattle.command_words.specs.Readings.{Reading, reading_of, runs_case, runs_init, runs_batch}
 use Rattle.command_words.specs.Readings.{runs_audit, runs_selfrun, runs_serve, runs_migrate}
+use Rattle.command_words.specs.Readings.{runs_dossier, runs_check}
 use Rattle.line_protocol.specs.Rests.{IsRest}
 use Rattle.cqe_top.specs.declared.end.CommandEnd.{CommandEnd}
 use Rattle.cqe_top.specs.declared.end.CommandEnd.TheVariants as command_end
 use Rattle.cqe_top.specs.Audit.{OfAudit}
 use Rattle.cqe_top.specs.Batch.{OfBatch}
 use Rattle.cqe_top.specs.Case.{OfCase}
+use Rattle.cqe_top.specs.Check.{OfCheck}
 use Rattle.cqe_top.specs.Complaints.{complaint_of}
+use Rattle.cqe_top.specs.Dossier.{OfDossier}
 use Rattle.cqe_top.specs.Init.{OfInit}
 use Rattle.cqe_top.specs.Migrate.{OfMigrate}
 use Rattle.cqe_top.specs.Reports.{status_of, report_of, FaultsHaveCauses}
@@ -36,6 +39,8 @@ OfReading s (Some (runs_selfrun seed users asks)) end = OfSelfrun s seed users a
 OfReading s (Some (runs_serve files address workers limit)) end =
     OfServe s files address workers limit end
 OfReading s (Some (runs_migrate files to)) end = OfMigrate s files to end
+OfReading s (Some (runs_dossier files user)) end = OfDossier s files user end
+OfReading s (Some (runs_check policy facts user)) end = OfCheck s policy facts user end
 
 -- of a shelf, whatever comes: its files are what they were, no disk is out, and no count of faults
 -- fell, neither that of a disk nor its own

@@ -5,7 +5,7 @@ use Rattle.cqe_base.specs.Facts.{FactSet}
 use Rattle.cqe_base.specs.Schema.{Text}
 use Rattle.command_words.specs.Readings.{Reading, FileNames, names_of_files, runs_case, runs_init}
 use Rattle.command_words.specs.Readings.{runs_batch, runs_audit, runs_selfrun, runs_serve}
-use Rattle.command_words.specs.Readings.{runs_migrate}
+use Rattle.command_words.specs.Readings.{runs_migrate, runs_dossier, runs_check}
 use Rattle.policy_files.specs.declared.error.PolicyError.{PolicyError}
 use Rattle.policy_files.specs.declared.error.FactsError.{FactsError}
 use Rattle.policy_files.specs.Policies.{PolicyValue}
@@ -14,7 +14,8 @@ use Rattle.cqe_top.specs.declared.end.FilesEnd.{FilesEnd}
 use Rattle.cqe_top.specs.declared.end.FilesEnd.TheVariants.{Missing, ShelfFault, Policy}
 use Rattle.cqe_top.specs.declared.end.FilesEnd.TheVariants.{Facts, Memory}
 use Rattle.cqe_top.specs.declared.over_files.Task.{Task}
-use Rattle.cqe_top.specs.declared.over_files.Task.TheVariants.{Init, Batch, Audit, Migrate, Serve}
+use Rattle.cqe_top.specs.declared.over_files.Task.TheVariants.{Init, Batch, OfUser, Migrate, Serve}
+use Rattle.cqe_top.specs.declared.over_files.UserTask.TheVariants.{Audit, Dossier, Check}
 use Rattle.cqe_top.specs.declared.part.Part.{Part}
 use Rattle.cqe_top.specs.declared.part.Part.TheVariants.{Case, Selfrun, OverFiles}
 
@@ -50,7 +51,9 @@ IsShelfFault end = ⊥
 abbrev pub reading_over : FileNames → Task → Reading
 reading_over files Init = runs_init files
 reading_over files (Batch workers) = runs_batch files workers
-reading_over files (Audit user json) = runs_audit files user.now json
+reading_over files (OfUser user (Audit json)) = runs_audit files user.now json
+reading_over files (OfUser user Dossier) = runs_dossier files user.now
+reading_over files (OfUser user Check) = runs_check files.policy files.facts user.now
 reading_over files (Migrate to) = runs_migrate files to.now
 reading_over files (Serve listening) =
     runs_serve files listening.address.now listening.workers listening.sessions
@@ -78,6 +81,6 @@ pub record ServesBounds (workers sessions : ℕ) : Type 0 where
 abbrev pub KeepsBounds : FileNames → Task → Type 0
 KeepsBounds files Init = Unit {0}
 KeepsBounds files (Batch workers) = WorkersBounds workers
-KeepsBounds files (Audit user json) = Unit {0}
+KeepsBounds files (OfUser user task) = Unit {0}
 KeepsBounds files (Migrate to) = bytes_eq files.directory to.now ≡ false
 KeepsBounds files (Serve listening) = ServesBounds listening.workers listening.sessions

@@ -22,7 +22,7 @@ use std::thread::Threads;
 
 /// Does all that the program does, and answers the status with which it ends: 0 done, 2 usage or no
 /// such user, 3 policy, 4 facts, 5 script, 6 read, 7 write, 8 missing file, 9 shelf, 10 journal, 11
-/// disk, 12 links, 13 memory.
+/// disk, 12 links, 13 memory, 14 dossier.
 ///
 /// The command `case` reads a script with one user from the source and writes one line for each ask
 /// to the sink. `init` reads a policy and facts from the shelf and makes an empty journal on the
@@ -35,7 +35,9 @@ use std::thread::Threads;
 /// the same files as `batch` and serves the connections that the links give at an address, side by
 /// side, until the links end or so many connections were served. It may wait, for a client, at the
 /// desks and at the gate. `migrate` reads the same files as `init` and moves the old journal of
-/// each user to a disk in another directory, which has to be empty.
+/// each user to a disk in another directory, which has to be empty. `dossier` reads the same files
+/// as `audit` and writes the history of one of the users with what shows each reply; `check` reads
+/// such a text from the source, over a policy and facts alone, and says whether it is sound.
 /// What can't be done is said to the complaints; where they fail too, nothing else changes.
 ///
 /// No clause speaks of the gate, and none says that users of a batch or connections are served side

@@ -3,7 +3,7 @@ ghost use Rattle.std.specs.Prelude.{◌≡◌};
 ghost use Rattle.command_words.specs.Readings.{reading_in};
 ghost use Rattle.cqe_top.specs.Steps.{reading_of_part};
 
-use crate::over_files::Task;
+use crate::over_files::{Task, UserTask};
 use command_words::{Command, Files, SelfrunWords};
 use serve_engine::Listening;
 
@@ -26,7 +26,10 @@ pub(crate) fn part_of<'w>(command: Command<'w>) -> Part<'w>
         Command::Case => Part::Case,
         Command::Init(files) => Part::OverFiles(files, Task::Init),
         Command::Batch(words) => Part::OverFiles(words.files, Task::Batch(words.workers)),
-        Command::Audit(words) => Part::OverFiles(words.files, Task::Audit(words.user, words.json)),
+        Command::Audit(words) => {
+            let task = Task::OfUser(words.user, UserTask::Audit(words.json));
+            Part::OverFiles(words.files, task)
+        }
         Command::Selfrun(words) => Part::Selfrun(words),
         Command::Serve(words) => {
             let listening = Listening {
@@ -37,5 +40,17 @@ pub(crate) fn part_of<'w>(command: Command<'w>) -> Part<'w>
             Part::OverFiles(words.files, Task::Serve(listening))
         }
         Command::Migrate(words) => Part::OverFiles(words.files, Task::Migrate(words.to)),
+        Command::Dossier(words) => {
+            Part::OverFiles(words.files, Task::OfUser(words.user, UserTask::Dossier))
+        }
+        Command::Check(words) => {
+            // no journal is taken
+            let files = Files {
+                policy: words.policy,
+                facts: words.facts,
+                journals: "",
+            };
+            Part::OverFiles(files, Task::OfUser(words.user, UserTask::Check))
+        }
     }
 }

@@ -9,6 +9,7 @@ use batch_engine::BatchEnd;
 use case_engine::CaseEnd;
 use cqe_base::text::ScriptError;
 use cqe_base::user::User;
+use dossier_engine::{CheckEnd, CheckRefusal, DossierEnd};
 use init_engine::InitEnd;
 use log_journal::OpenError;
 use migrate_engine::MigrateEnd;
@@ -52,6 +53,8 @@ pub enum Report<'w> {
     LinksFault,
     /// Memory was wanting.
     Memory,
+    /// The dossier is refused.
+    Dossier(CheckRefusal),
 }
 
 /// What is told of an end.
@@ -69,6 +72,8 @@ pub(crate) fn report_of<'w>(end: CommandEnd<'w>) -> Report<'w>
         CommandEnd::Selfrun(end) => of_selfrun(end),
         CommandEnd::Serve(users, end) => of_serve(users, end),
         CommandEnd::Migrate(users, end) => of_migrate(users, end),
+        CommandEnd::Dossier(name, end) => of_dossier(name, end),
+        CommandEnd::Check(end) => of_check(end),
     }
 }
 
@@ -167,6 +172,30 @@ fn of_migrate<'w>(users: Vec<User>, end: MigrateEnd) -> Report<'w>
     }
 }
 
+fn of_dossier<'w>(name: &'w str, end: DossierEnd) -> Report<'w>
+    ensures { result ≡ report_of (ends.Dossier name.entry end) }
+{
+    match end {
+        DossierEnd::Done => Report::Done,
+        DossierEnd::Refused(why) => Report::Journal(name, why),
+        DossierEnd::WriteFault => Report::WriteFault,
+        DossierEnd::ShelfFault => Report::ShelfFault,
+        DossierEnd::Memory => Report::Memory,
+    }
+}
+
+fn of_check<'w>(end: CheckEnd) -> Report<'w>
+    ensures { result ≡ report_of (ends.Check end) }
+{
+    match end {
+        CheckEnd::Done => Report::Done,
+        CheckEnd::Refused(why) => Report::Dossier(why),
+        CheckEnd::ReadFault => Report::ReadFault,
+        CheckEnd::WriteFault => Report::WriteFault,
+        CheckEnd::Memory => Report::Memory,
+    }
+}
+
 /// What is told of a batch or a serving that was answered to its end.
 fn of_answers<'w>(users: Vec<User>, refusals: Vec<Option<DeskError>>, is_broken: bool) -> Report<'w>
     ensures { result ≡ answers_report users refusals is_broken }
@@ -206,5 +235,6 @@ pub(crate) fn status_of(report: &Report<'_>) -> u8
         Report::DiskFault => 11,
         Report::LinksFault => 12,
         Report::Memory => 13,
+        Report::Dossier(_) => 14,
     }
 }

@@ -36,6 +36,16 @@ pub fn words_text(alloc: Global, line: &str) -> Result<String, AllocError> {
             let front = files_text(alloc, "migrate", &migrate.files)?;
             format!(in alloc; "{front} <{}>", migrate.to)
         }
+        Some(Command::Dossier(dossier)) => {
+            let front = files_text(alloc, "dossier", &dossier.files)?;
+            format!(in alloc; "{front} <{}>", dossier.user)
+        }
+        Some(Command::Check(check)) => {
+            format!(in alloc;
+                "check <{}> <{}> <{}>",
+                check.policy, check.facts, check.user
+            )
+        }
         None => String::from_str(alloc, "none"),
     }
 }

@@ -22,4 +22,8 @@ returns c =
     c.in_ok-subcommand-5.ensures.shape c.in_ok-selfrun.ensures.plain ∙ ap₂ with_subcommand audit (ap (λ (a : App). a.top) c.in_ok-selfrun.ensures.shape) in
     let serve =
     c.in_ok-subcommand-6.ensures.shape c.in_ok-serve.ensures.plain ∙ ap₂ with_subcommand selfrun (ap (λ (a : App). a.top) c.in_ok-serve.ensures.shape) in
-    c.in_ok-program.ensures.shape c.in_ok-migrate.ensures.plain ∙ ap₂ with_subcommand serve (ap (λ (a : App). a.top) c.in_ok-migrate.ensures.shape)
+    let migrate =
+    c.in_ok-subcommand-7.ensures.shape c.in_ok-migrate.ensures.plain ∙ ap₂ with_subcommand serve (ap (λ (a : App). a.top) c.in_ok-migrate.ensures.shape) in
+    let dossier =
+    c.in_ok-subcommand-8.ensures.shape c.in_ok-dossier.ensures.plain ∙ ap₂ with_subcommand migrate (ap (λ (a : App). a.top) c.in_ok-dossier.ensures.shape) in
+    c.in_ok-program.ensures.shape c.in_ok-check.ensures.plain ∙ ap₂ with_subcommand dossier (ap (λ (a : App). a.top) c.in_ok-check.ensures.shape)

@@ -3,7 +3,7 @@ use Rattle.std.specs.Prelude.{Some, option_map}
 use Rattle.command_words.specs.Readings.{FileNames, reading_in, names_of_files, runs_selfrun}
 use Rattle.cqe_top.specs.Steps.{reading_over, KeepsBounds}
 use Rattle.cqe_top.specs.declared.over_files.Task.{Task}
-use Rattle.cqe_top.specs.declared.over_files.Task.TheVariants.{Init, Batch, Audit, Migrate, Serve}
+use Rattle.cqe_top.specs.declared.over_files.Task.TheVariants.{Init, Batch, OfUser, Migrate, Serve}
 use Rattle.cqe_top.proofs.Numbers.{Keeps, kept}
 use Rattle.cqe_top.proofs.command.run.Goals as goal
 
@@ -11,7 +11,7 @@ use Rattle.cqe_top.proofs.command.run.Goals as goal
 bounds_of : (files : FileNames) (task : Task) → Keeps (reading_over files task) → KeepsBounds files task
 bounds_of files Init keeps = tt
 bounds_of files (Batch workers) keeps = keeps
-bounds_of files (Audit user json) keeps = tt
+bounds_of files (OfUser user task) keeps = tt
 bounds_of files (Migrate to) keeps = keeps
 bounds_of files (Serve listening) keeps = keeps
 

@@ -1,0 +1,11 @@
+pub mod Fields
+pub mod Words
+pub mod Checked
+pub mod Promised
+pub mod Reading
+pub mod Logs
+pub mod Blocks
+pub mod Items
+pub mod Written
+pub mod Told
+pub mod Adding
