@@ -4,13 +4,17 @@
 _cqe_options() {
     case $1 in
         init) echo --policy --facts --journals ;;
-        batch) echo --policy --facts --journals --workers ;;
+        batch) echo --policy --facts --journals --workers --standby ;;
         audit) echo --policy --facts --journals --user --json ;;
         selfrun) echo --seed --users --asks ;;
-        serve) echo --policy --facts --journals --listen --workers --sessions ;;
+        serve) echo --policy --facts --journals --listen --workers --sessions --standby ;;
         migrate) echo --policy --facts --journals --to ;;
+<<<<<<< HEAD
         dossier) echo --policy --facts --journals --user ;;
         check) echo --policy --facts --user ;;
+=======
+        standby) echo --policy --facts --journals --listen --sessions ;;
+>>>>>>> b-stby2
     esac
 }
 
@@ -49,7 +53,7 @@ _cqe_value() {
             mapfile -t COMPREPLY < <(compgen -d -- "$2")
             ;;
         --user) mapfile -t COMPREPLY < <(compgen -W "$(_cqe_users)" -- "$2") ;;
-        --listen) mapfile -t COMPREPLY < <(compgen -W 127.0.0.1:7007 -- "$2") ;;
+        --listen | --standby) mapfile -t COMPREPLY < <(compgen -W 127.0.0.1:7007 -- "$2") ;;
         --seed | --users | --asks | --status | --workers | --sessions | --connect-timeout | --reply-timeout) ;;
         *) return 1 ;;
     esac
@@ -109,7 +113,11 @@ _cqe() {
     elif [[ ${COMP_WORDS[0]##*/} == cqe-lrat ]]; then
         choices="--policy --facts --user --to --help"
     elif ((COMP_CWORD == 1)); then
+<<<<<<< HEAD
         choices="case init batch audit selfrun serve migrate dossier check"
+=======
+        choices="case init batch audit selfrun serve migrate standby"
+>>>>>>> b-stby2
     else
         choices=$(_cqe_options "${COMP_WORDS[1]}")
     fi

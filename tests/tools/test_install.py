@@ -188,8 +188,12 @@ class Completion(Temporary):
         table = re.findall(r"^\| `(\w+)` \|(.*)\|$", (TOP / "docs/FORMATS.md").read_text().partition("## The words")[2]
                            .partition("## Replies")[0], re.MULTILINE)
         commands = {command: re.findall(r"--\w+", options) for command, options in table}
+<<<<<<< HEAD
         self.assertEqual(set(commands), {"case", "init", "batch", "audit", "selfrun", "serve", "migrate", "dossier",
                                          "check"})
+=======
+        self.assertEqual(set(commands), {"case", "init", "batch", "audit", "selfrun", "serve", "migrate", "standby"})
+>>>>>>> b-stby2
         self.assertEqual(set(self.completed("cqe", "")), set(commands))
         for command, options in commands.items():
             self.assertEqual(set(self.completed("cqe", command, "")), set(options), command)
@@ -213,6 +217,7 @@ class Completion(Temporary):
         self.assertEqual(self.completed("cqe", "audit", "--policy", "=", "ward.policy", "--user", "=", "n"), ["nurse"])
         self.assertEqual(self.completed("cqe", "serve", "--workers", ""), [])
         self.assertEqual(self.completed("cqe", "batch", "--w"), ["--workers"])
+        self.assertEqual(self.completed("cqe", "batch", "--standby", ""), ["127.0.0.1:7007"])
 
     def test_the_options_of_cqe_ask_are_its_own(self) -> None:
         said = self.run_at(TOP / "clients/python/cqe-ask", "--help").stdout

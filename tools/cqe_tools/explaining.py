@@ -24,9 +24,9 @@ STATUSES = {
     8: "The policy file or the facts file isn't there (cqe: missing NAME).",
     9: "A file or the directory of the journals couldn't be opened (cqe: shelf fault).",
     10: "A user's journal was refused (cqe: journal NAME CAUSE), or isn't empty where one would be moved to; batch and "
-    "serve served the others.",
-    11: "A write or a sync of a journal failed (cqe: disk fault).",
-    12: "The server couldn't listen at its address, or take in a client (cqe: links fault).",
+    "serve served the others, and standby copied them.",
+    11: "A write or a sync of a journal failed, or a standby didn't answer for a record (cqe: disk fault).",
+    12: "The server or the standby couldn't listen at its address, or take in a client (cqe: links fault).",
     13: "Memory was wanting (cqe: out of memory).",
     14: "The dossier is refused (cqe: dossier KIND LINE): it doesn't show what it says.",
 }

@@ -9,18 +9,23 @@ from .schemas import similar
 FILES = {"policy": None, "facts": None, "journals": None}
 NUMBER = "a number of one to ten decimal digits"
 WORKERS = (1, 64)
+SESSIONS = (1, 1_000_000)
 
 # Of each command: the options that have to be there and those that may be left out, each with the range of its number.
 COMMANDS = {
     "case": ({}, {}),
     "init": (FILES, {}),
-    "batch": (FILES, {"workers": WORKERS}),
+    "batch": (FILES, {"workers": WORKERS, "standby": None}),
     "audit": ({**FILES, "user": None}, {"json": None}),
     "selfrun": ({"seed": (0, 4_294_967_295), "users": (1, 256), "asks": (1, 10_000)}, {}),
-    "serve": ({**FILES, "listen": None}, {"workers": WORKERS, "sessions": (1, 1_000_000)}),
+    "serve": ({**FILES, "listen": None}, {"workers": WORKERS, "sessions": SESSIONS, "standby": None}),
     "migrate": ({**FILES, "to": None}, {}),
+<<<<<<< HEAD
     "dossier": ({**FILES, "user": None}, {}),
     "check": ({"policy": None, "facts": None, "user": None}, {}),
+=======
+    "standby": ({**FILES, "listen": None}, {"sessions": SESSIONS}),
+>>>>>>> b-stby2
 }
 
 

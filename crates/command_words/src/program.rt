@@ -2,10 +2,17 @@
 ghost use Rattle.std.specs.Prelude.{◌≡◌, false, IfOk};
 ghost use Rattle.clap.specs.Words.{app_of, rule_of};
 ghost use Rattle.clap.specs.declared.builder.command.Command.TheViews.{out-Command};
+<<<<<<< HEAD
 ghost use Rattle.command_words.specs.Matched.{audit_command, batch_command, dossier_command};
 ghost use Rattle.command_words.specs.Matched.{file_command, flag_rule, migrate_command};
 ghost use Rattle.command_words.specs.Matched.{needed_rule, optional_rule, program, serve_command};
 ghost use Rattle.command_words.specs.Matched.{three_command};
+=======
+ghost use Rattle.command_words.specs.Matched.{audit_command, batch_command, file_command};
+ghost use Rattle.command_words.specs.Matched.{flag_rule, migrate_command, needed_rule};
+ghost use Rattle.command_words.specs.Matched.{optional_rule, program, serve_command};
+ghost use Rattle.command_words.specs.Matched.{standby_command, three_command};
+>>>>>>> b-stby2
 
 use clap::builder::ValueParser;
 use clap::{Arg, ArgAction, Command};
@@ -22,8 +29,12 @@ pub(crate) fn program<'a>(alloc: Global) -> Result<Command<'a>, AllocError>
     let selfrun = with_three(alloc, "selfrun", "seed", "users", "asks")?;
     let serve = serve(alloc)?;
     let migrate = migrate(alloc)?;
+<<<<<<< HEAD
     let dossier = dossier(alloc)?;
     let check = with_three(alloc, "check", "policy", "facts", "user")?;
+=======
+    let standby = standby(alloc)?;
+>>>>>>> b-stby2
     let program = Command::new(alloc, "cqe")
         .no_binary_name(true)
         .disable_help_flag(true)
@@ -37,8 +48,12 @@ pub(crate) fn program<'a>(alloc: Global) -> Result<Command<'a>, AllocError>
         .subcommand(selfrun)?
         .subcommand(serve)?
         .subcommand(migrate)?
+<<<<<<< HEAD
         .subcommand(dossier)?
         .subcommand(check)?;
+=======
+        .subcommand(standby)?;
+>>>>>>> b-stby2
     Ok(program)
 }
 
@@ -51,8 +66,9 @@ fn batch<'a>(alloc: Global) -> Result<Command<'a>, AllocError>
     ensures plain { IfOk result (λ command. (out-Command command).has_globals ≡ false) }
 {
     let workers = optional(alloc, "workers");
+    let standby = optional(alloc, "standby");
     let files = with_files(alloc, "batch")?;
-    let command = files.arg(workers)?;
+    let command = files.arg(workers)?.arg(standby)?;
     Ok(command)
 }
 
@@ -76,8 +92,25 @@ fn serve<'a>(alloc: Global) -> Result<Command<'a>, AllocError>
     let listen = needed(alloc, "listen");
     let workers = optional(alloc, "workers");
     let sessions = optional(alloc, "sessions");
+    let standby = optional(alloc, "standby");
     let files = with_files(alloc, "serve")?;
-    let command = files.arg(listen)?.arg(workers)?.arg(sessions)?;
+    let command = files
+        .arg(listen)?
+        .arg(workers)?
+        .arg(sessions)?
+        .arg(standby)?;
+    Ok(command)
+}
+
+// The standby.
+fn standby<'a>(alloc: Global) -> Result<Command<'a>, AllocError>
+    ensures shape { IfOk result (λ command. app_of command ≡ standby_command) }
+    ensures plain { IfOk result (λ command. (out-Command command).has_globals ≡ false) }
+{
+    let listen = needed(alloc, "listen");
+    let sessions = optional(alloc, "sessions");
+    let files = with_files(alloc, "standby")?;
+    let command = files.arg(listen)?.arg(sessions)?;
     Ok(command)
 }
 

@@ -6,6 +6,7 @@ use Rattle.std.specs.Borrow.{Bor}
 use Rattle.std.specs.declared.alloc.Global.{Global}
 use Rattle.outside.specs.Faults.{Rose}
 use Rattle.outside.specs.Shelf.{bytes_on}
+use Rattle.outside.specs.declared.links.Links.{Ghosts as LinksGhosts}
 use Rattle.cqe_base.specs.Schema.{Text}
 use Rattle.cqe_base.specs.Facts.{FactSet}
 use Rattle.cqe_base.specs.Transcript.{NamedUser}
@@ -19,7 +20,11 @@ use Rattle.case_engine.specs.Script.{script_of}
 use Rattle.case_engine.specs.declared.case.CaseEnd.{CaseEnd}
 use Rattle.case_engine.specs.declared.case.CaseEnd.TheVariants as case_end
 use Rattle.command_words.specs.Readings.{FileNames, Reading, runs_case, runs_init, runs_batch, runs_audit, runs_selfrun, runs_serve, runs_migrate}
+<<<<<<< HEAD
 use Rattle.command_words.specs.Readings.{runs_dossier, runs_check}
+=======
+use Rattle.command_words.specs.Readings.{runs_copied_batch, runs_copied_serve, runs_standby}
+>>>>>>> b-stby2
 use Rattle.desk_crew.specs.Shelved.{Journals}
 use Rattle.dossier_engine.specs.Checks.{checked_bytes}
 use Rattle.dossier_engine.specs.declared.end.CheckEnd.{CheckEnd}
@@ -48,16 +53,22 @@ use Rattle.cqe_top.specs.declared.report.Report.TheVariants as report
 use Rattle.cqe_top.specs.Audit.{NamesNobody, CanBeAudited, AuditsOverFiles, RunsAudit, FindsNobody, AuditSucceeds}
 use Rattle.cqe_top.specs.Batch.{AnswersOverFiles, RunsBatch, BatchSucceeds}
 use Rattle.cqe_top.specs.Case.{RunsCase}
+<<<<<<< HEAD
 use Rattle.cqe_top.specs.Check.{two_files, CanBeChecked, ChecksOverFiles, RunsCheck, CheckSucceeds}
 use Rattle.cqe_top.specs.Dossier.{ShowsOverFiles, RunsDossier, DossierSucceeds}
+=======
+use Rattle.cqe_top.specs.Copied.{KeepsDoors}
+>>>>>>> b-stby2
 use Rattle.cqe_top.specs.Files.{Said, both, SayOn, IsUnread, IsWhyUnread, journals_of, new_user}
 use Rattle.cqe_top.specs.Init.{Makes, RunsInit, InitSucceeds}
 use Rattle.cqe_top.specs.Migrate.{MovesJournals, RunsMigrate, MigrateSucceeds}
 use Rattle.cqe_top.specs.Promise.{OfReading}
-use Rattle.cqe_top.specs.Ready.{CanBeMade, CanBeMoved, CanBeOpened}
+use Rattle.cqe_top.specs.Ready.{CanBeMade, CanBeMoved, CanBeOpened, CanBeCopied}
 use Rattle.cqe_top.specs.Reports.{answers_report, has_refusal, IsDoneUnlessMemory, FaultsHaveCauses}
-use Rattle.cqe_top.specs.Scene.{Scene, ShelfScene, IsUntouched, HasRisen, SameInput, SameOutput, SameLinks}
-use Rattle.cqe_top.specs.Steps.{reading_over}
+use Rattle.cqe_top.specs.Scene.{Scene, ShelfScene, IsUntouched, HasRisen, SameInput, SameOutput, SameLinks, links_of}
+use Rattle.cqe_top.specs.Steps.{reading_over, reading_copied}
+use Rattle.cqe_top.specs.declared.copied.CopiedTask.{CopiedTask}
+use Rattle.cqe_top.specs.declared.copied.CopiedTask.TheVariants as copied
 use Rattle.cqe_top.specs.declared.over_files.Task.{Task}
 use Rattle.cqe_top.specs.declared.over_files.Task.TheVariants as task
 use Rattle.cqe_top.specs.declared.over_files.UserTask.{UserTask}
@@ -465,6 +476,42 @@ unread s files (task.Serve listening) end is cause input output links = record {
   reads_nothing = input;
   writes_nothing = output;
 }
+unread s files (task.Standby copying) end is cause input output links = record {
+  ends = (is, links);
+  succeeds = λ told links_told says shelf links. read_succeeds s files (CanBeCopied (journals_of s.shelf files)) end (is.refused told) cause says shelf;
+  reads_nothing = input;
+  writes_nothing = output;
+}
+
+-- so it is where they were to be done with a standby, whatever became of the links' second count
+pub unread_copied : (s : Scene) (files : FileNames) (task : CopiedTask) (standby : Text) (end : FilesEnd) → IsUnread s.shelf files end
+    → FaultsHaveCauses s (ends.Files end) → SameInput s.input → SameOutput s.output → KeepsDoors s.links
+    → OfReading s (Some (reading_copied files task standby)) (ends.Files end)
+unread_copied s files (copied.Batch workers) standby end is cause input output links = record {
+  ends = (is, input, output);
+  succeeds = λ told in_told out_told script says shelf read write.
+      read_succeeds s files (CanBeOpened (journals_of s.shelf files)) end (is.refused told) cause says shelf;
+  listens_nowhere = inr links;
+}
+unread_copied s files (copied.Serve listening) standby end is cause input output links = record {
+  ends = (is, links);
+  succeeds = λ told links_told says shelf links. read_succeeds s files (CanBeOpened (journals_of s.shelf files)) end (is.refused told) cause says shelf;
+  reads_nothing = input;
+  writes_nothing = output;
+}
+
+-- the links of a scene that are what they were keep their doors
+pub doors_same : {L Door Dial In Out : Type 0} (Links : LinksGhosts L Door Dial In Out) (links : L) → KeepsDoors (links_of Links links links)
+doors_same Links links = record {
+  faults = refl;
+  out = refl;
+  ended = refl;
+  given = λ told. refl;
+  left = λ told. refl;
+  at_hand = λ told. refl;
+  back = λ told. refl;
+  listened = λ told. refl;
+}
 
 -- ---- memory that is wanting for the words
 
@@ -500,3 +547,24 @@ nothing_begun s same (Some (runs_serve files address workers sessions)) =
     }
 nothing_begun s same (Some (runs_migrate files to)) =
     record { ends = same.shelf; succeeds = λ told says shelf. inr refl; reads_nothing = same.input; writes_nothing = same.output; listens_nowhere = same.links }
+nothing_begun s same (Some (runs_copied_batch files workers standby)) = record {
+  ends = (same.shelf, same.input, same.output);
+  succeeds = λ told in_told out_told script says shelf read write. inr refl;
+  listens_nowhere = inl same.links;
+}
+nothing_begun s same (Some (runs_copied_serve files address workers sessions standby)) =
+    record {
+      ends =
+          (same.shelf, same.links);
+      succeeds = λ told links_told says shelf links. inr refl;
+      reads_nothing = same.input;
+      writes_nothing = same.output;
+    }
+nothing_begun s same (Some (runs_standby files address sessions)) =
+    record {
+      ends =
+          (same.shelf, same.links);
+      succeeds = λ told links_told says shelf links. inr refl;
+      reads_nothing = same.input;
+      writes_nothing = same.output;
+    }

@@ -36,6 +36,8 @@ use Rattle.policy_files.specs.Users.{names_of}
 use Rattle.policy_files.specs.declared.policy.Policy.{Policy}
 use Rattle.serve_engine.specs.Serving as serving
 use Rattle.serve_engine.specs.declared.run.ServeEnd.{ServeEnd}
+use Rattle.standby_engine.specs.Standing as standing
+use Rattle.standby_engine.specs.declared.run.CopyEnd.{CopyEnd}
 use Rattle.cqe_top.specs.Files.{TouchesOnlyJournals, CountsOnlyJournals, journals_of, new_users}
 use Rattle.cqe_top.specs.Init.{change_on, NamesOneOf}
 use Rattle.cqe_top.specs.Migrate.{CountsOnlyBoth, IsAtOneOf}
@@ -239,6 +241,14 @@ pub serve_left : (policy : Policy) (world : FactSet) (header : List ℕ) (users 
 serve_left policy world header users journals journals' end same are left =
     subst (λ (j : Journals). serving.LeavesJournals policy.schema world header j policy.users.items end) same
     (subst (λ us. serving.LeavesJournals policy.schema world header journals us end) are left)
+
+-- and what a standby leaves
+pub copies_left : (policy : Policy) (header : List ℕ) (users : List User) (journals journals' : Journals) (end : CopyEnd)
+    → journals ≡ journals' → users ≡ policy.users.items → standing.LeavesCopies header journals users end
+    → standing.LeavesCopies header journals' policy.users.items end
+copies_left policy header users journals journals' end same are left =
+    subst (λ (j : Journals). standing.LeavesCopies header j policy.users.items end) same
+    (subst (λ us. standing.LeavesCopies header journals us end) are left)
 
 -- a user at whom the making of journals stopped is one of them
 is_within : (users : List User) (number : ℕ) (name : Text) → slice_get (init.user_names users) number ≡ Some name → number < length users

@@ -12,6 +12,8 @@ pub mod Dossier
 pub mod Check
 pub mod Selfrun
 pub mod Serve
+pub mod Copied
+pub mod Standby
 pub mod Promise
 pub mod Lives
 pub mod Calls

@@ -15,6 +15,7 @@ use Rattle.init_engine.specs.declared.end.InitEnd.TheVariants as init_end
 use Rattle.migrate_engine.specs.declared.end.MigrateEnd.TheVariants as migrate_end
 use Rattle.selfrun_engine.specs.declared.end.SelfrunEnd.TheVariants as selfrun_end
 use Rattle.serve_engine.specs.declared.run.ServeEnd.TheVariants as serve_end
+use Rattle.standby_engine.specs.declared.run.CopyEnd.TheVariants as copy_end
 use Rattle.cqe_top.specs.declared.end.FilesEnd.TheVariants as files_end
 use Rattle.cqe_top.specs.declared.end.CommandEnd.{CommandEnd}
 use Rattle.cqe_top.specs.declared.end.CommandEnd.TheVariants as command_end
@@ -100,6 +101,11 @@ report_of (command_end.Serve users (serve_end.Done refusals broken)) =
 report_of (command_end.Serve users serve_end.LinksFault) = LinksFault
 report_of (command_end.Serve users serve_end.ShelfFault) = ShelfFault
 report_of (command_end.Serve users serve_end.Memory) = Memory
+report_of (command_end.Standby users (copy_end.Done refusals broken)) =
+    answers_report users refusals broken
+report_of (command_end.Standby users copy_end.LinksFault) = LinksFault
+report_of (command_end.Standby users copy_end.ShelfFault) = ShelfFault
+report_of (command_end.Standby users copy_end.Memory) = Memory
 report_of (command_end.Migrate users migrate_end.Done) = Done
 report_of (command_end.Migrate users (migrate_end.Refused user why)) = JournalAt users user why
 report_of (command_end.Migrate users (migrate_end.NotEmpty user)) = TargetAt users user

@@ -9,6 +9,7 @@ use migrate_engine::MigrateEnd;
 use policy_files::{FactsError, PolicyError};
 use selfrun_engine::SelfrunEnd;
 use serve_engine::ServeEnd;
+use standby_engine::CopyEnd;
 
 /// How a command ends: by the end of its engine with what names its cause, or before that.
 #[derive(Drop)]
@@ -36,10 +37,15 @@ pub enum CommandEnd<'w> {
     Serve(Vec<User>, ServeEnd),
     /// The moving of these users' journals did.
     Migrate(Vec<User>, MigrateEnd),
+<<<<<<< HEAD
     /// The dossier of the user of this name did.
     Dossier(&'w str, DossierEnd),
     /// The check of a dossier did.
     Check(CheckEnd),
+=======
+    /// A standby with copies of these users' journals did.
+    Standby(Vec<User>, CopyEnd),
+>>>>>>> b-stby2
 }
 
 /// Why a policy file and a facts file weren't read: by the first of them of which that is so.

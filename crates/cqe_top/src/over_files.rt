@@ -20,6 +20,7 @@ use init_engine::run_init;
 use migrate_engine::run_migrate;
 use outside::{Gate, Links, Shelf, Sink, Source};
 use serve_engine::{Listening, run_serve};
+use standby_engine::{Copying, run_standby};
 use std::alloc::Global;
 use std::sync::Wait;
 use std::thread::Threads;
@@ -38,6 +39,8 @@ pub(crate) enum Task<'w> {
     Migrate(&'w str),
     /// Connections are served.
     Serve(Listening<'w>),
+    /// The journals of another program are copied.
+    Standby(Copying<'w>),
 }
 
 /// What is done for one user.
@@ -146,6 +149,19 @@ where
             law_openings();
             let end = run_serve(rt, alloc, &registry, shelf, links, listening, gate);
             CommandEnd::Serve(inputs.policy.users, end)
+        }
+        Task::Standby(copying) => {
+            let end = run_standby(
+                rt,
+                alloc,
+                registry.users,
+                registry.header,
+                registry.directory,
+                shelf,
+                links,
+                copying,
+            );
+            CommandEnd::Standby(inputs.policy.users, end)
         }
     }
 }

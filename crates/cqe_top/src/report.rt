@@ -16,6 +16,7 @@ use migrate_engine::MigrateEnd;
 use policy_files::{FactsError, PolicyError};
 use selfrun_engine::SelfrunEnd;
 use serve_engine::ServeEnd;
+use standby_engine::CopyEnd;
 use user_desk::DeskError;
 
 /// What is told of an end: by its status, and by its complaint, whose parts stand here.
@@ -72,8 +73,12 @@ pub(crate) fn report_of<'w>(end: CommandEnd<'w>) -> Report<'w>
         CommandEnd::Selfrun(end) => of_selfrun(end),
         CommandEnd::Serve(users, end) => of_serve(users, end),
         CommandEnd::Migrate(users, end) => of_migrate(users, end),
+<<<<<<< HEAD
         CommandEnd::Dossier(name, end) => of_dossier(name, end),
         CommandEnd::Check(end) => of_check(end),
+=======
+        CommandEnd::Standby(users, end) => of_standby(users, end),
+>>>>>>> b-stby2
     }
 }
 
@@ -172,6 +177,7 @@ fn of_migrate<'w>(users: Vec<User>, end: MigrateEnd) -> Report<'w>
     }
 }
 
+<<<<<<< HEAD
 fn of_dossier<'w>(name: &'w str, end: DossierEnd) -> Report<'w>
     ensures { result ≡ report_of (ends.Dossier name.entry end) }
 {
@@ -197,6 +203,20 @@ fn of_check<'w>(end: CheckEnd) -> Report<'w>
 }
 
 /// What is told of a batch or a serving that was answered to its end.
+=======
+fn of_standby<'w>(users: Vec<User>, end: CopyEnd) -> Report<'w>
+    ensures { result ≡ report_of (ends.Standby users end) }
+{
+    match end {
+        CopyEnd::Done(refusals, is_broken) => of_answers(users, refusals, is_broken),
+        CopyEnd::LinksFault => Report::LinksFault,
+        CopyEnd::ShelfFault => Report::ShelfFault,
+        CopyEnd::Memory => Report::Memory,
+    }
+}
+
+/// What is told of a batch, a serving or a standby that came to its end.
+>>>>>>> b-stby2
 fn of_answers<'w>(users: Vec<User>, refusals: Vec<Option<DeskError>>, is_broken: bool) -> Report<'w>
     ensures { result ≡ answers_report users refusals is_broken }
 {

@@ -1,5 +1,5 @@
 use crate::{TcpDoor, TcpLinks};
-use outside::{Door, Failed, Links, LinksError, Sink, Source, write_all};
+use outside::{Dial, Door, Failed, Links, LinksError, Sink, Source, write_all};
 use std::alloc::Global;
 use std::cell::Cell;
 use std::io::{self, Read, Write};
@@ -200,5 +200,22 @@ fn a_connection_waits_longer_once_its_client_was_heard(rt: HostRuntime) -> Resul
     assert_eq!(rt; reader.read(&mut [0; 4])?, 1);
     assert_eq!(rt; output.read_timeout()?, Some(Duration::from_secs(600)));
     links.take_back(door);
+    Ok(())
+}
+
+#[test]
+fn a_standby_that_is_not_reached_is_a_fault(rt: HostRuntime) -> Result<(), Fail> {
+    let alloc = rt.alloc();
+    let mut links = TcpLinks::new(&rt);
+    let mut doors = links.listen(alloc, "127.0.0.1:0", 1)?;
+    let door = doors.pop().expect(&rt, "a door");
+    let address = format!(in alloc; "{}", door.address()?)?;
+    links.take_back(door);
+    let mut dial = links.dial(alloc, &address)?;
+    assert_eq!(rt; dial.exchange(b"frame", 0), Err(Failed));
+    assert_eq!(rt; dial.faults(), 1);
+    links.hang_up(dial);
+    assert_eq!(rt; links.mirror(), 1);
+    assert_eq!(rt; links.faults(), 0);
     Ok(())
 }

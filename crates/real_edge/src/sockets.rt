@@ -9,7 +9,7 @@ use crate::waits::{
     FIRST_BYTES, FIRST_PAUSE, LAST_PIECES, LAST_WAIT, LONGEST_PAUSE, PIECE, STUCK_WRITE,
     TRIES_AGAIN,
 };
-use crate::{StreamSink, StreamSource};
+use crate::{StreamSink, StreamSource, TcpDial};
 use outside::{Door, Failed, Links, LinksError};
 use std::alloc::{AllocError, Global};
 use std::io::{self, Read, Write};
@@ -161,27 +161,39 @@ where
 }
 
 /// What opens sockets that a runtime reaches, each by its address, as `127.0.0.1:7007`. The doors
-/// of one `listen` share one socket. A `listen` that fails is counted and isn't tried again.
+/// of one `listen` share one socket. A `listen` that fails is counted and isn't tried again. Its
+/// dials call a standby over connections of their own.
 #[derive(Drop)]
 pub struct TcpLinks<'r, R> {
     runtime: &'r R,
     out: u64,
     faults: u64,
+    // The faults of the dials that were hung up.
+    mirror: u64,
 }
 
 impl<'r, R> TcpLinks<'r, R> {
-    ghost use Rattle.real_edge.specs.Counts.{links_faults, links_out};
+    ghost use Rattle.real_edge.specs.Counts.{links_faults, links_out, links_mirror};
 
     /// Links that haven't failed and have opened no door.
     pub fn new(runtime: &'r R) -> Self
         ensures faultless { links_faults result ≡ 0 }
         ensures none_out { links_out result ≡ 0 }
+        ensures mirror { links_mirror result ≡ 0 }
     {
         TcpLinks {
             runtime,
             out: 0,
             faults: 0,
+            mirror: 0,
         }
+    }
+
+    /// The faults of the dials that were hung up.
+    pub fn mirror(&self) -> u64
+        ensures { result ≡ links_mirror self.now }
+    {
+        self.mirror
     }
 
     /// How often it failed.
@@ -197,9 +209,11 @@ where
     R::Listener: Send,
     R::Stream: Send,
 {
-    ghost use Rattle.real_edge.specs.Counts.{links_faults, links_out};
+    ghost use Rattle.real_edge.specs.Counts.{links_faults, links_out, links_mirror};
 
     type D = TcpDoor<'r, R, R::Listener>;
+
+    type Dial = TcpDial<'r, R>;
 
     ghost tells = { ⊥ };
 
@@ -218,6 +232,8 @@ where
     ghost listened = { λ links. [] };
 
     ghost faults = { links_faults };
+
+    ghost mirror = { links_mirror };
 
     ghost tells_doors = { λ told. told };
 
@@ -250,6 +266,15 @@ where
             self.faults = self.faults.saturating_add(1);
         }
         self.out -= 1;
+    }
+
+    fn dial(&mut self, alloc: Global, address: &str) -> Result<TcpDial<'r, R>, AllocError> {
+        let address = String::from_str(alloc, address)?;
+        Ok(TcpDial::new(self.runtime, address))
+    }
+
+    fn hang_up(&mut self, dial: TcpDial<'r, R>) {
+        self.mirror = self.mirror.saturating_add(dial.faults());
     }
 }
 

@@ -1,9 +1,16 @@
 use Rattle.std.proofs.Common.{sym, ap, ◌∙◌, map, string_bytes}
 use Rattle.std.specs.Prelude.{Some, option_map}
+use Rattle.cqe_base.specs.Schema.{Text}
 use Rattle.command_words.specs.Readings.{FileNames, reading_in, names_of_files, runs_selfrun}
-use Rattle.cqe_top.specs.Steps.{reading_over, KeepsBounds}
+use Rattle.cqe_top.specs.Steps.{reading_over, reading_copied, KeepsBounds, KeepsCopiedBounds}
 use Rattle.cqe_top.specs.declared.over_files.Task.{Task}
+<<<<<<< HEAD
 use Rattle.cqe_top.specs.declared.over_files.Task.TheVariants.{Init, Batch, OfUser, Migrate, Serve}
+=======
+use Rattle.cqe_top.specs.declared.over_files.Task.TheVariants.{Init, Batch, Audit, Migrate, Serve, Standby}
+use Rattle.cqe_top.specs.declared.copied.CopiedTask.{CopiedTask}
+use Rattle.cqe_top.specs.declared.copied.CopiedTask.TheVariants as copied
+>>>>>>> b-stby2
 use Rattle.cqe_top.proofs.Numbers.{Keeps, kept}
 use Rattle.cqe_top.proofs.command.run.Goals as goal
 
@@ -14,6 +21,12 @@ bounds_of files (Batch workers) keeps = keeps
 bounds_of files (OfUser user task) keeps = tt
 bounds_of files (Migrate to) keeps = keeps
 bounds_of files (Serve listening) keeps = keeps
+bounds_of files (Standby copying) keeps = keeps
+
+-- so does one with a standby
+copied_bounds_of : (files : FileNames) (task : CopiedTask) (standby : Text) → Keeps (reading_copied files task standby) → KeepsCopiedBounds task
+copied_bounds_of files (copied.Batch workers) standby keeps = keeps
+copied_bounds_of files (copied.Serve listening) standby keeps = keeps
 
 pub run_selfrun-end-requires-clause-some_user : goal.run_selfrun-end-requires-clause-some_user
 run_selfrun-end-requires-clause-some_user g c κs within =
@@ -46,3 +59,12 @@ run_over_files-requires-clause-bounds g c κs within =
     bounds_of files task
     (kept (map string_bytes c.args.words.now) (reading_over files task)
     (sym c.in-Ok-Some.ensures ∙ ap (option_map reading_in) c.in-Ok-Some.field-0-is ∙ ap Some (sym c.in-OverFiles.ensures)))
+
+pub run_copied-requires-clause-bounds : goal.run_copied-requires-clause-bounds
+run_copied-requires-clause-bounds g c κs within =
+    let files = names_of_files c.in-Copied.files in
+    let task = c.in-Copied.task in
+    let standby = c.in-Copied.standby.now in
+    copied_bounds_of files task standby
+    (kept (map string_bytes c.args.words.now) (reading_copied files task standby)
+    (sym c.in-Ok-Some.ensures ∙ ap (option_map reading_in) c.in-Ok-Some.field-0-is ∙ ap Some (sym c.in-Copied.ensures)))

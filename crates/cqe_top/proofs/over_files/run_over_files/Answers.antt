@@ -20,21 +20,38 @@ use Rattle.cqe_top.specs.Migrate.{OfMigrate, RunsMigrate}
 use Rattle.cqe_top.specs.Scene.{Scene, scene_of, shelf_of, input_of, output_of, links_of}
 use Rattle.cqe_top.specs.Promise.{OfReading}
 use Rattle.cqe_top.specs.Serve.{OfServe, RunsServe}
+use Rattle.cqe_top.specs.Standby.{OfStandby, RunsStandby}
 use Rattle.cqe_top.specs.Steps.{reading_over}
 use Rattle.cqe_top.specs.declared.end.CommandEnd.TheVariants as ends
+<<<<<<< HEAD
 use Rattle.cqe_top.specs.declared.over_files.Task.TheVariants.{OfUser}
 use Rattle.cqe_top.proofs.Causes.{files_cause, init_cause, batch_cause, audit_cause, dossier_cause, check_cause, migrate_cause, serve_cause}
+=======
+use Rattle.cqe_top.proofs.Causes.{files_cause, init_cause, batch_cause, audit_cause, migrate_cause, serve_cause, standby_cause}
+>>>>>>> b-stby2
 use Rattle.cqe_top.proofs.Finding.{is_named, one_named, named_at, nobody_named}
 use Rattle.cqe_top.proofs.Good.{unread, init_succeeds, batch_succeeds, audit_succeeds, dossier_succeeds, check_succeeds, migrate_succeeds, nobody_there}
 use Rattle.cqe_top.proofs.Over.{serve_over, init_caused, some_rose, same_journals, touches_over, init_over, others_over, bytes_over, images_over, batch_over}
+<<<<<<< HEAD
 use Rattle.cqe_top.proofs.Over.{batch_left, serve_left, one_of, silent_end, silent_dossier, counts_over, counted_over, moments_over}
 use Rattle.cqe_top.proofs.Over.{durable_over, migrate_over, migrate_caused, counts_both, at_one_of}
+=======
+use Rattle.cqe_top.proofs.Over.{batch_left, serve_left, one_of, silent_end, counts_over, counted_over, moments_over}
+use Rattle.cqe_top.proofs.Over.{copies_left, durable_over, migrate_over, migrate_caused, counts_both, at_one_of}
+>>>>>>> b-stby2
 use Rattle.cqe_top.proofs.Serving.{serve_succeeds, served_out}
+use Rattle.cqe_top.proofs.Standing.{standby_succeeds}
 use Rattle.cqe_top.proofs.Users.{batch_names_are}
 use Rattle.cqe_top.proofs.over_files.run_over_files.Given.{Over}
 use Rattle.cqe_top.proofs.over_files.run_over_files.Goals as goal
+<<<<<<< HEAD
 use Rattle.cqe_top.proofs.over_files.run_over_files.Goals.{After-drop-inputs-5, After-drop-inputs-in-Batch-4}
 use Rattle.cqe_top.proofs.over_files.run_over_files.Goals.{After-drop-inputs-in-Init-3, After-drop-inputs-in-Migrate-4, In-Err}
+=======
+use Rattle.cqe_top.proofs.over_files.run_over_files.Goals.{After-drop-inputs-4, After-drop-inputs-in-Audit-5, After-drop-inputs-in-Batch-4}
+use Rattle.cqe_top.proofs.over_files.run_over_files.Goals.{After-drop-inputs-in-Init-3, After-drop-inputs-in-Migrate-4, After-drop-inputs-in-Serve-5}
+use Rattle.cqe_top.proofs.over_files.run_over_files.Goals.{After-drop-inputs-in_default-5, In-Err}
+>>>>>>> b-stby2
 
 pub run_batch-end-requires-clause-names : goal.run_batch-end-requires-clause-names
 run_batch-end-requires-clause-names g c κs within =
@@ -43,6 +60,11 @@ run_batch-end-requires-clause-names g c κs within =
 
 pub run_serve-end-requires-clause-names : goal.run_serve-end-requires-clause-names
 run_serve-end-requires-clause-names g c κs within =
+    ap has_duplicate (ap (λ users. map (λ user. user.name) (map named_user users)) c.as_slice.ensures.value ∙ batch_names_are c.in-Ok.inputs.policy.users.items)
+    ∙ c.in-Ok.ensures.names
+
+pub run_standby-end-requires-clause-names : goal.run_standby-end-requires-clause-names
+run_standby-end-requires-clause-names g c κs within =
     ap has_duplicate (ap (λ users. map (λ user. user.name) (map named_user users)) c.as_slice.ensures.value ∙ batch_names_are c.in-Ok.inputs.policy.users.items)
     ∙ c.in-Ok.ensures.names
 
@@ -459,13 +481,13 @@ returns-in-Migrate-clause-command g c =
 
 -- ---- a server
 
-abbrev serve_scene : (g : Over) → After-drop-inputs-5 g → Scene
+abbrev serve_scene : (g : Over) → After-drop-inputs-in-Serve-5 g → Scene
 serve_scene g c =
     scene_of (shelf_of g.F.Shelf g.F.D.Disk c.args.shelf.now c.run_serve-end.new.shelf) (input_of g.S.Source c.args.source.now c.args.source.now)
     (output_of g.K.Sink c.args.sink.now c.args.sink.now) (links_of g.L.Links c.args.links.now c.run_serve-end.new.links)
 
-pub returns-clause-cause : goal.returns-clause-cause
-returns-clause-cause g c =
+pub returns-in-Serve-clause-cause : goal.returns-in-Serve-clause-cause
+returns-in-Serve-clause-cause g c =
     let read = c.in-Ok.ensures in
     let ran = c.run_serve-end.ensures in
     serve_cause (serve_scene g c) c.in-Ok.inputs.policy.users c.run_serve-end.result ran.links_cause
@@ -473,8 +495,8 @@ returns-clause-cause g c =
     (ran.shelf_cause is))
     (λ is. some_rose g.F.Shelf g.F.D.Disk c.args.shelf.now c.read_files.new.shelf c.run_serve-end.new.shelf read.disks read.counts (ran.disk_cause is))
 
-pub returns-clause-command : goal.returns-clause-command
-returns-clause-command g c =
+pub returns-in-Serve-clause-command : goal.returns-in-Serve-clause-command
+returns-in-Serve-clause-command g c =
     let scene = serve_scene g c in
     let read = c.in-Ok.ensures in
     let ran = c.run_serve-end.ensures in
@@ -519,8 +541,71 @@ returns-clause-command g c =
     let does : OfServe scene files listening.address.now listening.workers listening.sessions (ends.Serve inputs.policy.users c.run_serve-end.result) = record {
       ends = runs;
       succeeds = serve_succeeds c.law_openings.ensures.unrefused scene files listening.address.now listening.workers listening.sessions inputs.policy.users
-          c.run_serve-end.result runs (returns-clause-cause g c);
+          c.run_serve-end.result runs (returns-in-Serve-clause-cause g c);
       reads_nothing = refl;
       writes_nothing = refl;
     } in
     subst (λ task. OfReading scene (Some (reading_over files task)) (ends.Serve inputs.policy.users c.run_serve-end.result)) (sym c.in-Serve.is) does
+
+-- ---- a standby
+
+abbrev standby_scene : (g : Over) → After-drop-inputs-4 g → Scene
+standby_scene g c =
+    scene_of (shelf_of g.F.Shelf g.F.D.Disk c.args.shelf.now c.run_standby-end.new.shelf) (input_of g.S.Source c.args.source.now c.args.source.now)
+    (output_of g.K.Sink c.args.sink.now c.args.sink.now) (links_of g.L.Links c.args.links.now c.run_standby-end.new.links)
+
+pub returns-clause-cause : goal.returns-clause-cause
+returns-clause-cause g c =
+    let read = c.in-Ok.ensures in
+    let ran = c.run_standby-end.ensures in
+    standby_cause (standby_scene g c) c.in-Ok.inputs.policy.users c.run_standby-end.result ran.links_cause
+    (λ is. rose_since (g.F.Shelf.faults c.args.shelf.now) (g.F.Shelf.faults c.read_files.new.shelf) (g.F.Shelf.faults c.run_standby-end.new.shelf) read.later
+    (ran.shelf_cause is))
+    (λ is. some_rose g.F.Shelf g.F.D.Disk c.args.shelf.now c.read_files.new.shelf c.run_standby-end.new.shelf read.disks read.counts (ran.disk_cause is))
+
+pub returns-clause-command : goal.returns-clause-command
+returns-clause-command g c =
+    let scene = standby_scene g c in
+    let read = c.in-Ok.ensures in
+    let ran = c.run_standby-end.ensures in
+    let files = names_of_files c.args.files in
+    let inputs = c.in-Ok.inputs in
+    let copying = c.in-Standby.copying in
+    let runs : RunsStandby scene.shelf scene.links files copying.address.now copying.sessions inputs.policy.users c.run_standby-end.result = record {
+      over_files = λ told. (
+        policy_value_of inputs.policy,
+        inputs.world,
+        header_bytes inputs.header,
+        read.read told,
+        record {
+          of_policy = refl;
+          touches = touches_over g.F.Shelf g.F.D.Disk c.args.shelf.now c.read_files.new.shelf c.run_standby-end.new.shelf read.disks read.counts files
+              inputs.policy c.as_slice.result.now
+              c.as_slice.ensures.value ran.disks ran.other_counts;
+          journals = copies_left inputs.policy (header_bytes inputs.header) c.as_slice.result.now _ _ c.run_standby-end.result
+              (same_journals g.F.Shelf g.F.D.Disk c.args.shelf.now c.read_files.new.shelf c.run_standby-end.new.shelf read.disks read.counts files)
+              c.as_slice.ensures.value
+              (ran.journals told);
+          serves = λ links_told. (inputs.header, refl, ran.serves told links_told);
+        },
+      );
+      looks = λ told. ran.looked ∙ read.both told;
+      listens = ran.listens;
+      unheard = λ told same. (
+        λ name. ap (λ shelf. g.F.Shelf.disk shelf name) (ran.unheard told same) ∙ read.disks name,
+        λ name. ap (λ shelf. g.F.Shelf.disk_faults shelf name) (ran.unheard told same) ∙ read.counts name,
+      );
+      heard = ran.heard;
+      ends = ran.ended;
+      left = ran.left;
+      left_all = ran.left_all;
+      limited = ran.limited;
+    } in
+    let does : OfStandby scene files copying.address.now copying.sessions (ends.Standby inputs.policy.users c.run_standby-end.result) = record {
+      ends = runs;
+      succeeds = standby_succeeds scene files copying.address.now copying.sessions inputs.policy.users c.run_standby-end.result runs
+          (returns-clause-cause g c);
+      reads_nothing = refl;
+      writes_nothing = refl;
+    } in
+    subst (λ task. OfReading scene (Some (reading_over files task)) (ends.Standby inputs.policy.users c.run_standby-end.result)) (sym c.in-Standby.is) does

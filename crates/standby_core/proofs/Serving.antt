@@ -1,0 +1,105 @@
+-- A connection that is served, frame by frame.
+use Rattle.std.proofs.Common.{◌≡◌, ℕ, ◌+◌, List, [], ◌∷◌, ◌++◌, length, take, Err, Ok, refl, sym, ap, subst, ◌∙◌, arith, append_assoc, length-append}
+use Rattle.log_journal.specs.declared.header.Header.{Header}
+use Rattle.standby_core.specs.Copies.{Copy, HasCount}
+use Rattle.standby_core.specs.Exchanges.{Takes, more, Serves, HasEnded, IsAnswered, AreLeft, IsTaking, Took}
+use Rattle.standby_core.specs.Frames.{answer_bytes}
+use Rattle.standby_core.specs.declared.serve.StandbyEnd.{StandbyEnd}
+use Rattle.standby_core.specs.declared.serve.StandbyEnd.TheVariants as end
+
+-- all of a list and some of what stands behind it
+take_into : (xs ys : List ℕ) (n : ℕ) → take (length xs + n) (xs ++ ys) ≡ xs ++ take n ys
+take_into [] ys n = refl
+take_into (x ∷ xs) ys n = λ i. x ∷ take_into xs ys n i
+
+module _ (header : Header) (bytes : List ℕ) (copies : List Copy) where
+  -- the frames so far were taken, and these answers written
+  pub record SoFar (left : List ℕ) (now : List Copy) (old new : List ℕ) : Type 0 where
+    pub answers : List ℕ
+    pub took : Takes header bytes copies answers left now
+    pub written : new ≡ old ++ answers
+
+  -- one frame more was taken and answered
+  pub one_more : (left rest room old mid new : List ℕ) (before after : List Copy) (done : Unit {0}) → SoFar left before old mid → left ≡ room ++ rest
+      → Took header room before after mid new (Ok done) → SoFar rest after old new
+  one_more left rest room old mid new before after done so_far came took =
+      let one = took.0 in
+      let frame = took.1 in
+      let count = took.2.0 in
+      let taken = took.2.1 in
+      record {
+        answers = so_far.answers ++ answer_bytes count;
+        took = subst (λ c. Takes header bytes copies (so_far.answers ++ answer_bytes count) rest c) (sym taken.left)
+            (more so_far.answers left rest before one count so_far.took frame.proper (came ∙ ap (λ l. l ++ rest) frame.is)
+            (subst (λ c. HasCount c one.name count) taken.left taken.counted));
+        written = took.2.2 ∙ ap (λ l. l ++ answer_bytes count) so_far.written ∙ append_assoc old so_far.answers (answer_bytes count);
+      }
+
+  -- what is promised of an end
+  abbrev pub Ends : List Copy → List ℕ → List ℕ → StandbyEnd → Type 0
+  Ends after old new ended = (served : Serves header bytes copies after ended) × IsAnswered ended served.answers old new
+
+  -- ---- the ends between two frames, and before one was taken
+
+  ends_between : (left old new : List ℕ) (now : List Copy) (ended : StandbyEnd) → SoFar left now old new → HasEnded header left ended → AreLeft ended now now
+      → ((answers : List ℕ) → new ≡ old ++ answers → IsAnswered ended answers old new) → Ends now old new ended
+  ends_between left old new now ended so_far cause same answered = (
+    record { answers = so_far.answers; left = left; copies_left = now; took = so_far.took; ended = cause; are_left = same },
+    answered so_far.answers so_far.written,
+  )
+
+  pub ends_input : (left old new : List ℕ) (now : List Copy) → SoFar left now old new → left ≡ [] → Ends now old new end.InputEnd
+  ends_input left old new now so_far none = ends_between left old new now end.InputEnd so_far none refl (λ answers is. is)
+
+  pub ends_bad : (left old new : List ℕ) (now : List Copy) → SoFar left now old new → HasEnded header left end.BadFrame → Ends now old new end.BadFrame
+  ends_bad left old new now so_far bad = ends_between left old new now end.BadFrame so_far bad refl (λ answers is. is)
+
+  pub ends_other : (left old new : List ℕ) (now : List Copy) → SoFar left now old new → HasEnded header left end.OtherHeader → Ends now old new end.OtherHeader
+  ends_other left old new now so_far other = ends_between left old new now end.OtherHeader so_far other refl (λ answers is. is)
+
+  pub ends_fault : (left old new : List ℕ) (now : List Copy) → SoFar left now old new → Ends now old new end.ReadFault
+  ends_fault left old new now so_far = ends_between left old new now end.ReadFault so_far tt refl (λ answers is. is)
+
+  -- ---- the ends at a frame
+
+  pub ends_taking : (left rest room old mid new : List ℕ) (before after : List Copy) (ended : StandbyEnd) → IsTaking ended → SoFar left before old mid
+      → left ≡ room ++ rest → Took header room before after mid new (Err ended) → Ends after old new ended
+  ends_taking left rest room old mid new before after (end.Take why) at so_far came took = (
+    record {
+      answers = so_far.answers;
+      left = left;
+      copies_left = before;
+      took = so_far.took;
+      ended = (took.0, rest, took.1.proper, came ∙ ap (λ l. l ++ rest) took.1.is);
+      are_left = tt;
+    },
+    took.2 ∙ so_far.written,
+  )
+  ends_taking left rest room old mid new before after end.WriteFault at so_far came took =
+      let one = took.0 in
+      let frame = took.1 in
+      let count = took.2.0 in
+      let taken = took.2.1 in
+      let part = took.2.2 in
+      let answers = so_far.answers ++ answer_bytes count in (
+        record {
+          answers = answers;
+          left = rest;
+          copies_left = after;
+          took = subst (λ c. Takes header bytes copies answers rest c) (sym taken.left)
+              (more so_far.answers left rest before one count so_far.took frame.proper (came ∙ ap (λ l. l ++ rest) frame.is)
+              (subst (λ c. HasCount c one.name count) taken.left taken.counted));
+          ended = tt;
+          are_left = refl;
+        },
+        (
+          length so_far.answers + part.0,
+          omega (arith, length-append so_far.answers (answer_bytes count), part.1),
+          part.2 ∙ ap (λ l. l ++ take part.0 (answer_bytes count)) so_far.written ∙ append_assoc old so_far.answers (take part.0 (answer_bytes count))
+              ∙ ap (λ l. old ++ l) (sym (take_into so_far.answers (answer_bytes count) part.0)),
+        ),
+      )
+  ends_taking left rest room old mid new before after end.InputEnd at so_far came took = absurd at
+  ends_taking left rest room old mid new before after end.BadFrame at so_far came took = absurd at
+  ends_taking left rest room old mid new before after end.OtherHeader at so_far came took = absurd at
+  ends_taking left rest room old mid new before after end.ReadFault at so_far came took = absurd at

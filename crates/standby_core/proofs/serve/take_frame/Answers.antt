@@ -1,0 +1,107 @@
+use Rattle.std.proofs.Common.{◌≡◌, ◌++◌, length, take, refl, sym, ap, subst, ◌∙◌, arith, rules}
+use Rattle.standby_core.specs.Frames.{IsWithin, IsFrame, Shows, carried_in}
+use Rattle.standby_core.specs.declared.frame.Judged.TheVariants.{Short, Bad, Other}
+use Rattle.standby_core.proofs.Framing.{frame_within, never_short, never_bad, never_other}
+use Rattle.standby_core.proofs.serve.take_frame.Given.{Over}
+use Rattle.standby_core.proofs.serve.take_frame.Goals as goal
+use Rattle.standby_core.proofs.serve.take_frame.Goals.{In-Frame}
+
+pub judge-frame-requires : goal.judge-frame-requires
+judge-frame-requires g c =
+    let header = c.args.header.now in
+    let policy : length header.policy ≡ 32 = search rules in
+    let facts : length header.facts ≡ 32 = search rules in
+    subst (IsWithin header) (sym c.bytes.ensures) (frame_within header policy facts c.args.room.now c.requires.0 c.requires.1)
+
+-- ---- never: the bytes are a whole frame
+
+pub returns-in-Short-clause-took : goal.returns-in-Short-clause-took
+returns-in-Short-clause-took g c =
+    let header = c.args.header.now in
+    let policy : length header.policy ≡ 32 = search rules in
+    let facts : length header.facts ≡ 32 = search rules in
+    absurd (never_short header policy facts c.args.room.now c.requires.0 c.requires.1 c.in-Short.field-0
+    (subst (λ l. Shows header l (Short c.in-Short.field-0)) c.bytes.ensures c.in-Short.ensures))
+
+pub returns-in-Bad-clause-took : goal.returns-in-Bad-clause-took
+returns-in-Bad-clause-took g c =
+    let header = c.args.header.now in
+    let policy : length header.policy ≡ 32 = search rules in
+    let facts : length header.facts ≡ 32 = search rules in
+    absurd (never_bad header policy facts c.args.room.now c.requires.0 c.requires.1
+    (subst (λ l. Shows header l Bad) c.bytes.ensures c.in-Bad.ensures))
+
+pub returns-in-Other-clause-took : goal.returns-in-Other-clause-took
+returns-in-Other-clause-took g c =
+    let header = c.args.header.now in
+    let policy : length header.policy ≡ 32 = search rules in
+    let facts : length header.facts ≡ 32 = search rules in
+    absurd (never_other header policy facts c.args.room.now c.requires.0 c.requires.1
+    (subst (λ l. Shows header l Other) c.bytes.ensures c.in-Other.ensures))
+
+pub returns-in-Short-clause-ends : goal.returns-in-Short-clause-ends
+returns-in-Short-clause-ends g c =
+    let header = c.args.header.now in
+    let policy : length header.policy ≡ 32 = search rules in
+    let facts : length header.facts ≡ 32 = search rules in
+    never_short header policy facts c.args.room.now c.requires.0 c.requires.1 c.in-Short.field-0
+    (subst (λ l. Shows header l (Short c.in-Short.field-0)) c.bytes.ensures c.in-Short.ensures)
+
+pub returns-in-Bad-clause-ends : goal.returns-in-Bad-clause-ends
+returns-in-Bad-clause-ends g c =
+    let header = c.args.header.now in
+    let policy : length header.policy ≡ 32 = search rules in
+    let facts : length header.facts ≡ 32 = search rules in
+    never_bad header policy facts c.args.room.now c.requires.0 c.requires.1 (subst (λ l. Shows header l Bad) c.bytes.ensures c.in-Bad.ensures)
+
+pub returns-in-Other-clause-ends : goal.returns-in-Other-clause-ends
+returns-in-Other-clause-ends g c =
+    let header = c.args.header.now in
+    let policy : length header.policy ≡ 32 = search rules in
+    let facts : length header.facts ≡ 32 = search rules in
+    never_other header policy facts c.args.room.now c.requires.0 c.requires.1 (subst (λ l. Shows header l Other) c.bytes.ensures c.in-Other.ensures)
+
+-- ---- the frame in the room
+
+in_room : (g : Over) (c : In-Frame g) → IsFrame c.args.header.now c.args.room.now (carried_in c.in-Frame.frame)
+in_room g c = subst (λ l. IsFrame c.args.header.now l (carried_in c.in-Frame.frame)) c.bytes.ensures c.in-Frame.ensures
+
+pub take-requires-clause-low : goal.take-requires-clause-low
+take-requires-clause-low g c = (in_room g (goal.at.take-requires-clause-low g c).In-Frame).proper.kind_from
+
+pub take-requires-clause-high : goal.take-requires-clause-high
+take-requires-clause-high g c = (in_room g (goal.at.take-requires-clause-high g c).In-Frame).proper.kind_to
+
+pub take-requires-clause-short : goal.take-requires-clause-short
+take-requires-clause-short g c = (in_room g (goal.at.take-requires-clause-short g c).In-Frame).proper.short
+
+pub returns-in-Err-clause-took : goal.returns-in-Err-clause-took
+returns-in-Err-clause-took g c disk sink =
+    (carried_in c.in-Frame.frame, in_room g (goal.at.returns-in-Err-clause-took g c).In-Frame, refl)
+
+pub returns-in-Ok-write_all-clause-took : goal.returns-in-Ok-write_all-clause-took
+returns-in-Ok-write_all-clause-took g c disk sink = (
+  carried_in c.in-Frame.frame,
+  in_room g (goal.at.returns-in-Ok-write_all-clause-took g c).In-Frame,
+  (
+    c.in-Ok.count,
+    record { left = c.in-Ok.ensures.taken disk; counted = c.in-Ok.ensures.count disk },
+    c.in-Ok-write_all.ensures.all sink ∙ ap (λ l. g.K.Sink.written c.args.sink.now ++ l) c.to_be_bytes.ensures,
+  ),
+)
+
+pub returns-in-Err-write_all-clause-took : goal.returns-in-Err-write_all-clause-took
+returns-in-Err-write_all-clause-took g c disk sink =
+    let part = c.in-Err-write_all.ensures.part sink in (
+      carried_in c.in-Frame.frame,
+      in_room g (goal.at.returns-in-Err-write_all-clause-took g c).In-Frame,
+      (
+        c.in-Ok.count,
+        record { left = c.in-Ok.ensures.taken disk; counted = c.in-Ok.ensures.count disk },
+        (
+          part.0,
+          omega (arith, part.1, ap length c.to_be_bytes.ensures),
+          part.2 ∙ ap (λ l. g.K.Sink.written c.args.sink.now ++ take part.0 l) c.to_be_bytes.ensures,
+        ),
+      ),
+    )

@@ -1,0 +1,10 @@
+pub mod Reading
+pub mod Giving
+pub mod Returning
+pub mod Places
+pub mod Parting
+pub mod Copying
+pub mod Opening
+pub mod Serving
+pub mod Ending
+pub mod Listening

@@ -1,0 +1,72 @@
+use Rattle.std.proofs.Common.{◌++◌, Some, refl, sym, ap, subst, ◌∙◌, arith}
+use Rattle.outside.specs.Faults.{Rose}
+use Rattle.outside.proofs.Rises.{rose_since}
+use Rattle.outside.specs.Visits.{visit_of}
+use Rattle.standby_core.specs.Books.{copies_in}
+use Rattle.standby_core.specs.Exchanges.{Serves}
+use Rattle.standby_engine.specs.Served.{IsServedVisit}
+use Rattle.standby_engine.proofs.Serving.{none_served, one_served, written_alone}
+use Rattle.standby_engine.proofs.serving.serve_door.Goals as goal
+
+pub loop-init : goal.loop-init
+loop-init g c = record {
+  served = λ told disk. none_served g.O.Door.given g.O.Door.back c.args.header.now (copies_in g.D.Disk.reads c.args.book.now) c.args.door.now;
+  count = λ told. omega arith;
+  left = λ told. refl;
+  lasts = λ disk own firsts all. all;
+  names = refl;
+  counted = λ counts all. all;
+  ends = refl;
+  faults = omega arith;
+}
+
+-- both ends go back to the door of which they are
+pub done-requires-clause-last : goal.done-requires-clause-last
+done-requires-clause-last g c = λ told. c.next.ensures.last told ∙ ap Some (sym c.serve_standby.ensures.held)
+
+pub done-requires-clause-client : goal.done-requires-clause-client
+done-requires-clause-client g c = λ told. c.serve_standby.ensures.answers ∙ c.next.ensures.client told ∙ sym c.serve_standby.ensures.held
+
+pub loop-preserved : goal.loop-preserved
+loop-preserved g c =
+    let before = c.loop.invariant in
+    let served = c.serve_standby.ensures in
+    record {
+      served = λ told disk.
+          let ends = g.met.O.Door.tells_ends told in
+          let all = served.serves ends.0 disk ends.1 in
+          let visit : IsServedVisit c.args.header.now (copies_in g.D.Disk.reads c.loop.book) (copies_in g.D.Disk.reads c.serve_standby.new.book)
+          (visit_of (g.O.Src.Source.held c.serve_standby.new.source) (g.O.Snk.Sink.written c.serve_standby.new.sink)
+          (g.O.Src.Source.faults c.serve_standby.new.source) (g.O.Snk.Sink.faults c.serve_standby.new.sink)) = record {
+            end = c.serve_standby.result;
+            served = subst (λ bytes. Serves c.args.header.now bytes (copies_in g.D.Disk.reads c.loop.book)
+                (copies_in g.D.Disk.reads c.serve_standby.new.book) c.serve_standby.result) (c.next.ensures.untaken ends.0 ∙ sym served.held) all.0;
+            answered = written_alone c.serve_standby.result all.0.answers _ _ (c.next.ensures.unwritten ends.1) all.1;
+          } in
+          one_served g.O.Door.given g.O.Door.back c.args.header.now (copies_in g.D.Disk.reads c.args.book.now) (copies_in g.D.Disk.reads c.loop.book)
+          (copies_in g.D.Disk.reads c.serve_standby.new.book) c.args.door.now c.loop.door c.done.new.self _ (before.served told disk) visit
+          (c.done.ensures.given told ∙ c.next.ensures.given told) (c.done.ensures.back told ∙ ap (λ l. l ++ _) (c.next.ensures.back told));
+      count = λ told. omega (arith, before.count told, c.done.ensures.given told, c.next.ensures.given told);
+      left = λ told. omega (
+        arith,
+        before.left told,
+        c.done.ensures.left told,
+        c.done.ensures.given told,
+        c.next.ensures.left told,
+        c.next.ensures.given told,
+      );
+      lasts = λ disk own firsts all. served.lasts disk own firsts (before.lasts disk own firsts all);
+      names = served.names ∙ before.names;
+      counted = λ counts all. served.counted counts (before.counted counts all);
+      ends = c.done.ensures.ends ∙ c.next.ensures.no_end ∙ before.ends;
+      faults = omega (arith, before.faults, c.done.ensures.faults, c.next.ensures.cause.later);
+    }
+
+pub returns-in-None-clause-ended : goal.returns-in-None-clause-ended
+returns-in-None-clause-ended g c = λ is.
+    subst (λ n. Rose n (g.O.Door.ends c.next.new.self)) c.loop.invariant.ends c.next.ensures.end
+
+pub returns-in-Err-clause-failed : goal.returns-in-Err-clause-failed
+returns-in-Err-clause-failed g c = λ is.
+    rose_since (g.O.Door.faults c.args.door.now) (g.O.Door.faults c.loop.door) (g.O.Door.faults c.next.new.self) c.loop.invariant.faults
+    (c.next.ensures.cause.failed refl)
