@@ -24,10 +24,8 @@ returns c =
     c.in_ok-subcommand-6.ensures.shape c.in_ok-serve.ensures.plain ∙ ap₂ with_subcommand selfrun (ap (λ (a : App). a.top) c.in_ok-serve.ensures.shape) in
     let migrate =
     c.in_ok-subcommand-7.ensures.shape c.in_ok-migrate.ensures.plain ∙ ap₂ with_subcommand serve (ap (λ (a : App). a.top) c.in_ok-migrate.ensures.shape) in
-<<<<<<< HEAD
     let dossier =
     c.in_ok-subcommand-8.ensures.shape c.in_ok-dossier.ensures.plain ∙ ap₂ with_subcommand migrate (ap (λ (a : App). a.top) c.in_ok-dossier.ensures.shape) in
-    c.in_ok-program.ensures.shape c.in_ok-check.ensures.plain ∙ ap₂ with_subcommand dossier (ap (λ (a : App). a.top) c.in_ok-check.ensures.shape)
-=======
-    c.in_ok-program.ensures.shape c.in_ok-standby.ensures.plain ∙ ap₂ with_subcommand migrate (ap (λ (a : App). a.top) c.in_ok-standby.ensures.shape)
->>>>>>> b-stby2
+    let check =
+    c.in_ok-subcommand-9.ensures.shape c.in_ok-check.ensures.plain ∙ ap₂ with_subcommand dossier (ap (λ (a : App). a.top) c.in_ok-check.ensures.shape) in
+    c.in_ok-program.ensures.shape c.in_ok-standby.ensures.plain ∙ ap₂ with_subcommand check (ap (λ (a : App). a.top) c.in_ok-standby.ensures.shape)
