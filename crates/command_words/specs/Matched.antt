@@ -96,15 +96,19 @@ standby_command = with_rule
 abbrev pub bare : App
 bare = on_top with_settings (new_app (codes "cqe"))
 
+-- a command line with the last three commands too
+abbrev pub with_last : App → App
+with_last app = with_subcommand (with_subcommand (with_subcommand app
+    dossier_command.top) check_command.top) standby_command.top
+
 -- the command line of the program
 abbrev pub program : App
-program = with_subcommand (with_subcommand (with_subcommand (with_subcommand
+program = with_last (with_subcommand
     (with_subcommand (with_subcommand (with_subcommand (with_subcommand (with_subcommand
     (with_subcommand bare
     (new_app (codes "case")).top) (file_command (codes "init")).top)
     batch_command.top) audit_command.top) selfrun_command.top)
-    serve_command.top) migrate_command.top) dossier_command.top) check_command.top)
-    standby_command.top
+    serve_command.top) migrate_command.top)
 
 -- the files that the rows that were matched name
 abbrev pub files_in : List Row → Option FileNames

@@ -5,7 +5,7 @@ ghost use Rattle.clap.specs.declared.builder.command.Command.TheViews.{out-Comma
 ghost use Rattle.command_words.specs.Matched.{audit_command, batch_command, dossier_command};
 ghost use Rattle.command_words.specs.Matched.{file_command, flag_rule, migrate_command};
 ghost use Rattle.command_words.specs.Matched.{needed_rule, optional_rule, program, serve_command};
-ghost use Rattle.command_words.specs.Matched.{standby_command, three_command};
+ghost use Rattle.command_words.specs.Matched.{standby_command, three_command, with_last};
 
 use clap::builder::ValueParser;
 use clap::{Arg, ArgAction, Command};
@@ -22,30 +22,39 @@ pub(crate) fn program<'a>(alloc: Global) -> Result<Command<'a>, AllocError>
     let selfrun = with_three(alloc, "selfrun", "seed", "users", "asks")?;
     let serve = serve(alloc)?;
     let migrate = migrate(alloc)?;
-    let dossier = dossier(alloc)?;
-    let check = with_three(alloc, "check", "policy", "facts", "user")?;
-    let standby = standby(alloc)?;
     let program = Command::new(alloc, "cqe")
         .no_binary_name(true)
         .disable_help_flag(true)
         .disable_help_subcommand(true)
         .subcommand_required(true);
-    let program = program
+    let first = program
         .subcommand(case)?
         .subcommand(init)?
         .subcommand(batch)?
         .subcommand(audit)?
         .subcommand(selfrun)?
         .subcommand(serve)?
-        .subcommand(migrate)?
-        .subcommand(dossier)?
-        .subcommand(check)?
-        .subcommand(standby)?;
-    Ok(program)
+        .subcommand(migrate)?;
+    let all = with_last(alloc, first)?;
+    Ok(all)
 }
 
 // What each of these returns has a name first: its goals are then plain equations, and no
 // implications under `IfOk`.
+
+// The command line with its last three commands too.
+fn with_last<'a>(alloc: Global, first: Command<'a>) -> Result<Command<'a>, AllocError>
+    ensures { IfOk result (λ command. app_of command ≡ with_last (app_of first.entry)) }
+{
+    let dossier = dossier(alloc)?;
+    let check = with_three(alloc, "check", "policy", "facts", "user")?;
+    let standby = standby(alloc)?;
+    let all = first
+        .subcommand(dossier)?
+        .subcommand(check)?
+        .subcommand(standby)?;
+    Ok(all)
+}
 
 // The batch.
 fn batch<'a>(alloc: Global) -> Result<Command<'a>, AllocError>
