@@ -149,7 +149,8 @@ returns-in-Batch g c = record {
             journals = batch_left inputs.policy inputs.world (header_bytes inputs.header) c.as_slice.result.now _ _ c.copied_batch-end.result
                 (same_counted g.F.Shelf g.F.D.Disk old mid new read.disks read.counts failed files) c.as_slice.ensures.value (ran.journals told);
             answers =
-                λ in_told out_told. batch_over inputs.policy inputs.world (header_bytes inputs.header) c.as_slice.result.now _ _ c.copied_batch-end.result _ _ _ _
+                λ in_told out_told.
+                batch_over inputs.policy inputs.world (header_bytes inputs.header) c.as_slice.result.now _ _ c.copied_batch-end.result _ _ _ _
                 (same_counted g.F.Shelf g.F.D.Disk old mid new read.disks read.counts failed files) c.as_slice.ensures.value
                 (ran.ends told in_told out_told);
           },
