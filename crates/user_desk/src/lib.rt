@@ -12,8 +12,8 @@
 //! `replay` is the part of an opening that follows the journal's, for records without a disk.
 //!
 //! Read `specs/Entries.antt`, `specs/Causes.antt` and `specs/Lives.antt` first, then `standing`,
-//! `desk`, `opening` and `laws`; `replay` goes through the records of a journal, `store` keeps the
-//! disk.
+//! `desk`, `opening` and `laws`; `recounting` goes through the records of a journal, `store` keeps
+//! the disk.
 #![tactic(auto)]
 
 mod desk;
