@@ -415,7 +415,10 @@ fn changed_dossiers_are_refused(rt: HostRuntime) -> Result<(), Fail> {
         };
         let dossier = changed(alloc, at.parse::<usize>()?, text)?;
         let expected = (kind.parse::<u32>()?, line.parse::<u32>()?);
-        assert_eq!(rt; answer(checked(&rt, alloc, &clinic, &user, &dossier)), expected);
+        assert_eq!(rt;
+            answer(checked(&rt, alloc, &clinic, &user, &dossier)),
+            expected
+        );
         count = count.saturating_add(1);
     }
     assert!(rt; count >= 200);
@@ -431,7 +434,10 @@ fn texts_that_end_too_soon(rt: HostRuntime) -> Result<(), Fail> {
     for (index, line) in TOLD.iter().enumerate() {
         // The missing line has the number after the last one.
         let missing = index as u32 + 1;
-        assert_eq!(rt; answer(checked(&rt, alloc, &clinic, &user, &text)), (1, missing));
+        assert_eq!(rt;
+            answer(checked(&rt, alloc, &clinic, &user, &text)),
+            (1, missing)
+        );
         text.push_str(line)?;
         text.push_str("\n")?;
     }
