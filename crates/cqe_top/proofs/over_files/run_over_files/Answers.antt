@@ -353,16 +353,16 @@ returns-in-Dossier-clause-command g c =
 
 -- ---- the check of a dossier
 
-pub returns-in-Check-clause-cause : goal.returns-in-Check-clause-cause
-returns-in-Check-clause-cause g c =
+pub returns-in-OfUser-clause-cause : goal.returns-in-OfUser-clause-cause
+returns-in-OfUser-clause-cause g c =
     let ran = c.run_check.ensures in
     let scene : Scene = scene_of (shelf_of g.F.Shelf g.F.D.Disk c.args.shelf.now c.read_files.new.shelf)
     (input_of g.S.Source c.args.source.now c.run_check.new.source)
     (output_of g.K.Sink c.args.sink.now c.run_check.new.sink) (links_of g.L.Links c.args.links.now c.args.links.now) in
     check_cause scene c.run_check.result ran.read_cause ran.write_cause
 
-pub returns-in-Check-clause-command : goal.returns-in-Check-clause-command
-returns-in-Check-clause-command g c =
+pub returns-in-OfUser-clause-command : goal.returns-in-OfUser-clause-command
+returns-in-OfUser-clause-command g c =
     let scene : Scene = scene_of (shelf_of g.F.Shelf g.F.D.Disk c.args.shelf.now c.read_files.new.shelf)
     (input_of g.S.Source c.args.source.now c.run_check.new.source)
     (output_of g.K.Sink c.args.sink.now c.run_check.new.sink) (links_of g.L.Links c.args.links.now c.args.links.now) in
@@ -390,7 +390,7 @@ returns-in-Check-clause-command g c =
     } in
     let does : OfCheck scene files.policy files.facts name (ends.Check c.run_check.result) = record {
       ends = runs;
-      succeeds = check_succeeds scene two name c.run_check.result runs (returns-in-Check-clause-cause g c);
+      succeeds = check_succeeds scene two name c.run_check.result runs (returns-in-OfUser-clause-cause g c);
       listens_nowhere = refl;
     } in
     subst (λ task. OfReading scene (Some (reading_over files task)) (ends.Check c.run_check.result))
