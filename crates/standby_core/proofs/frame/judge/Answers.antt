@@ -1,4 +1,4 @@
-use Rattle.std.proofs.Common.{◌≡◌, ◌≤◌, ℕ, List, length, get_or, sym, ◌∙◌, subst, arith}
+use Rattle.std.proofs.Common.{◌≤◌, ℕ, List, length, get_or, sym, ◌∙◌, subst, arith}
 use Rattle.std.proofs.lemmas.List.{take_rest}
 use Rattle.standby_core.specs.Frames.{ShowsTail, GoesOn, tail_bytes}
 use Rattle.standby_core.proofs.Framing.{unmarked, of_other, short_of_head, tail_within, tail_shows}

@@ -1,4 +1,4 @@
-use Rattle.std.proofs.Common.{◌≡◌, ◌++◌, length, take, refl, sym, ap, subst, ◌∙◌, arith, rules}
+use Rattle.std.proofs.Common.{◌++◌, length, take, refl, sym, ap, subst, ◌∙◌, arith}
 use Rattle.standby_core.specs.Frames.{IsWithin, IsFrame, Shows, carried_in}
 use Rattle.standby_core.specs.declared.frame.Judged.TheVariants.{Short, Bad, Other}
 use Rattle.standby_core.proofs.Framing.{frame_within, never_short, never_bad, never_other}

@@ -1,4 +1,4 @@
-use Rattle.std.proofs.Common.{◌≡◌, ◌≤◌, ◌+◌, ◌++◌, ◌∷◌, [], length, true, false, Result, Ok, Err, refl, sym, ap, subst, ◌∙◌, arith}
+use Rattle.std.proofs.Common.{◌≡◌, ◌≤◌, ◌+◌, ◌++◌, ◌∷◌, [], length, true, false, Result, Ok, Err, sym, ap, subst, ◌∙◌, arith}
 use Rattle.std.specs.Result.{OnOk, OnErr, is_err}
 use Rattle.outside.specs.Faults.{Rose}
 use Rattle.outside.proofs.Rises.{rose_since}
@@ -101,7 +101,8 @@ returns-in-Ok-clause-faults g c count counted = record {
 
 pub returns-in-Err-DiskFault-clause-faults : goal.returns-in-Err-DiskFault-clause-faults
 returns-in-Err-DiskFault-clause-faults g c count counted =
-    let is : c.append-appended.result ≡ Err DiskFault = c.in-Err-DiskFault.is ∙ ap Err c.in-Err-DiskFault.field-0-is in
+    let why = rw c.in-Err-DiskFault.is at c.in-Err-DiskFault.field-0-is in
+    let is : c.append-appended.result ≡ Err DiskFault = c.in-Err-DiskFault.is ∙ ap Err why in
     let same = ap g.D.Disk.faults c.reserve.ensures.disk in
     record {
       later = omega (arith, counted.later, same, c.append-appended.ensures.count);
@@ -110,14 +111,16 @@ returns-in-Err-DiskFault-clause-faults g c count counted =
     }
 
 pub returns-in-Err-DiskFault-clause-fault : goal.returns-in-Err-DiskFault-clause-fault
-returns-in-Err-DiskFault-clause-fault g c = λ why.
-    let is : c.append-appended.result ≡ Err DiskFault = c.in-Err-DiskFault.is ∙ ap Err c.in-Err-DiskFault.field-0-is in
+returns-in-Err-DiskFault-clause-fault g c = λ fault.
+    let why = rw c.in-Err-DiskFault.is at c.in-Err-DiskFault.field-0-is in
+    let is : c.append-appended.result ≡ Err DiskFault = c.in-Err-DiskFault.is ∙ ap Err why in
     subst (λ d. Rose (g.D.Disk.faults d) (g.D.Disk.faults (disk_of c.append-appended.new.self))) c.reserve.ensures.disk
     (c.append-appended.ensures.fault is)
 
 pub returns-in-Err-DiskFault-clause-lasts : goal.returns-in-Err-DiskFault-clause-lasts
 returns-in-Err-DiskFault-clause-lasts g c told header first lasts =
-    let is : c.append-appended.result ≡ Err DiskFault = c.in-Err-DiskFault.is ∙ ap Err c.in-Err-DiskFault.field-0-is in
+    let why = rw c.in-Err-DiskFault.is at c.in-Err-DiskFault.field-0-is in
+    let is : c.append-appended.result ≡ Err DiskFault = c.in-Err-DiskFault.is ∙ ap Err why in
     let kept = c.reserve.new.self in
     let whole : is_broken c.args.self.now.journal ≡ false = sym c.has_failed.ensures ∙ c.if-has_failed.false in
     let before = subst (λ d. HasBeginning header first (g.D.Disk.reads d)) (sym c.reserve.ensures.disk) (lasts.reads_it whole) in
@@ -133,7 +136,8 @@ returns-in-Err-DiskFault-clause-lasts g c told header first lasts =
 
 pub returns-in-Err-Broken-clause-broken : goal.returns-in-Err-Broken-clause-broken
 returns-in-Err-Broken-clause-broken g c =
-    let is : c.append-appended.result ≡ Err Broken = c.in-Err-Broken.is ∙ ap Err c.in-Err-Broken.field-0-is in
+    let why = rw c.in-Err-Broken.is at c.in-Err-Broken.field-0-is in
+    let is : c.append-appended.result ≡ Err Broken = c.in-Err-Broken.is ∙ ap Err why in
     let whole : is_broken c.args.self.now.journal ≡ false = sym c.has_failed.ensures ∙ c.if-has_failed.false in
     let failed : is_broken c.reserve.new.self ≡ true = c.append-appended.ensures.refused.0 is in
     let clash : true ≡ false = sym failed ∙ c.reserve.ensures.broken ∙ whole in
