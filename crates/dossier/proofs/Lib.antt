@@ -1,4 +1,13 @@
 mod Lines
+mod Ended
+mod Numerals
+mod Shifted
+mod SchemaNames
+mod FactTexts
+mod FactLists
+mod RefLines
+mod Feeds
+mod Leads
 mod Spelling
 mod Colons
 mod Worlds

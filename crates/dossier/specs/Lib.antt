@@ -1,5 +1,6 @@
 pub mod Fields
 pub mod Words
+pub mod Small
 pub mod Checked
 pub mod Promised
 pub mod Reading

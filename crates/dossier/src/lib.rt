@@ -14,6 +14,7 @@
 #![tactic(auto)]
 
 mod blocks;
+mod bounded;
 mod checking;
 mod error;
 mod cut;
