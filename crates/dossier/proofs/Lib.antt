@@ -8,6 +8,8 @@ mod FactLists
 mod RefLines
 mod Feeds
 mod Leads
+mod BlocksLead
+mod ItemsLead
 mod Spelling
 mod Colons
 mod Worlds
