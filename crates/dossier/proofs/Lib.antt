@@ -10,6 +10,7 @@ mod Feeds
 mod Leads
 mod BlocksLead
 mod ItemsLead
+mod Accepting
 mod Spelling
 mod Colons
 mod Worlds

@@ -8,5 +8,6 @@ pub mod Logs
 pub mod Blocks
 pub mod Items
 pub mod Written
+pub mod Accepted
 pub mod Told
 pub mod Adding
