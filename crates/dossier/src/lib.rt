@@ -17,8 +17,8 @@
 mod blocks;
 mod bounded;
 mod checking;
-mod error;
 mod cut;
+mod error;
 mod items;
 mod laws;
 mod listed;
@@ -28,7 +28,7 @@ mod words;
 mod writing;
 
 pub use checking::check_dossier;
-pub use error::DossierError;
 pub use cut::{Field, FieldIter, fields};
+pub use error::DossierError;
 pub use laws::{law_checked_is_sound, law_dossiers_are_accepted, law_sound};
 pub use writing::{write_dossier, write_unserved};
