@@ -15,8 +15,8 @@
 
 mod blocks;
 mod checking;
-mod error;
 mod cut;
+mod error;
 mod items;
 mod laws;
 mod listed;
@@ -26,7 +26,7 @@ mod words;
 mod writing;
 
 pub use checking::check_dossier;
-pub use error::DossierError;
 pub use cut::{Field, FieldIter, fields};
+pub use error::DossierError;
 pub use laws::{law_checked_is_sound, law_sound};
 pub use writing::{write_dossier, write_unserved};
