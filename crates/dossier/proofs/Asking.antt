@@ -76,10 +76,10 @@ module _ (schema : DatabaseSchema) (world : FactSet) (name : Text) (user : UserP
 
   module _ (mark : Mark) (isnt : mark ≢ Undecided) (old new : Unread) where
     -- the blocks were refused
-    pub shown-refused : {X : Type 0} (then : X → Result Awaited DossierError) (why : DossierError)
+    pub shown-refused : {X : Type 0} (onward : X → Result Awaited DossierError) (why : DossierError)
         → ReadsFindings schema world name user before (asking line mark query size) query old new (Err why)
-        → ReadsOn schema world name user (asked schema world name user line before mark size (Some query)) old new then (Err why)
-    shown-refused then why next = by why next
+        → ReadsOn schema world name user (asked schema world name user line before mark size (Some query)) old new onward (Err why)
+    shown-refused onward why next = by why next
       where
         start : answer schema world name user (asked schema world name user line before mark size (Some query)) old
             ≡ answer schema world name user (awaited_for schema world name user before (asking line mark query size)
@@ -87,7 +87,7 @@ module _ (schema : DatabaseSchema) (world : FactSet) (name : Text) (user : UserP
         start = ap (λ x. answer schema world name user x old) (asked-shown mark isnt)
 
         by : (why : DossierError) → ReadsFindings schema world name user before (asking line mark query size) query old new (Err why)
-            → ReadsOn schema world name user (asked schema world name user line before mark size (Some query)) old new then (Err why)
+            → ReadsOn schema world name user (asked schema world name user line before mark size (Some query)) old new onward (Err why)
         by refused.Memory next = tt
         by (refused.Form at) next = start ∙ next
         by (refused.Text at) next = start ∙ next

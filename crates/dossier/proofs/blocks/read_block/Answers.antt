@@ -8,13 +8,13 @@ use Rattle.dossier.proofs.blocks.read_block.Goals as goal
 
 pub returns-in_err-field-clause-reads : goal.returns-in_err-field-clause-reads
 returns-in_err-field-clause-reads c world name user showing same of =
-    let p = err_from_is_err_and c.from_residual.result c.from_residual.ensures.1 in
+    let p = err_from_is_err_and c.from_residual-in_err-field.result c.from_residual-in_err-field.ensures.1 in
     rw (p.1, p.2)
     (block-missing c.args.told.schema.now world name user showing c.args.lines.now c.take_line.new.self _ c.in_err-field.ensures.takes)
 
 pub returns-in_err-read_open-clause-reads : goal.returns-in_err-read_open-clause-reads
 returns-in_err-read_open-clause-reads c world name user showing same of =
-    let p = err_from_is_err_and c.from_residual.result c.from_residual.ensures.1 in
+    let p = err_from_is_err_and c.from_residual-in_err-read_open.result c.from_residual-in_err-read_open.ensures.1 in
     rw (p.1, p.2)
     (block-open-refused c.args.told.schema.now world name user showing c.args.lines.now c.take_line.new.self
     c.in_ok-field.field c.in_ok-field.ensures.takes _ _
@@ -34,7 +34,7 @@ returns-then-not-is_alone-clause-reads c world name user showing same of =
 
 pub returns-in_err-may_follow-clause-reads : goal.returns-in_err-may_follow-clause-reads
 returns-in_err-may_follow-clause-reads c world name user showing same of =
-    let p = err_from_is_err_and c.from_residual.result c.from_residual.ensures.1 in
+    let p = err_from_is_err_and c.from_residual-in_err-may_follow.result c.from_residual-in_err-may_follow.ensures.1 in
     rw (p.1, p.2)
     (block-may-not c.args.told.schema.now world name user showing c.args.lines.now c.take_line.new.self
     c.in_ok-field.field c.in_ok-field.ensures.takes
@@ -42,7 +42,7 @@ returns-in_err-may_follow-clause-reads c world name user showing same of =
 
 pub returns-in_err-read-clause-reads : goal.returns-in_err-read-clause-reads
 returns-in_err-read-clause-reads c world name user showing same of =
-    let p = err_from_is_err_and c.from_residual.result c.from_residual.ensures.1 in
+    let p = err_from_is_err_and c.from_residual-in_err-read.result c.from_residual-in_err-read.ensures.1 in
     rw (p.1, p.2)
     (block-refused c.args.told.schema.now world name user showing c.args.lines.now c.take_line.new.self
     c.in_ok-field.field c.in_ok-field.ensures.takes
@@ -76,5 +76,5 @@ returns-else-branch-clause-reads c world name user showing same of =
 
 pub returns-in_err-confirm-clause-reads : goal.returns-in_err-confirm-clause-reads
 returns-in_err-confirm-clause-reads c world name user showing same of =
-    let p = err_from_is_err_and c.from_residual.result c.from_residual.ensures.1 in
+    let p = err_from_is_err_and c.from_residual-in_err-confirm.result c.from_residual-in_err-confirm.ensures.1 in
     rw (p.1, p.2) tt

@@ -15,7 +15,7 @@ read_admission-requires-clause-none c = c.in_ok-past.ensures.none
 
 pub returns-in_err-read_head-clause-check : goal.returns-in_err-read_head-clause-check
 returns-in_err-read_head-clause-check c =
-    let p = err_from_is_err_and c.from_residual.result c.from_residual.ensures.1 in
+    let p = err_from_is_err_and c.from_residual-in_err-read_head.result c.from_residual-in_err-read_head.ensures.1 in
     rw (p.1, p.2)
     (refused-check c.args.schema.now c.args.world.now (string_bytes c.args.user.now.name) (profile_of c.args.user.now) c.args.text.now
     c.fields-lines.result c.fields-lines.ensures.first c.fields-lines.ensures.fields _ _ _ _ _ refl
@@ -24,12 +24,12 @@ returns-in_err-read_head-clause-check c =
 -- want of memory says nothing
 pub returns-in_err-past-clause-check : goal.returns-in_err-past-clause-check
 returns-in_err-past-clause-check c isnt =
-    let p = err_from_is_err_and c.from_residual.result c.from_residual.ensures.1 in
+    let p = err_from_is_err_and c.from_residual-in_err-past.result c.from_residual-in_err-past.ensures.1 in
     absurd (isnt (p.1 ∙ ap Err p.2))
 
 pub returns-in_err-read_admission-clause-check : goal.returns-in_err-read_admission-clause-check
 returns-in_err-read_admission-clause-check c =
-    let p = err_from_is_err_and c.from_residual.result c.from_residual.ensures.1 in
+    let p = err_from_is_err_and c.from_residual-in_err-read_admission.result c.from_residual-in_err-read_admission.ensures.1 in
     let head = c.in_ok-read_head.ensures.reads c.args.schema.now c.args.world.now in
     rw (p.1, p.2)
     (refused-check c.args.schema.now c.args.world.now (string_bytes c.args.user.now.name) (profile_of c.args.user.now) c.args.text.now
@@ -39,7 +39,7 @@ returns-in_err-read_admission-clause-check c =
 
 pub returns-in_err-read_items-clause-check : goal.returns-in_err-read_items-clause-check
 returns-in_err-read_items-clause-check c =
-    let p = err_from_is_err_and c.from_residual.result c.from_residual.ensures.1 in
+    let p = err_from_is_err_and c.from_residual-in_err-read_items.result c.from_residual-in_err-read_items.ensures.1 in
     let head = c.in_ok-read_head.ensures.reads c.args.schema.now c.args.world.now in
     let admission = head ∙ reads-at _ _ _ _ _ _ _ _ _ _ _ c.in_ok-past.ensures.schema c.in_ok-past.ensures.user
     (c.in_ok-read_admission.ensures.reads (string_bytes c.args.user.now.name)) in
@@ -53,7 +53,7 @@ returns-in_err-read_items-clause-check c =
 
 pub returns-in_err-read_end-clause-check : goal.returns-in_err-read_end-clause-check
 returns-in_err-read_end-clause-check c =
-    let p = err_from_is_err_and c.from_residual.result c.from_residual.ensures.1 in
+    let p = err_from_is_err_and c.from_residual-in_err-read_end.result c.from_residual-in_err-read_end.ensures.1 in
     let head = c.in_ok-read_head.ensures.reads c.args.schema.now c.args.world.now in
     let admission = head ∙ reads-at _ _ _ _ _ _ _ _ _ _ _ c.in_ok-past.ensures.schema c.in_ok-past.ensures.user
     (c.in_ok-read_admission.ensures.reads (string_bytes c.args.user.now.name)) in

@@ -71,7 +71,7 @@ read_each-requires-clause-grounded_goals c =
 
 pub returns-in_err-field-clause-reads : goal.returns-in_err-field-clause-reads
 returns-in_err-field-clause-reads c name =
-    let p = err_from_is_err_and c.from_residual.result c.from_residual.ensures.1 in
+    let p = err_from_is_err_and c.from_residual-in_err-field.result c.from_residual-in_err-field.ensures.1 in
     rw (p.1, p.2)
     (line-missing (past_schema c.args.past.now) c.args.world.now name (past_user c.args.past.now) admission c.args.lines.now c.take_line.new.self _ _ refl
     c.in_err-field.ensures.takes)
@@ -93,7 +93,7 @@ returns-then-not-knows_truth_by-clause-reads c name =
 
 pub returns-in_err-read_each-clause-reads : goal.returns-in_err-read_each-clause-reads
 returns-in_err-read_each-clause-reads c name =
-    let p = err_from_is_err_and c.from_residual.result c.from_residual.ensures.1 in
+    let p = err_from_is_err_and c.from_residual-in_err-read_each.result c.from_residual-in_err-read_each.ensures.1 in
     let schema = past_schema c.args.past.now in
     let user = past_user c.args.past.now in
     let told = map answered_query_of c.as_slice.result.now in

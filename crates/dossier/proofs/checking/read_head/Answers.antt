@@ -9,7 +9,7 @@ use Rattle.dossier.proofs.checking.read_head.Goals as goal
 
 pub returns-in_err-field-clause-reads : goal.returns-in_err-field-clause-reads
 returns-in_err-field-clause-reads c schema world =
-    let p = err_from_is_err_and c.from_residual.result c.from_residual.ensures.1 in
+    let p = err_from_is_err_and c.from_residual-in_err-field.result c.from_residual-in_err-field.ensures.1 in
     rw (p.1, p.2)
     (line-missing schema world (string_bytes c.args.user.now.name) (profile_of c.args.user.now) head c.args.lines.now c.take_line.new.self _ _ refl
     c.in_err-field.ensures.takes)
@@ -61,15 +61,15 @@ returns-clause-reads c schema world =
 
 pub returns-in_err-says_head-clause-reads : goal.returns-in_err-says_head-clause-reads
 returns-in_err-says_head-clause-reads c schema world =
-    let p = err_from_is_err_and c.from_residual.result c.from_residual.ensures.1 in
+    let p = err_from_is_err_and c.from_residual-in_err-says_head.result c.from_residual-in_err-says_head.ensures.1 in
     rw (p.1, p.2) tt
 
 pub returns-in_err-closed-clause-reads : goal.returns-in_err-closed-clause-reads
 returns-in_err-closed-clause-reads c schema world =
-    let p = err_from_is_err_and c.from_residual.result c.from_residual.ensures.1 in
+    let p = err_from_is_err_and c.from_residual-in_err-closed.result c.from_residual-in_err-closed.ensures.1 in
     rw (p.1, p.2) tt
 
 pub returns-in_err-sealed-clause-reads : goal.returns-in_err-sealed-clause-reads
 returns-in_err-sealed-clause-reads c schema world =
-    let p = err_from_is_err_and c.from_residual.result c.from_residual.ensures.1 in
+    let p = err_from_is_err_and c.from_residual-in_err-sealed.result c.from_residual-in_err-sealed.ensures.1 in
     rw (p.1, p.2) tt

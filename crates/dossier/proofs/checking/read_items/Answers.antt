@@ -16,7 +16,7 @@ loop-field-init c = record {
 -- the end is missing
 pub returns-in_err-field-clause-reads : goal.returns-in_err-field-clause-reads
 returns-in_err-field-clause-reads c name =
-    let p = err_from_is_err_and c.from_residual.result c.from_residual.ensures.1 in
+    let p = err_from_is_err_and c.from_residual-in_err-field.result c.from_residual-in_err-field.ensures.1 in
     let schema = past_schema c.args.past.now in
     let user = past_user c.args.past.now in
     let so_far = past_history c.loop-field.past in
@@ -39,7 +39,7 @@ read_item-requires-clause-not_done c = sym c.in_ok-says_done.ensures ∙ search 
 -- it is no item's either, or one that is refused
 pub returns-in_err-read_item-clause-reads : goal.returns-in_err-read_item-clause-reads
 returns-in_err-read_item-clause-reads c name =
-    let p = err_from_is_err_and c.from_residual.result c.from_residual.ensures.1 in
+    let p = err_from_is_err_and c.from_residual-in_err-read_item.result c.from_residual-in_err-read_item.ensures.1 in
     rw (p.1, p.2)
     (items-refused (past_schema c.args.past.now) c.args.world.now name (past_user c.args.past.now) (past_history c.args.past.now)
     (past_history c.loop-field.past) c.args.lines.now c.loop-field.lines c.take_line.new.self c.in_ok-field.field
@@ -77,5 +77,5 @@ loop-field-smaller c =
 
 pub returns-in_err-says_done-clause-reads : goal.returns-in_err-says_done-clause-reads
 returns-in_err-says_done-clause-reads c name =
-    let p = err_from_is_err_and c.from_residual.result c.from_residual.ensures.1 in
+    let p = err_from_is_err_and c.from_residual-in_err-says_done.result c.from_residual-in_err-says_done.ensures.1 in
     rw (p.1, p.2) tt

@@ -68,7 +68,7 @@ shown_query-requires-clause-fits c =
 -- its blocks are refused
 pub returns-in_err-query-clause-reads : goal.returns-in_err-query-clause-reads
 returns-in_err-query-clause-reads c name =
-    let p = err_from_is_err_and c.from_residual.result c.from_residual.ensures.1 in
+    let p = err_from_is_err_and c.from_residual-in_err-query.result c.from_residual-in_err-query.ensures.1 in
     let past = c.args.past.now in
     let schema = past_schema past in
     let world = c.args.world.now in
@@ -155,10 +155,10 @@ returns-clause-same c = record {
 
 pub returns-in_err-asked-clause-reads : goal.returns-in_err-asked-clause-reads
 returns-in_err-asked-clause-reads c name =
-    let p = err_from_is_err_and c.from_residual.result c.from_residual.ensures.1 in
+    let p = err_from_is_err_and c.from_residual-in_err-asked.result c.from_residual-in_err-asked.ensures.1 in
     rw (p.1, p.2) tt
 
 pub returns-in_err-add_answered-clause-reads : goal.returns-in_err-add_answered-clause-reads
 returns-in_err-add_answered-clause-reads c name =
-    let p = err_from_is_err_and c.from_residual.result c.from_residual.ensures.1 in
+    let p = err_from_is_err_and c.from_residual-in_err-add_answered.result c.from_residual-in_err-add_answered.ensures.1 in
     rw (p.1, p.2) tt

@@ -42,7 +42,7 @@ read_harm-requires-2-clause-fits c =
 
 pub returns-in_err-implied-clause-reads : goal.returns-in_err-implied-clause-reads
 returns-in_err-implied-clause-reads c world name task of =
-    let p = err_from_is_err_and c.from_residual.result c.from_residual.ensures.1 in
+    let p = err_from_is_err_and c.from_residual-in_err-implied.result c.from_residual-in_err-implied.ensures.1 in
     let past = c.args.past.now in
     let query = sentence_of c.args.query.now in
     let told = log (past_user past) (past_history past) in
@@ -55,7 +55,7 @@ returns-in_err-implied-clause-reads c world name task of =
 
 pub returns-in_err-yes_harm-clause-reads : goal.returns-in_err-yes_harm-clause-reads
 returns-in_err-yes_harm-clause-reads c world name task of =
-    let p = err_from_is_err_and c.from_residual.result c.from_residual.ensures.1 in
+    let p = err_from_is_err_and c.from_residual-in_err-yes_harm.result c.from_residual-in_err-yes_harm.ensures.1 in
     let past = c.args.past.now in
     let query = sentence_of c.args.query.now in
     let told = log (past_user past) (past_history past) in
@@ -71,7 +71,7 @@ returns-in_err-yes_harm-clause-reads c world name task of =
 
 pub returns-in_err-no_harm-clause-reads : goal.returns-in_err-no_harm-clause-reads
 returns-in_err-no_harm-clause-reads c world name task of =
-    let p = err_from_is_err_and c.from_residual.result c.from_residual.ensures.1 in
+    let p = err_from_is_err_and c.from_residual-in_err-no_harm.result c.from_residual-in_err-no_harm.ensures.1 in
     let past = c.args.past.now in
     let query = sentence_of c.args.query.now in
     let told = log (past_user past) (past_history past) in

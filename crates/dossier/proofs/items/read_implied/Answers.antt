@@ -30,7 +30,7 @@ read_goal-requires-2-clause-fits c =
 
 pub returns-in_err-yes-clause-reads : goal.returns-in_err-yes-clause-reads
 returns-in_err-yes-clause-reads c world name task more of =
-    let p = err_from_is_err_and c.from_residual.result c.from_residual.ensures.1 in
+    let p = err_from_is_err_and c.from_residual-in_err-yes.result c.from_residual-in_err-yes.ensures.1 in
     let past = c.args.past.now in
     let query = sentence_of c.args.query.now in
     let told = log (past_user past) (past_history past) in
@@ -44,7 +44,7 @@ returns-in_err-yes-clause-reads c world name task more of =
 
 pub returns-in_err-no-clause-reads : goal.returns-in_err-no-clause-reads
 returns-in_err-no-clause-reads c world name task more of =
-    let p = err_from_is_err_and c.from_residual.result c.from_residual.ensures.1 in
+    let p = err_from_is_err_and c.from_residual-in_err-no.result c.from_residual-in_err-no.ensures.1 in
     let past = c.args.past.now in
     let query = sentence_of c.args.query.now in
     let told = log (past_user past) (past_history past) in

@@ -136,7 +136,7 @@ read_block-requires-clause-all_nodes c =
 -- it is refused
 pub returns-in_err-read_block-clause-reads : goal.returns-in_err-read_block-clause-reads
 returns-in_err-read_block-clause-reads c world name =
-    let p = err_from_is_err_and c.from_residual.result c.from_residual.ensures.1 in
+    let p = err_from_is_err_and c.from_residual-in_err-read_block.result c.from_residual-in_err-read_block.ensures.1 in
     let past = c.args.past.now in
     let schema = past_schema past in
     let user = past_user past in
@@ -234,20 +234,20 @@ returns-clause-same c = record { schema = c.add_secret.ensures.same.schema; user
 
 pub returns-in_err-secret-clause-reads : goal.returns-in_err-secret-clause-reads
 returns-in_err-secret-clause-reads c world name =
-    let p = err_from_is_err_and c.from_residual.result c.from_residual.ensures.1 in
+    let p = err_from_is_err_and c.from_residual-in_err-secret.result c.from_residual-in_err-secret.ensures.1 in
     rw (p.1, p.2) tt
 
 pub returns-in_err-guarded-clause-reads : goal.returns-in_err-guarded-clause-reads
 returns-in_err-guarded-clause-reads c world name =
-    let p = err_from_is_err_and c.from_residual.result c.from_residual.ensures.1 in
+    let p = err_from_is_err_and c.from_residual-in_err-guarded.result c.from_residual-in_err-guarded.ensures.1 in
     rw (p.1, p.2) tt
 
 pub returns-in_err-goal-clause-reads : goal.returns-in_err-goal-clause-reads
 returns-in_err-goal-clause-reads c world name =
-    let p = err_from_is_err_and c.from_residual.result c.from_residual.ensures.1 in
+    let p = err_from_is_err_and c.from_residual-in_err-goal.result c.from_residual-in_err-goal.ensures.1 in
     rw (p.1, p.2) tt
 
 pub returns-in_err-add_secret-clause-reads : goal.returns-in_err-add_secret-clause-reads
 returns-in_err-add_secret-clause-reads c world name =
-    let p = err_from_is_err_and c.from_residual.result c.from_residual.ensures.1 in
+    let p = err_from_is_err_and c.from_residual-in_err-add_secret.result c.from_residual-in_err-add_secret.ensures.1 in
     rw (p.1, p.2) tt
