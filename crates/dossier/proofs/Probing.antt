@@ -1,7 +1,7 @@
 -- The probes of the admission and of a query, as their blocks are read.
 use Rattle.std.proofs.Common.{◌≡◌, ◌≢◌, ◌+◌, ℕ, Bool, true, false, List, [], ◌∷◌, ◌++◌, length, Option, Some, None, Result, Ok, Err}
 use Rattle.std.proofs.Common.{refl, sym, ap, subst, ◌∙◌, append_assoc, append-nil}
-use Rattle.std.specs.Prelude.{codes, if◌then◌else◌, Unit}
+use Rattle.std.specs.Prelude.{codes, if◌then◌else◌}
 use Rattle.cqe_base.specs.declared.user.Method.{Method}
 use Rattle.cqe_base.specs.declared.user.Method.TheVariants.{Lying, Refusal, Combined}
 use Rattle.cqe_base.specs.Schema.{DatabaseSchema, Text}
@@ -117,15 +117,15 @@ module _ (schema : DatabaseSchema) (world : FactSet) (name : Text) (user : UserP
 
   module _ (before : History) (task : Task) (query : Formula) (more : List Probe) where
     -- for refusal both blocks were read
-    pub implied-read : user.method ≡ Refusal → (old middle new : Unread) (affirmed denied : Bool)
+    pub implied-read : user.method ≡ Refusal → (old middle new : Unread) (pro con : Bool)
         → answer schema world name user (awaited_for schema world name user before task
         (goal_probe (log user before) (query, true) ∷ (goal_probe (log user before) (query, false) ∷ more)) []) old
-        ≡ answer schema world name user (awaited_for schema world name user before task (goal_probe (log user before) (query, false) ∷ more) (affirmed ∷ [])) middle
-        → answer schema world name user (awaited_for schema world name user before task (goal_probe (log user before) (query, false) ∷ more) (affirmed ∷ [])) middle
-        ≡ answer schema world name user (awaited_for schema world name user before task more (affirmed ∷ denied ∷ [])) new
-        → ReadsImplied schema world name user before task query more old new (Ok (if affirmed then Some true else if denied then Some false else None))
-    implied-read is old middle new affirmed denied first second = (
-      affirmed ∷ denied ∷ [],
+        ≡ answer schema world name user (awaited_for schema world name user before task (goal_probe (log user before) (query, false) ∷ more) (pro ∷ [])) middle
+        → answer schema world name user (awaited_for schema world name user before task (goal_probe (log user before) (query, false) ∷ more) (pro ∷ [])) middle
+        ≡ answer schema world name user (awaited_for schema world name user before task more (pro ∷ con ∷ [])) new
+        → ReadsImplied schema world name user before task query more old new (Ok (if pro then Some true else if con then Some false else None))
+    implied-read is old middle new pro con first second = (
+      pro ∷ con ∷ [],
       refl,
       sym (ap (λ m. length (implied_probes m (log user before) query)) is),
       ap (λ m. answer schema world name user (awaited_for schema world name user before task
@@ -189,22 +189,22 @@ module _ (schema : DatabaseSchema) (world : FactSet) (name : Text) (user : UserP
         → ReadsFindings schema world name user before task query old new
         (Ok (record { spent = false; implied = implied; yes_harm = yes_harm; no_harm = no_harm }))
     findings-read old first second new implied yes_harm no_harm (verdicts, implied_is, size, start) with_it without =
-        let (affirmed, yes_size, yes_is, to_second) = with_it verdicts in
-        let (denied, no_size, no_is, to_new) = without (verdicts ++ affirmed) in
+        let (pro, yes_size, yes_is, to_second) = with_it verdicts in
+        let (con, no_size, no_is, to_new) = without (verdicts ++ pro) in
         let all : answer schema world name user (awaited_for schema world name user before task
         (probes (user_at user before) told query) []) old
-        ≡ answer schema world name user (behind_task schema world name user before task (verdicts ++ (affirmed ++ denied))) new =
+        ≡ answer schema world name user (behind_task schema world name user before task (verdicts ++ (pro ++ con))) new =
         ap (λ ps. answer schema world name user (awaited_for schema world name user before task ps []) old)
         (query-probes user.method goals told query)
         ∙ start ∙ to_second
-        ∙ ap (λ ps. answer schema world name user (awaited_for schema world name user before task ps (verdicts ++ affirmed)) second) (sym (append-nil negated))
+        ∙ ap (λ ps. answer schema world name user (awaited_for schema world name user before task ps (verdicts ++ pro)) second) (sym (append-nil negated))
         ∙ to_new
-        ∙ ap (λ vs. answer schema world name user (behind_task schema world name user before task vs) new) (append_assoc verdicts affirmed denied) in (
-          verdicts ++ (affirmed ++ denied),
+        ∙ ap (λ vs. answer schema world name user (behind_task schema world name user before task vs) new) (append_assoc verdicts pro con) in (
+          verdicts ++ (pro ++ con),
           (
             refl,
             λ truth. ap (λ o. mark_by user.method false o yes_harm no_harm truth) implied_is
-                ∙ found-mark (length goals) affirmed denied yes_size user.method verdicts yes_harm no_harm truth (size ∙ first-many user.method told query) yes_is no_is,
+                ∙ found-mark (length goals) pro con yes_size user.method verdicts yes_harm no_harm truth (size ∙ first-many user.method told query) yes_is no_is,
           ),
           all,
         )
@@ -272,11 +272,11 @@ module _ (schema : DatabaseSchema) (world : FactSet) (name : Text) (user : UserP
         → ((shown : List Bool) → ReadsHarm before task (query, false) [] shown second new (Err why))
         → ReadsFindings schema world name user before task query old new (Err why)
     third-refused old first second new implied yes_harm why (verdicts, implied_is, size, start) with_it next =
-        let (affirmed, yes_size, yes_is, to_second) = with_it verdicts in
+        let (pro, yes_size, yes_is, to_second) = with_it verdicts in
         findings-err old new why (λ isnt. starts old ∙ start ∙ to_second
-        ∙ ap (λ ps. answer schema world name user (awaited_for schema world name user before task ps (verdicts ++ affirmed)) second) (sym (append-nil negated))
-        ∙ all-says (awaited_for schema world name user before task (negated ++ []) (verdicts ++ affirmed)) second new (length goals)
-        (λ more. awaited_for schema world name user before task [] ((verdicts ++ affirmed) ++ more)) why (next (verdicts ++ affirmed)) isnt)
+        ∙ ap (λ ps. answer schema world name user (awaited_for schema world name user before task ps (verdicts ++ pro)) second) (sym (append-nil negated))
+        ∙ all-says (awaited_for schema world name user before task (negated ++ []) (verdicts ++ pro)) second new (length goals)
+        (λ more. awaited_for schema world name user before task [] ((verdicts ++ pro) ++ more)) why (next (verdicts ++ pro)) isnt)
 
 -- the same over the schema, the user and the items that are kept
 pub harm-at : (schema schema' : DatabaseSchema) (world : FactSet) (name : Text) (user user' : UserProfile) (before before' : History) (task : Task)
