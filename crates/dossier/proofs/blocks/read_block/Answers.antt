@@ -61,8 +61,8 @@ returns-then-branch-clause-reads c world name user showing same of =
     (premise_of c.args.probe.now) (goal_of c.args.probe.now) showing.probe (lines_of c.in_ok-read.read.0) _ c.requires.view.0 c.requires.view.1 same
     c.in_ok-confirm.ensures.right)
 
-pub returns-else-branch-clause-reads : goal.returns-else-branch-clause-reads
-returns-else-branch-clause-reads c world name user showing same of =
+pub returns-clause-reads : goal.returns-clause-reads
+returns-clause-reads c world name user showing same of =
     block-ended c.args.told.schema.now world name user showing c.args.lines.now c.take_line.new.self
     c.in_ok-field.field c.in_ok-field.ensures.takes
     c.args.reason of (search (rules, tests)) (search (rules, tests)) c.read_refutation.new.lines c.in_ok-read.read.1 (lines_of c.in_ok-read.read.0) false

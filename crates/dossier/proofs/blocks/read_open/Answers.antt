@@ -37,10 +37,10 @@ returns-then-is_countermodel c = λ isnt.
     ap (λ b. if b then Ok tt else Err (refused.Verdict c.args.field.now.line)) (sym c.if-is_countermodel.true)
     ∙ shown (goal.at.returns-then-is_countermodel c).After-is_countermodel
 
-pub returns-else-is_countermodel : goal.returns-else-is_countermodel
-returns-else-is_countermodel c = λ isnt.
+pub returns : goal.returns
+returns c = λ isnt.
     ap (λ b. if b then Ok tt else Err (refused.Verdict c.args.field.now.line)) (sym c.if-is_countermodel.false)
-    ∙ shown (goal.at.returns-else-is_countermodel c).After-is_countermodel
+    ∙ shown (goal.at.returns c).After-is_countermodel
 
 -- ---- want of memory says nothing
 

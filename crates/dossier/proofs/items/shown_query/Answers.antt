@@ -26,8 +26,8 @@ read_findings-requires-clause-fits c =
     let past = c.args.past.now in
     subst (λ s. FitsLog (past_schema past) (past_user past) (past_history past) (formula_of s)) (sym c.in_ok-query.ensures.same) c.requires.fits
 
-pub holds-requires : goal.holds-requires
-holds-requires c =
+pub holds-truth-requires : goal.holds-truth-requires
+holds-truth-requires c =
     subst (λ schema. is_sentence_of schema (formula_of c.in_ok-query.query.sentence) ≡ true) (sym c.read_findings.ensures.same.0.schema)
     (subst (λ s. is_sentence_of (past_schema c.args.past.now) (formula_of s) ≡ true) (sym c.in_ok-query.ensures.same) c.requires.sentence)
 
