@@ -9,10 +9,11 @@ from serving import check, free_port, records
 
 
 def with_copies(place):
-    """Makes a second directory of journals in a ward, that of its standby."""
+    """Makes a second directory of journals in a ward, that of its standby, and gives the ward."""
     (place.root / "copies").mkdir()
     done = over_copies(place, "init")
     check(done.returncode == 0, f"init of the copies ended with {done.returncode}: {done.stderr}")
+    return place
 
 
 def words_over_copies(place, command, *more):
