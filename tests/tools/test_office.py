@@ -43,16 +43,17 @@ class OfOffices(InDirectory):
 
 
 class Limits(OfOffices):
-    def within(self, made):
-        """Looks at every limit of docs/FORMATS.md that a policy, facts and a history have."""
+    def within(self, made, step=1):
+        """Looks at every limit of docs/FORMATS.md: of the policy, the facts, and the history of every `step`th user."""
         self.assertIsNone(schemas.refusal(*made.policy.declarations()))
         self.assertEqual(made.policy.version(), 2)
         self.assertLessEqual(len(made.facts), schemas.FACTS)
         self.assertEqual(len({user["name"] for user in made.users}), len(made.users))
-        for user in made.users:
+        for number, user in enumerate(made.users):
             with self.subTest(user["name"]):
                 self.user_within(made, user)
-                self.history_within(made, user)
+                if number % step == 0:
+                    self.history_within(made, user)
 
     def user_within(self, made, user):
         self.assertLessEqual(user.keys(), set(policies.USER_KEYS_OF_2))
@@ -90,7 +91,7 @@ class Limits(OfOffices):
 
     def test_a_view_with_the_largest_sentences_keeps_them(self):
         made = Made(self.make(users=12, facts=6000, asks=4096))
-        self.within(made)
+        self.within(made, step=3)
         self.assertEqual({made.schema.size(domain) for domain in made.schema.domains}, {schemas.CONSTANTS})
         self.assertGreater(min(policies.view_nodes(made.schema, user) for user in made.users), 39_000)
         largest = max(nodes for user in made.users for nodes in policies.secret_nodes(made.schema, user))
@@ -132,7 +133,7 @@ class Meaning(OfOffices):
                 self.assertTrue(is_true(made.schema, made.facts, sentence_of(made.schema, text.encode())), text)
 
     def test_users_are_admitted_and_meet_each_mark(self):
-        directory = self.make(constants=4, facts=30, users=12, nodes=120, asks=20)
+        directory = self.make(constants=4, facts=30, users=12, nodes=80, asks=9)
         policy, stated = ((directory / name).read_bytes() for name in ("policy", "facts"))
         marks = {}
         for name in Made(directory).asks:
