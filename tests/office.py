@@ -160,6 +160,10 @@ class Office:
         some = joined("or", *(equal("x", firm) for firm in self.members[branch]))
         return self.of_firms("forall", joined("<->", atom("in_branch", "x", branch), some))
 
+    def some_firm_of(self, branch):
+        """There is a firm in the branch."""
+        return self.of_firms("exists", atom("in_branch", "x", branch))
+
     def rule(self, one, other):
         """Whichever firm makes the first true makes the second true."""
         return self.of_firms("forall", joined("->", one, other))
@@ -195,14 +199,15 @@ def branches_with_firms(office, chance, count):
 
 
 def large_secrets(office, chance, nodes):
-    """Two secrets as large as a sentence may be; he knows what is public of their firms."""
+    """Two secrets as large as a sentence may be; he knows little of their firms."""
     width = max(1, min(WIDEST, len(office.members) // 2, ((nodes // 2 - 2) // office.constants - 1) // 2))
     branches = branches_with_firms(office, chance, 2 * width)
-    return Way(branches, secrets=[office.loss_in(branches[:width]), office.loss_in(branches[width:])])
+    secrets = [office.loss_in(branches[:width]), office.loss_in(branches[width:])]
+    return Way(branches, secrets=secrets, know=[office.some_firm_of(branches[0])])
 
 
 def many_secrets(office, chance, _nodes):
-    """As many secrets as a user may have, each with a quantifier; he knows the firms of one branch."""
+    """As many secrets as a user may have, each with a quantifier; he knows the firms of one branch, and much of others."""
     branches = branches_with_firms(office, chance, schemas.SECRETS // 2)
     regions = chance.several(office.names["region"], schemas.SECRETS // 2)
     secrets = alternating([office.loss_in([branch]) for branch in branches], map(office.export_to, regions))
@@ -341,8 +346,8 @@ class User:
 
 
 # Of 100 questions so many, counted up, are of each kind; the last one has a quantifier.
-QUESTIONS = ((45, User.of_trade), (57, User.of_guarded), (72, User.of_confidence), (82, User.of_register),
-             (92, User.either), (96, User.both), (99, User.opposite))
+QUESTIONS = ((64, User.of_trade), (76, User.of_guarded), (84, User.of_confidence), (88, User.of_register),
+             (94, User.either), (97, User.both), (99, User.opposite))
 
 
 def phrase(name):
