@@ -1,8 +1,8 @@
 #!/usr/bin/env python3
 """Makes up a statistics office from a seed: tests/office.py DIRECTORY [--seed N] [--users N] [--facts N] [--asks N] ..
 
-It writes the files `policy` and `facts` into the directory, and for each user the file `asks/NAME`, with one question in
-each line. The same words write the same bytes, and a longer list of questions begins with the shorter one.
+It writes the files `policy` and `facts` into the directory, and for each user the file `asks/NAME`, a question in each
+line. The same words write the same bytes, and a longer list of questions begins with the shorter one.
 
 The office has a register of firms. Which firm is of which branch, sector and region is public; what the firms sell,
 export and supply was asked in a survey, and who made a loss or was subsidised was told in confidence. Two firms make a
@@ -121,7 +121,7 @@ class Office:
                 atom("in_sector", firm, self.sector[firm])]
 
     def confidential(self, firm):
-        """What is true of a firm and was told in confidence. Who made a loss was surveyed, and so was who is subsidised."""
+        """What is true of a firm and was told in confidence. Who is subsidised made a loss, and who did was surveyed."""
         surveyed = self.chance.holds(80)
         lost = surveyed and self.chance.holds(30)
         subsidised = lost and self.chance.holds(40)
@@ -207,7 +207,7 @@ def large_secrets(office, chance, nodes):
 
 
 def many_secrets(office, chance, _nodes):
-    """As many secrets as a user may have, each with a quantifier; he knows the firms of one branch, and much of others."""
+    """As many secrets as a user may have, with quantifiers; he knows the firms of one branch, and much of others."""
     branches = branches_with_firms(office, chance, schemas.SECRETS // 2)
     regions = chance.several(office.names["region"], schemas.SECRETS // 2)
     secrets = alternating([office.loss_in([branch]) for branch in branches], map(office.export_to, regions))
