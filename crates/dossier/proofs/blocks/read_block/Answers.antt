@@ -8,7 +8,7 @@ use Rattle.dossier.proofs.blocks.read_block.Goals as goal
 
 pub returns-in_err-field-clause-reads : goal.returns-in_err-field-clause-reads
 returns-in_err-field-clause-reads c world name user showing same of =
-    let p = err_from_is_err_and c.from_residual-in_err-field.result c.from_residual-in_err-field.ensures.1 in
+    let p = err_from_is_err_and c.from_residual.result c.from_residual.ensures.1 in
     rw (p.1, p.2)
     (block-missing c.args.told.schema.now world name user showing c.args.lines.now c.take_line.new.self _ c.in_err-field.ensures.takes)
 

@@ -11,6 +11,7 @@ use Rattle.entailment.specs.Views.{IsViewOf}
 use Rattle.dossier.specs.Checked.{awaited_for}
 use Rattle.dossier.proofs.Each.{none-read, one-more, one-refused, all-read, showing_at, passes-at}
 use Rattle.dossier.proofs.blocks.read_each.Goals as goal
+use Rattle.dossier.proofs.blocks.read_each.Goals.{then-some, else-some}
 
 pub loop-goal-init : goal.loop-goal-init
 loop-goal-init c = record {
@@ -52,7 +53,7 @@ read_block-requires-clause-grounded_goal c =
 
 pub returns-in_err-follows-clause-reads : goal.returns-in_err-follows-clause-reads
 returns-in_err-follows-clause-reads c world name user entries task more shown of =
-    let p = err_from_is_err_and c.from_residual-in_err-follows.result c.from_residual-in_err-follows.ensures.1 in
+    let p = err_from_is_err_and c.from_residual.result c.from_residual.ensures.1 in
     let schema = c.args.told.schema.now in
     let premises = log (profile_of c.args.told.user.now) (map answered_query_of c.args.told.entries.now) ++ premise_list c.args.premise in
     rw (p.1, p.2)

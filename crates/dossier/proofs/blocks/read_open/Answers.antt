@@ -46,7 +46,7 @@ returns c = λ isnt.
 
 pub returns-in_err-facts : goal.returns-in_err-facts
 returns-in_err-facts c = λ isnt.
-    let p = err_from_is_err_and c.from_residual-in_err-facts.result c.from_residual-in_err-facts.ensures.1 in
+    let p = err_from_is_err_and c.from_residual.result c.from_residual.ensures.1 in
     absurd (isnt (p.1 ∙ ap Err p.2))
 
 pub returns-in_err-world : goal.returns-in_err-world

@@ -65,7 +65,7 @@ returns-clause-reads c schema world name user showing =
 
 pub returns-in_err-line-clause-reads : goal.returns-in_err-line-clause-reads
 returns-in_err-line-clause-reads c schema world name user showing =
-    let p = err_from_is_err_and c.from_residual-in_err-line.result c.from_residual-in_err-line.ensures.1 in
+    let p = err_from_is_err_and c.from_residual.result c.from_residual.ensures.1 in
     rw (p.1, p.2) tt
 
 pub returns-in_err-push-clause-reads : goal.returns-in_err-push-clause-reads

@@ -155,7 +155,7 @@ returns-clause-same c = record {
 
 pub returns-in_err-asked-clause-reads : goal.returns-in_err-asked-clause-reads
 returns-in_err-asked-clause-reads c name =
-    let p = err_from_is_err_and c.from_residual-in_err-asked.result c.from_residual-in_err-asked.ensures.1 in
+    let p = err_from_is_err_and c.from_residual.result c.from_residual.ensures.1 in
     rw (p.1, p.2) tt
 
 pub returns-in_err-add_answered-clause-reads : goal.returns-in_err-add_answered-clause-reads

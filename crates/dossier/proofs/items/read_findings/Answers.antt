@@ -42,7 +42,7 @@ read_harm-requires-2-clause-fits c =
 
 pub returns-in_err-implied-clause-reads : goal.returns-in_err-implied-clause-reads
 returns-in_err-implied-clause-reads c world name task of =
-    let p = err_from_is_err_and c.from_residual-in_err-implied.result c.from_residual-in_err-implied.ensures.1 in
+    let p = err_from_is_err_and c.from_residual.result c.from_residual.ensures.1 in
     let past = c.args.past.now in
     let query = sentence_of c.args.query.now in
     let told = log (past_user past) (past_history past) in

@@ -234,7 +234,7 @@ returns-clause-same c = record { schema = c.add_secret.ensures.same.schema; user
 
 pub returns-in_err-secret-clause-reads : goal.returns-in_err-secret-clause-reads
 returns-in_err-secret-clause-reads c world name =
-    let p = err_from_is_err_and c.from_residual-in_err-secret.result c.from_residual-in_err-secret.ensures.1 in
+    let p = err_from_is_err_and c.from_residual.result c.from_residual.ensures.1 in
     rw (p.1, p.2) tt
 
 pub returns-in_err-guarded-clause-reads : goal.returns-in_err-guarded-clause-reads
