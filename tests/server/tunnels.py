@@ -76,8 +76,10 @@ def ends(root, standby, own="primary", idle=40):
     far = {"accept = 7444": f"accept = 127.0.0.1:{outer}", "7008": str(standby.port)}
     near = {"standby.example:7444": f"127.0.0.1:{outer}", "7008": str(inner), "/primary.pem": f"/{own}.pem"}
     with stunnel("standby", root, far, idle), stunnel("primary", root, near, idle):
+        end = time.monotonic() + 30
         for port in (outer, inner):
             while not listens(port):
+                check(time.monotonic() < end, "stunnel doesn't listen")
                 time.sleep(0.1)
         yield inner
 
