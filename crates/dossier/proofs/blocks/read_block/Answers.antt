@@ -1,8 +1,9 @@
-use Rattle.std.proofs.Common.{true, false, map, sym, ◌∙◌, rules, tests}
+use Rattle.std.proofs.Common.{true, false, Ok, map, sym, ◌∙◌, rules, tests}
 use Rattle.std.proofs.lemmas.Result.{err_from_is_err_and}
 use Rattle.cqe_base.specs.History.{profile_of, answered_query_of, log}
 use Rattle.clause_store.specs.PlainLines.{lines_of}
 use Rattle.entailment.specs.Probes.{premise_of, goal_of}
+use Rattle.dossier.specs.Checked.{step}
 use Rattle.dossier.proofs.BlockReads.{confirmed-is, block-missing, block-opens, block-open-refused, block-form, block-may-not, block-refused, block-ended}
 use Rattle.dossier.proofs.blocks.read_block.Goals as goal
 
@@ -46,7 +47,8 @@ returns-in_err-read-clause-reads c world name user showing same of =
     rw (p.1, p.2)
     (block-refused c.args.told.schema.now world name user showing c.args.lines.now c.take_line.new.self
     c.in_ok-field.field c.in_ok-field.ensures.takes
-    c.args.reason of (search (rules, tests)) (search (rules, tests)) c.read_refutation.new.lines _ _ c.in_ok-may_follow.ensures
+    c.args.reason of (search (rules, tests)) (search (rules, tests)) {X = Unit {0}} c.read_refutation.new.lines (λ _. Ok (step showing [])) _
+    c.in_ok-may_follow.ensures
     (c.in_err-read.ensures.reads c.args.told.schema.now world name user showing))
 
 -- the refutation was confirmed, or wasn't

@@ -70,7 +70,7 @@ loop-goal-preserved c =
     let schema = c.args.told.schema.now in
     let premises = log (profile_of c.args.told.user.now) (map answered_query_of c.args.told.entries.now) ++ premise_list c.args.premise in
     let either : c.if-some.some ≡ (c.loop-goal.some || c.in_ok-follows.follows) = elim c.if-some.branch [
-      | then-some w ↦ w.some-is ∙ sym (ap (λ some. some || c.in_ok-follows.follows) w.if-some.true)
+      | then-some w ↦ w.some-is ∙ w.if-some.true ∙ sym (ap (λ some. some || c.in_ok-follows.follows) w.if-some.true)
       | else-some w ↦ w.some-is ∙ sym (ap (λ some. some || c.in_ok-follows.follows) w.if-some.false)
     ] in
     record {

@@ -1,4 +1,4 @@
-use Rattle.std.proofs.Common.{◌≡◌, Bool, true, false, [], ◌∷◌, Ok, refl, sym, subst, ◌∙◌}
+use Rattle.std.proofs.Common.{◌≡◌, Bool, true, false, [], ◌∷◌, Ok, Err, refl, sym, subst, ◌∙◌}
 use Rattle.std.proofs.lemmas.Result.{err_from_is_err_and}
 use Rattle.cqe_base.specs.Formula.{is_sentence_of}
 use Rattle.cqe_base.specs.History.{log}
@@ -57,7 +57,7 @@ returns-in_err-no-clause-reads c world name task more of =
     c.args.lines.now c.read_goal.new.lines c.read_goal-2.new.lines
     (awaited_for (past_schema past) world name (past_user past) (past_history past) task (goal_probe told (query, false) ∷ more) (c.in_ok-yes.yes ∷ [])) _ _
     (c.in_ok-yes.ensures.reads world name task (goal_probe told (query, false) ∷ more) [] of)
-    (goal-at (past_schema past) _ world name (past_user past) _ (past_history past) _ task (query, false) more (c.in_ok-yes.yes ∷ []) c.read_goal.new.lines c.read_goal-2.new.lines _
+    (goal-at (past_schema past) _ world name (past_user past) _ (past_history past) _ task (query, false) more (c.in_ok-yes.yes ∷ []) c.read_goal.new.lines c.read_goal-2.new.lines (Err _)
     same.0.schema same.0.user same.1
     (c.in_err-no.ensures.reads world name task more (c.in_ok-yes.yes ∷ []) of)))
 

@@ -147,9 +147,10 @@ returns-in_err-read_block-clause-reads c world name =
     let asks = ap (λ x. answer schema world name user x c.args.lines.now)
     (protect-read schema world name user before (field_said c.args.field.now) c.requires.protect (grind (arith, nat_tests)) secret read) in
     rw (p.1, p.2)
-    (reads-refused schema world name user _ c.args.lines.now c.read_block.new.lines (λ _. Ok (item before))
-    c.args.lines.now
-    (awaited_for schema world name user before (adding secret (length text)) (addition_probe user before secret ∷ []) []) _ _ asks
+    (reads-refused schema world name user {X = Unit {0}} _ c.args.lines.now c.read_block.new.lines (λ _. Ok (item before))
+    {Y = Unit {0}} c.args.lines.now
+    (awaited_for schema world name user before (adding secret (length text)) (addition_probe user before secret ∷ []) [])
+    (λ _. Ok (item before)) _ asks
     (c.in_err-read_block.ensures.reads world name user
     (record {
       entries = before;
