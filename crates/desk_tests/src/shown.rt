@@ -173,6 +173,16 @@ fn the_dossiers_of_a_workload_are_accepted(rt: HostRuntime) -> Result<(), Fail> 
         panic!(rt; "no script");
     };
     assert_eq!(rt; policy.users.len(), 3);
-    assert!(rt; all_show(&rt, alloc, &policy.schema, &world, &policy.users, script, 20)?);
+    assert!(rt;
+        all_show(
+            &rt,
+            alloc,
+            &policy.schema,
+            &world,
+            &policy.users,
+            script,
+            20
+        )?
+    );
     Ok(())
 }
