@@ -77,7 +77,7 @@ module _ (schema : DatabaseSchema) (world : FactSet) (header : Header) (name : T
     -- so ends the writing of its records
     pub ends_so : (end : DossierEnd) (old new : List ℕ) → IsShown schema world name user all end old new
         → EndsDossier schema world (header_bytes header) name user bytes before now end old new
-    ends_so ends.Done old new (standing, unsealed, text, shown, whole) = (standing, unsealed, (text, says standing text shown, whole))
+    ends_so ends.Done old new (standing, unsealed, (text, shown, whole)) = (standing, unsealed, (text, says standing text shown, whole))
     ends_so (ends.Refused why) old new (text, shown, whole) = (text, says (Sealed why) text shown, whole)
     ends_so ends.WriteFault old new (standing, text, shown, part) = (standing, text, says standing text shown, part)
     ends_so ends.ShelfFault old new shown = absurd shown

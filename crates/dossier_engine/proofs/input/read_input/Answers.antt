@@ -9,8 +9,8 @@ returns-then-count-eq0-clause-reads g c = λ told.
     (g.S.Source.left c.args.source.now) c.in-Ok.count c.if-count-eq0.true took.more (took.moved told) (took.end told c.if-count-eq0.true)
     (c.loop-count.invariant.read told) c.loop-count.invariant.few
 
-pub returns-then-bytes-gt-MOST-clause-reads : goal.returns-then-bytes-gt-MOST-clause-reads
-returns-then-bytes-gt-MOST-clause-reads g c = λ told.
+pub returns-then-len-gt-MOST-clause-reads : goal.returns-then-len-gt-MOST-clause-reads
+returns-then-len-gt-MOST-clause-reads g c = λ told.
     let took = c.in-Ok.ensures in
     too_many c.loop-count.bytes.items c.take_piece.new.bytes.items (g.S.Source.left c.loop-count.source) (g.S.Source.left c.take_piece.new.source)
-    (g.S.Source.left c.args.source.now) (took.moved told) (c.loop-count.invariant.read told) c.if-bytes-gt-MOST.true took.most
+    (g.S.Source.left c.args.source.now) (took.moved told) (c.loop-count.invariant.read told) c.if-len-gt-MOST.true took.most

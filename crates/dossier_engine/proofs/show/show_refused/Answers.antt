@@ -13,7 +13,7 @@ returns-clause-shown g c = λ told.
     let old = g.K.Sink.written c.args.sink.now in
     let new = g.K.Sink.written c.write_unserved-written.new.sink in
     subst (λ end. IsRefusalShown name user c.args.why end old new) (sym c.end_of.ensures)
-    (line_shown name user c.args.why c.if-why-eq-Memory.false c.write_unserved-written.result old new (c.write_unserved-written.ensures.whole told)
+    (line_shown name user c.args.why c.if-eq.false c.write_unserved-written.result old new (c.write_unserved-written.ensures.whole told)
     (c.write_unserved-written.ensures.part told) (λ is. ap g.K.Sink.written (c.write_unserved-written.ensures.nothing is)))
 
 pub returns-clause-undone : goal.returns-clause-undone
