@@ -1,3 +1,4 @@
+use Rattle.std.proofs.Common.{ℕ, ◌<◌, subst}
 use Rattle.dossier_engine.proofs.Reading.{all_read, too_many}
 use Rattle.dossier_engine.proofs.input.read_input.Goals as goal
 
@@ -13,4 +14,5 @@ pub returns-then-len-gt-MOST-clause-reads : goal.returns-then-len-gt-MOST-clause
 returns-then-len-gt-MOST-clause-reads g c = λ told.
     let took = c.in-Ok.ensures in
     too_many c.loop-count.bytes.items c.take_piece.new.bytes.items (g.S.Source.left c.loop-count.source) (g.S.Source.left c.take_piece.new.source)
-    (g.S.Source.left c.args.source.now) (took.moved told) (c.loop-count.invariant.read told) c.if-len-gt-MOST.true took.most
+    (g.S.Source.left c.args.source.now) (took.moved told) (c.loop-count.invariant.read told)
+    (subst (λ (n : ℕ). 67108864 < n) c.len.ensures c.if-len-gt-MOST.true) took.most

@@ -1,5 +1,6 @@
-use Rattle.std.proofs.Common.{string_bytes, sym, ap, subst, ◌∙◌}
+use Rattle.std.proofs.Common.{◌≢◌, string_bytes, sym, ap, subst, ◌∙◌, rules}
 use Rattle.cqe_base.specs.History.{profile_of}
+use Rattle.log_journal.specs.declared.header.OpenError.TheVariants.{Memory}
 use Rattle.user_desk.specs.declared.standing.DeskError.TheVariants.{Journal}
 use Rattle.user_desk.specs.declared.standing.Standing.TheVariants.{Sealed}
 use Rattle.dossier_engine.specs.Shown.{IsRefusalShown}
@@ -12,8 +13,9 @@ returns-clause-shown g c = λ told.
     let user = profile_of c.args.user.now in
     let old = g.K.Sink.written c.args.sink.now in
     let new = g.K.Sink.written c.write_unserved-written.new.sink in
+    let some : c.args.why ≢ Memory = search rules in
     subst (λ end. IsRefusalShown name user c.args.why end old new) (sym c.end_of.ensures)
-    (line_shown name user c.args.why c.if-eq.false c.write_unserved-written.result old new (c.write_unserved-written.ensures.whole told)
+    (line_shown name user c.args.why some c.write_unserved-written.result old new (c.write_unserved-written.ensures.whole told)
     (c.write_unserved-written.ensures.part told) (λ is. ap g.K.Sink.written (c.write_unserved-written.ensures.nothing is)))
 
 pub returns-clause-undone : goal.returns-clause-undone
