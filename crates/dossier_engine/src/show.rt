@@ -110,9 +110,11 @@ fn show_refused<K: Sink>(alloc: Global, user: &User, why: OpenError, sink: &mut 
     ensures cause { result ≡ DossierEnd.WriteFault → Rose (K.faults sink.old) (K.faults sink.new) }
     ensures shelf { result ≡ DossierEnd.ShelfFault → ⊥ }
 {
-    if why == OpenError::Memory {
-        return DossierEnd::Memory;
+    match why {
+        OpenError::Memory => DossierEnd::Memory,
+        _ => {
+            let written = write_unserved(alloc, user, "sealed", sink);
+            end_of(DossierEnd::Refused(DeskError::Journal(why)), written)
+        }
     }
-    let written = write_unserved(alloc, user, "sealed", sink);
-    end_of(DossierEnd::Refused(DeskError::Journal(why)), written)
 }
