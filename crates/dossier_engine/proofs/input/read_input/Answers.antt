@@ -1,4 +1,4 @@
-use Rattle.std.proofs.Common.{ℕ, ◌<◌, subst}
+use Rattle.std.proofs.Common.{◌<◌, length, arith}
 use Rattle.dossier_engine.proofs.Reading.{all_read, too_many}
 use Rattle.dossier_engine.proofs.input.read_input.Goals as goal
 
@@ -13,6 +13,7 @@ returns-then-count-eq0-clause-reads g c = λ told.
 pub returns-then-len-gt-MOST-clause-reads : goal.returns-then-len-gt-MOST-clause-reads
 returns-then-len-gt-MOST-clause-reads g c = λ told.
     let took = c.in-Ok.ensures in
+    let same = c.take_piece.new.bytes.ok.0 in
+    let many : 67108864 < length c.take_piece.new.bytes.items = omega (arith, same, c.len.ensures, c.if-len-gt-MOST.true) in
     too_many c.loop-count.bytes.items c.take_piece.new.bytes.items (g.S.Source.left c.loop-count.source) (g.S.Source.left c.take_piece.new.source)
-    (g.S.Source.left c.args.source.now) (took.moved told) (c.loop-count.invariant.read told)
-    (subst (λ (n : ℕ). 67108864 < n) c.len.ensures c.if-len-gt-MOST.true) took.most
+    (g.S.Source.left c.args.source.now) (took.moved told) (c.loop-count.invariant.read told) many took.most
