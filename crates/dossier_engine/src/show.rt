@@ -110,11 +110,9 @@ fn show_refused<K: Sink>(alloc: Global, user: &User, why: OpenError, sink: &mut 
     ensures cause { result ≡ DossierEnd.WriteFault → Rose (K.faults sink.old) (K.faults sink.new) }
     ensures shelf { result ≡ DossierEnd.ShelfFault → ⊥ }
 {
-    match why {
-        OpenError::Memory => DossierEnd::Memory,
-        _ => {
-            let written = write_unserved(alloc, user, "sealed", sink);
-            end_of(DossierEnd::Refused(DeskError::Journal(why)), written)
-        }
+    if why == OpenError::Memory {
+        return DossierEnd::Memory;
     }
+    let written = write_unserved(alloc, user, "sealed", sink);
+    end_of(DossierEnd::Refused(DeskError::Journal(why)), written)
 }
