@@ -9,12 +9,9 @@ _cqe_options() {
         selfrun) echo --seed --users --asks ;;
         serve) echo --policy --facts --journals --listen --workers --sessions --standby ;;
         migrate) echo --policy --facts --journals --to ;;
-<<<<<<< HEAD
         dossier) echo --policy --facts --journals --user ;;
         check) echo --policy --facts --user ;;
-=======
         standby) echo --policy --facts --journals --listen --sessions ;;
->>>>>>> b-stby2
     esac
 }
 
@@ -113,11 +110,7 @@ _cqe() {
     elif [[ ${COMP_WORDS[0]##*/} == cqe-lrat ]]; then
         choices="--policy --facts --user --to --help"
     elif ((COMP_CWORD == 1)); then
-<<<<<<< HEAD
-        choices="case init batch audit selfrun serve migrate dossier check"
-=======
-        choices="case init batch audit selfrun serve migrate standby"
->>>>>>> b-stby2
+        choices="case init batch audit selfrun serve migrate dossier check standby"
     else
         choices=$(_cqe_options "${COMP_WORDS[1]}")
     fi

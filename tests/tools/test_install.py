@@ -188,12 +188,8 @@ class Completion(Temporary):
         table = re.findall(r"^\| `(\w+)` \|(.*)\|$", (TOP / "docs/FORMATS.md").read_text().partition("## The words")[2]
                            .partition("## Replies")[0], re.MULTILINE)
         commands = {command: re.findall(r"--\w+", options) for command, options in table}
-<<<<<<< HEAD
         self.assertEqual(set(commands), {"case", "init", "batch", "audit", "selfrun", "serve", "migrate", "dossier",
-                                         "check"})
-=======
-        self.assertEqual(set(commands), {"case", "init", "batch", "audit", "selfrun", "serve", "migrate", "standby"})
->>>>>>> b-stby2
+                                         "check", "standby"})
         self.assertEqual(set(self.completed("cqe", "")), set(commands))
         for command, options in commands.items():
             self.assertEqual(set(self.completed("cqe", command, "")), set(options), command)

@@ -20,12 +20,9 @@ COMMANDS = {
     "selfrun": ({"seed": (0, 4_294_967_295), "users": (1, 256), "asks": (1, 10_000)}, {}),
     "serve": ({**FILES, "listen": None}, {"workers": WORKERS, "sessions": SESSIONS, "standby": None}),
     "migrate": ({**FILES, "to": None}, {}),
-<<<<<<< HEAD
     "dossier": ({**FILES, "user": None}, {}),
     "check": ({"policy": None, "facts": None, "user": None}, {}),
-=======
     "standby": ({**FILES, "listen": None}, {"sessions": SESSIONS}),
->>>>>>> b-stby2
 }
 
 

@@ -10,13 +10,8 @@ use Rattle.clap.specs.Walk.{with_default}
 use Rattle.command_words.specs.Uses.{OptionRow, Use, is_flag}
 use Rattle.command_words.specs.Numbers.{number_from, number_or}
 use Rattle.command_words.specs.Readings.{CommandRow, audit_row, audit_said, batch_row, batch_said, command_of, commands, files_of, files_said, init_row}
-<<<<<<< HEAD
 use Rattle.command_words.specs.Readings.{is_used, migrate_row, migrate_said, dossier_row, dossier_said, check_row, check_said}
-use Rattle.command_words.specs.Readings.{runs_init, selfrun_row, selfrun_said, serve_row, serve_said, value_of}
-=======
-use Rattle.command_words.specs.Readings.{is_used, migrate_row, migrate_said}
 use Rattle.command_words.specs.Readings.{runs_init, selfrun_row, selfrun_said, serve_row, serve_said, standby_row, standby_said, value_of}
->>>>>>> b-stby2
 use Rattle.command_words.specs.Matched.{command_with, files_in, says_true}
 use Rattle.command_words.proofs.Options.{default_is, finished_rows, rows_of_uses, row_of_use, rule_for, text_of, unused_row}
 use Rattle.command_words.proofs.Walks.{rows_at_end}
@@ -214,10 +209,12 @@ command_reading word row uses known =
       refl,
       (
         ap (option_map runs_init) (files_are init_row.options uses refl refl refl),
-<<<<<<< HEAD
-        (batch_is uses, (audit_is uses, (selfrun_is uses, (serve_is uses, (migrate_is uses, (dossier_is uses, (check_is uses, tt))))))),
-=======
-        (batch_is uses, (audit_is uses, (selfrun_is uses, (serve_is uses, (migrate_is uses, (standby_is uses, tt)))))),
->>>>>>> b-stby2
+        (
+          batch_is uses,
+          (
+            audit_is uses,
+            (selfrun_is uses, (serve_is uses, (migrate_is uses, (dossier_is uses, (check_is uses, (standby_is uses, tt)))))),
+          ),
+        ),
       ),
     )

@@ -9,11 +9,8 @@ use Rattle.clap.specs.declared.builder.value_parser.ValueParser.TheVariants.{Non
 use Rattle.command_words.specs.Numbers.{number_from, number_or}
 use Rattle.command_words.specs.Readings.{FileNames, Reading, runs_case, runs_init}
 use Rattle.command_words.specs.Readings.{files_said, batch_said, audit_said, selfrun_said}
-<<<<<<< HEAD
 use Rattle.command_words.specs.Readings.{serve_said, migrate_said, dossier_said, check_said}
-=======
-use Rattle.command_words.specs.Readings.{serve_said, migrate_said, standby_said}
->>>>>>> b-stby2
+use Rattle.command_words.specs.Readings.{standby_said}
 
 -- `--`, or a hyphen and a further byte that isn't one: no reading has such a word
 abbrev pub is_short : List ℕ → Bool
@@ -81,7 +78,6 @@ serve_command = with_rule
 abbrev pub migrate_command : App
 migrate_command = with_rule (file_command (codes "migrate")) (needed_rule (codes "to"))
 
-<<<<<<< HEAD
 -- the subcommand `dossier`
 abbrev pub dossier_command : App
 dossier_command = with_rule (file_command (codes "dossier")) (needed_rule (codes "user"))
@@ -89,34 +85,30 @@ dossier_command = with_rule (file_command (codes "dossier")) (needed_rule (codes
 -- the subcommand `check`
 abbrev pub check_command : App
 check_command = three_command (codes "check") (codes "policy") (codes "facts") (codes "user")
-=======
+
 -- the subcommand `standby`
 abbrev pub standby_command : App
 standby_command = with_rule
     (with_rule (file_command (codes "standby")) (needed_rule (codes "listen")))
     (optional_rule (codes "sessions"))
->>>>>>> b-stby2
 
 -- a command line with no subcommand yet
 abbrev pub bare : App
 bare = on_top with_settings (new_app (codes "cqe"))
 
+-- a command line with the last three commands too
+abbrev pub with_last : App → App
+with_last app = with_subcommand (with_subcommand (with_subcommand app
+    dossier_command.top) check_command.top) standby_command.top
+
 -- the command line of the program
 abbrev pub program : App
-<<<<<<< HEAD
-program = with_subcommand (with_subcommand (with_subcommand
-=======
-program = with_subcommand (with_subcommand
->>>>>>> b-stby2
+program = with_last (with_subcommand
     (with_subcommand (with_subcommand (with_subcommand (with_subcommand (with_subcommand
     (with_subcommand bare
     (new_app (codes "case")).top) (file_command (codes "init")).top)
     batch_command.top) audit_command.top) selfrun_command.top)
-<<<<<<< HEAD
-    serve_command.top) migrate_command.top) dossier_command.top) check_command.top
-=======
-    serve_command.top) migrate_command.top) standby_command.top
->>>>>>> b-stby2
+    serve_command.top) migrate_command.top)
 
 -- the files that the rows that were matched name
 abbrev pub files_in : List Row → Option FileNames
@@ -183,10 +175,7 @@ command_with command rows =
     else if bytes_eq command (codes "selfrun") then selfrun_in rows
     else if bytes_eq command (codes "serve") then serve_in rows
     else if bytes_eq command (codes "migrate") then migrate_in rows
-<<<<<<< HEAD
     else if bytes_eq command (codes "dossier") then dossier_in rows
     else if bytes_eq command (codes "check") then check_in rows
-=======
     else if bytes_eq command (codes "standby") then standby_in rows
->>>>>>> b-stby2
     else None

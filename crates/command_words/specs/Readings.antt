@@ -7,11 +7,7 @@ use Rattle.command_words.specs.Numbers.{number_from, number_or}
 use Rattle.command_words.specs.declared.command.Command.{Command}
 use Rattle.command_words.specs.declared.command.Command.TheVariants.{Case, Init, Batch, Audit}
 use Rattle.command_words.specs.declared.command.Command.TheVariants.{Selfrun, Serve, Migrate}
-<<<<<<< HEAD
-use Rattle.command_words.specs.declared.command.Command.TheVariants.{Dossier, Check}
-=======
-use Rattle.command_words.specs.declared.command.Command.TheVariants.{Standby}
->>>>>>> b-stby2
+use Rattle.command_words.specs.declared.command.Command.TheVariants.{Dossier, Check, Standby}
 use Rattle.command_words.specs.declared.command.Files.{Files}
 
 -- ---- what words say
@@ -38,19 +34,16 @@ pub data Reading : Type 0 where
   runs_serve : FileNames → List ℕ → ℕ → ℕ → Reading
   -- the moving of the journals of these files to a directory
   runs_migrate : FileNames → List ℕ → Reading
-<<<<<<< HEAD
   -- the dossier of the user of this name
   runs_dossier : FileNames → List ℕ → Reading
   -- the check of a dossier of the user of this name, over a policy file and a facts file
   runs_check : List ℕ → List ℕ → List ℕ → Reading
-=======
   -- the same batch, with a standby at this address that copies the journals
   runs_copied_batch : FileNames → ℕ → List ℕ → Reading
   -- the same server, with a standby at the last address
   runs_copied_serve : FileNames → List ℕ → ℕ → ℕ → List ℕ → Reading
   -- a standby over these files, at this address, for so many connections
   runs_standby : FileNames → List ℕ → ℕ → Reading
->>>>>>> b-stby2
 
 -- ---- the uses of options
 
@@ -273,7 +266,6 @@ migrate_row = record {
   says = migrate_of;
 }
 
-<<<<<<< HEAD
 -- `dossier --policy P --facts F --journals DIR --user NAME`
 abbrev pub dossier_row : CommandRow
 dossier_row = record {
@@ -290,7 +282,8 @@ check_row = record {
   options =
       needed (codes "policy") ∷ needed (codes "facts") ∷ needed (codes "user") ∷ [];
   says = check_of;
-=======
+}
+
 -- `standby --policy P --facts F --journals DIR --listen ADDRESS [--sessions N]`
 abbrev pub standby_row : CommandRow
 standby_row = record {
@@ -298,19 +291,12 @@ standby_row = record {
   options =
       file_options (needed (codes "listen") ∷ optional (codes "sessions") ∷ []);
   says = standby_of;
->>>>>>> b-stby2
 }
 
 -- all commands
 abbrev pub commands : List CommandRow
-<<<<<<< HEAD
 commands = case_row ∷ init_row ∷ batch_row ∷ audit_row ∷ selfrun_row ∷ serve_row ∷ migrate_row
-    ∷ dossier_row ∷ check_row ∷ []
-=======
-commands =
-    case_row ∷ init_row ∷ batch_row ∷ audit_row ∷ selfrun_row ∷ serve_row ∷ migrate_row
-    ∷ standby_row ∷ []
->>>>>>> b-stby2
+    ∷ dossier_row ∷ check_row ∷ standby_row ∷ []
 
 -- the command of this name
 abbrev pub command_of : List ℕ → Option CommandRow
@@ -353,10 +339,7 @@ reading_in (Serve words) =
     serve_reading (names_of_files words.files) words.listen.now words.workers words.sessions
     (option_map (λ s. s.now) words.standby)
 reading_in (Migrate words) = runs_migrate (names_of_files words.files) words.to.now
-<<<<<<< HEAD
 reading_in (Dossier words) = runs_dossier (names_of_files words.files) words.user.now
 reading_in (Check words) = runs_check words.policy.now words.facts.now words.user.now
-=======
 reading_in (Standby words) =
     runs_standby (names_of_files words.files) words.listen.now words.sessions
->>>>>>> b-stby2

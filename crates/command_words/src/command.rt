@@ -5,17 +5,11 @@ ghost use Rattle.std.specs.List.{list_any};
 ghost use Rattle.clap.specs.Words.{found_of, kind_of, rows_of, subcommand_rows_of};
 ghost use Rattle.command_words.specs.Readings.{reading_of, reading_in, names_of_files, files_said};
 ghost use Rattle.command_words.specs.Readings.{batch_said, audit_said, selfrun_said, serve_said};
-<<<<<<< HEAD
 ghost use Rattle.command_words.specs.Readings.{migrate_said, dossier_said, check_said};
+ghost use Rattle.command_words.specs.Readings.{standby_said};
 ghost use Rattle.command_words.specs.Matched.{is_short, says_true, files_in, batch_in, audit_in};
 ghost use Rattle.command_words.specs.Matched.{selfrun_in, serve_in, migrate_in, dossier_in};
-ghost use Rattle.command_words.specs.Matched.{check_in, command_with};
-=======
-ghost use Rattle.command_words.specs.Readings.{migrate_said, standby_said};
-ghost use Rattle.command_words.specs.Matched.{is_short, says_true, files_in, batch_in, audit_in};
-ghost use Rattle.command_words.specs.Matched.{selfrun_in, serve_in, migrate_in, standby_in};
-ghost use Rattle.command_words.specs.Matched.{command_with};
->>>>>>> b-stby2
+ghost use Rattle.command_words.specs.Matched.{check_in, standby_in, command_with};
 
 use crate::number::{number_from, number_or, small_number_from, small_number_or};
 use crate::program::program;
@@ -139,15 +133,12 @@ pub enum Command<'a> {
     Serve(ServeWords<'a>),
     /// `migrate`: the old journals of one directory, moved to another.
     Migrate(MigrateWords<'a>),
-<<<<<<< HEAD
     /// `dossier`: the history of one user with what shows each reply.
     Dossier(DossierWords<'a>),
     /// `check`: the dossier of one user, without a search.
     Check(CheckWords<'a>),
-=======
     /// `standby`: a copy of each journal of another program.
     Standby(StandbyWords<'a>),
->>>>>>> b-stby2
 }
 
 /// Reads the words behind the program's name.
@@ -227,12 +218,9 @@ fn command_with<'a>(name: &str, given: &ArgMatches<'a>) -> Option<Command<'a>>
         "selfrun" => selfrun_in(given),
         "serve" => serve_in(given),
         "migrate" => migrate_in(given),
-<<<<<<< HEAD
         "dossier" => dossier_in(given),
         "check" => check_in(given),
-=======
         "standby" => standby_in(given),
->>>>>>> b-stby2
         _ => None,
     }
 }
@@ -418,7 +406,6 @@ fn migrate_with<'a>(files: Option<Files<'a>>, to: Option<&'a str>) -> Option<Com
     }
 }
 
-<<<<<<< HEAD
 // The dossier that was matched.
 fn dossier_in<'a>(given: &ArgMatches<'a>) -> Option<Command<'a>>
     ensures { option_map reading_in result ≡ dossier_in (rows_of (found_of given.now)) }
@@ -462,7 +449,11 @@ fn check_with<'a>(
             policy,
             facts,
             user,
-=======
+        })),
+        _ => None,
+    }
+}
+
 // The standby that was matched.
 fn standby_in<'a>(given: &ArgMatches<'a>) -> Option<Command<'a>>
     ensures { option_map reading_in result ≡ standby_in (rows_of (found_of given.now)) }
@@ -488,7 +479,6 @@ fn standby_with<'a>(
             files,
             listen,
             sessions,
->>>>>>> b-stby2
         })),
         _ => None,
     }

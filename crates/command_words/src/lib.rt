@@ -16,11 +16,6 @@ mod number;
 mod program;
 
 pub use command::{
-<<<<<<< HEAD
     AuditWords, BatchWords, CheckWords, Command, DossierWords, Files, MigrateWords, SelfrunWords,
-    ServeWords, read_words,
-=======
-    AuditWords, BatchWords, Command, Files, MigrateWords, SelfrunWords, ServeWords, StandbyWords,
-    read_words,
->>>>>>> b-stby2
+    ServeWords, StandbyWords, read_words,
 };

@@ -2,17 +2,10 @@
 ghost use Rattle.std.specs.Prelude.{◌≡◌, false, IfOk};
 ghost use Rattle.clap.specs.Words.{app_of, rule_of};
 ghost use Rattle.clap.specs.declared.builder.command.Command.TheViews.{out-Command};
-<<<<<<< HEAD
 ghost use Rattle.command_words.specs.Matched.{audit_command, batch_command, dossier_command};
 ghost use Rattle.command_words.specs.Matched.{file_command, flag_rule, migrate_command};
 ghost use Rattle.command_words.specs.Matched.{needed_rule, optional_rule, program, serve_command};
-ghost use Rattle.command_words.specs.Matched.{three_command};
-=======
-ghost use Rattle.command_words.specs.Matched.{audit_command, batch_command, file_command};
-ghost use Rattle.command_words.specs.Matched.{flag_rule, migrate_command, needed_rule};
-ghost use Rattle.command_words.specs.Matched.{optional_rule, program, serve_command};
-ghost use Rattle.command_words.specs.Matched.{standby_command, three_command};
->>>>>>> b-stby2
+ghost use Rattle.command_words.specs.Matched.{standby_command, three_command, with_last};
 
 use clap::builder::ValueParser;
 use clap::{Arg, ArgAction, Command};
@@ -29,36 +22,39 @@ pub(crate) fn program<'a>(alloc: Global) -> Result<Command<'a>, AllocError>
     let selfrun = with_three(alloc, "selfrun", "seed", "users", "asks")?;
     let serve = serve(alloc)?;
     let migrate = migrate(alloc)?;
-<<<<<<< HEAD
-    let dossier = dossier(alloc)?;
-    let check = with_three(alloc, "check", "policy", "facts", "user")?;
-=======
-    let standby = standby(alloc)?;
->>>>>>> b-stby2
     let program = Command::new(alloc, "cqe")
         .no_binary_name(true)
         .disable_help_flag(true)
         .disable_help_subcommand(true)
         .subcommand_required(true);
-    let program = program
+    let first = program
         .subcommand(case)?
         .subcommand(init)?
         .subcommand(batch)?
         .subcommand(audit)?
         .subcommand(selfrun)?
         .subcommand(serve)?
-        .subcommand(migrate)?
-<<<<<<< HEAD
-        .subcommand(dossier)?
-        .subcommand(check)?;
-=======
-        .subcommand(standby)?;
->>>>>>> b-stby2
-    Ok(program)
+        .subcommand(migrate)?;
+    let all = with_last(alloc, first)?;
+    Ok(all)
 }
 
 // What each of these returns has a name first: its goals are then plain equations, and no
 // implications under `IfOk`.
+
+// The command line with its last three commands too.
+fn with_last<'a>(alloc: Global, first: Command<'a>) -> Result<Command<'a>, AllocError>
+    ensures { IfOk result (λ command. app_of command ≡ with_last (app_of first.entry)) }
+{
+    let dossier = dossier(alloc)?;
+    let check = with_three(alloc, "check", "policy", "facts", "user")?;
+    let standby = standby(alloc)?;
+    let all = first
+        .subcommand(dossier)?
+        .subcommand(check)?
+        .subcommand(standby)?;
+    Ok(all)
+}
 
 // The batch.
 fn batch<'a>(alloc: Global) -> Result<Command<'a>, AllocError>

@@ -20,11 +20,7 @@ use Rattle.case_engine.specs.Script.{script_of}
 use Rattle.case_engine.specs.declared.case.CaseEnd.{CaseEnd}
 use Rattle.case_engine.specs.declared.case.CaseEnd.TheVariants as case_end
 use Rattle.command_words.specs.Readings.{FileNames, Reading, runs_case, runs_init, runs_batch, runs_audit, runs_selfrun, runs_serve, runs_migrate}
-<<<<<<< HEAD
-use Rattle.command_words.specs.Readings.{runs_dossier, runs_check}
-=======
-use Rattle.command_words.specs.Readings.{runs_copied_batch, runs_copied_serve, runs_standby}
->>>>>>> b-stby2
+use Rattle.command_words.specs.Readings.{runs_dossier, runs_check, runs_copied_batch, runs_copied_serve, runs_standby}
 use Rattle.desk_crew.specs.Shelved.{Journals}
 use Rattle.dossier_engine.specs.Checks.{checked_bytes}
 use Rattle.dossier_engine.specs.declared.end.CheckEnd.{CheckEnd}
@@ -53,12 +49,9 @@ use Rattle.cqe_top.specs.declared.report.Report.TheVariants as report
 use Rattle.cqe_top.specs.Audit.{NamesNobody, CanBeAudited, AuditsOverFiles, RunsAudit, FindsNobody, AuditSucceeds}
 use Rattle.cqe_top.specs.Batch.{AnswersOverFiles, RunsBatch, BatchSucceeds}
 use Rattle.cqe_top.specs.Case.{RunsCase}
-<<<<<<< HEAD
 use Rattle.cqe_top.specs.Check.{two_files, CanBeChecked, ChecksOverFiles, RunsCheck, CheckSucceeds}
-use Rattle.cqe_top.specs.Dossier.{ShowsOverFiles, RunsDossier, DossierSucceeds}
-=======
 use Rattle.cqe_top.specs.Copied.{KeepsDoors}
->>>>>>> b-stby2
+use Rattle.cqe_top.specs.Dossier.{ShowsOverFiles, RunsDossier, DossierSucceeds}
 use Rattle.cqe_top.specs.Files.{Said, both, SayOn, IsUnread, IsWhyUnread, journals_of, new_user}
 use Rattle.cqe_top.specs.Init.{Makes, RunsInit, InitSucceeds}
 use Rattle.cqe_top.specs.Migrate.{MovesJournals, RunsMigrate, MigrateSucceeds}

@@ -22,11 +22,7 @@ use Rattle.batch_engine.specs.declared.run.BatchEnd.{BatchEnd}
 use Rattle.batch_engine.specs.declared.run.BatchEnd.TheVariants as batch_end
 use Rattle.batch_engine.proofs.Joining.{batches_are_spans, cut_batches_are_calls, batches_join, cut_batches_join, late_batches_join}
 use Rattle.command_words.specs.Readings.{Reading, FileNames, reading_of, runs_case, runs_init, runs_batch, runs_audit, runs_selfrun, runs_serve}
-<<<<<<< HEAD
-use Rattle.command_words.specs.Readings.{runs_migrate, runs_dossier, runs_check}
-=======
-use Rattle.command_words.specs.Readings.{runs_migrate, runs_copied_batch, runs_copied_serve, runs_standby}
->>>>>>> b-stby2
+use Rattle.command_words.specs.Readings.{runs_migrate, runs_dossier, runs_check, runs_copied_batch, runs_copied_serve, runs_standby}
 use Rattle.desk_crew.proofs.Lasting.{keeps_same, keeps_all}
 use Rattle.policy_files.specs.Memory.{policy_user_of}
 use Rattle.policy_files.specs.Policies.{PolicyUser, PolicyValue}
@@ -281,12 +277,9 @@ module _ {F D : Type 0} (Shelf : ShelfGhosts F D) (Disk : DiskGhosts D) (old new
     of_batch (end.Selfrun run) runs = absurd runs
     of_batch (end.Serve users served) runs = absurd runs
     of_batch (end.Migrate users moved) runs = absurd runs
-<<<<<<< HEAD
     of_batch (end.Dossier name shown) runs = absurd runs
     of_batch (end.Check checked) runs = absurd runs
-=======
     of_batch (end.Standby users copied) runs = absurd runs
->>>>>>> b-stby2
 
     of_audit : (user : Text) (json : Bool) (e : CommandEnd) → AuditEnds shelf output files user json e → Parts
     of_audit user json (end.Audit name engine_end) runs =
@@ -302,9 +295,9 @@ module _ {F D : Type 0} (Shelf : ShelfGhosts F D) (Disk : DiskGhosts D) (old new
     of_audit user json (end.Selfrun run) runs = absurd runs
     of_audit user json (end.Serve users served) runs = absurd runs
     of_audit user json (end.Migrate users moved) runs = absurd runs
-<<<<<<< HEAD
     of_audit user json (end.Dossier name shown) runs = absurd runs
     of_audit user json (end.Check checked) runs = absurd runs
+    of_audit user json (end.Standby users copied) runs = absurd runs
 
     of_dossier : (user : Text) (e : CommandEnd) → DossierEnds shelf output files user e → Parts
     of_dossier user (end.Dossier name engine_end) runs =
@@ -322,9 +315,7 @@ module _ {F D : Type 0} (Shelf : ShelfGhosts F D) (Disk : DiskGhosts D) (old new
     of_dossier user (end.Serve users served) runs = absurd runs
     of_dossier user (end.Migrate users moved) runs = absurd runs
     of_dossier user (end.Check checked) runs = absurd runs
-=======
-    of_audit user json (end.Standby users copied) runs = absurd runs
->>>>>>> b-stby2
+    of_dossier user (end.Standby users copied) runs = absurd runs
 
     of_serve : (address : Text) (workers limit : ℕ) (e : CommandEnd) → ServeEnds shelf links files address workers limit e → Parts
     of_serve address workers limit (end.Serve users engine_end) runs =
@@ -343,12 +334,9 @@ module _ {F D : Type 0} (Shelf : ShelfGhosts F D) (Disk : DiskGhosts D) (old new
     of_serve address workers limit (end.Audit name audit) runs = absurd runs
     of_serve address workers limit (end.Selfrun run) runs = absurd runs
     of_serve address workers limit (end.Migrate users moved) runs = absurd runs
-<<<<<<< HEAD
     of_serve address workers limit (end.Dossier name shown) runs = absurd runs
     of_serve address workers limit (end.Check checked) runs = absurd runs
-=======
     of_serve address workers limit (end.Standby users copied) runs = absurd runs
->>>>>>> b-stby2
 
     of_reading : (r : Option Reading) (e : CommandEnd) → Does (scene_of shelf input output links) r e → UsesJournals files r → Parts
     of_reading (Some (runs_batch its workers)) e does same =
@@ -360,25 +348,18 @@ module _ {F D : Type 0} (Shelf : ShelfGhosts F D) (Disk : DiskGhosts D) (old new
     of_reading (Some (runs_serve its address workers limit)) e does same =
         let of = alone (scene_of shelf input output links) (Some (runs_serve its address workers limit)) e (λ failed counted. counted) does in
         of_serve address workers limit e (subst (λ (f : FileNames). OfServe (scene_of shelf input output links) f address workers limit e) same of).ends
-<<<<<<< HEAD
-    of_reading (Some (runs_dossier its user)) e of same =
+    of_reading (Some (runs_dossier its user)) e does same =
+        let of = alone (scene_of shelf input output links) (Some (runs_dossier its user)) e (λ failed counted. counted) does in
         of_dossier user e (subst (λ (f : FileNames). OfDossier (scene_of shelf input output links) f user e) same of).ends
-    of_reading None e of uses = absurd uses
-    of_reading (Some runs_case) e of uses = absurd uses
-    of_reading (Some (runs_init its)) e of uses = absurd uses
-    of_reading (Some (runs_selfrun seed users asks)) e of uses = absurd uses
-    of_reading (Some (runs_migrate its to)) e of uses = absurd uses
-    of_reading (Some (runs_check policy_file facts user)) e of uses = absurd uses
-=======
     of_reading None e does uses = absurd uses
     of_reading (Some runs_case) e does uses = absurd uses
     of_reading (Some (runs_init its)) e does uses = absurd uses
     of_reading (Some (runs_selfrun seed users asks)) e does uses = absurd uses
     of_reading (Some (runs_migrate its to)) e does uses = absurd uses
+    of_reading (Some (runs_check policy_file facts user)) e does uses = absurd uses
     of_reading (Some (runs_copied_batch its workers standby)) e does uses = absurd uses
     of_reading (Some (runs_copied_serve its address workers limit standby)) e does uses = absurd uses
     of_reading (Some (runs_standby its address limit)) e does uses = absurd uses
->>>>>>> b-stby2
 
 pub calls_are_parts : {F D : Type 0} (Shelf : ShelfGhosts F D) (Disk : DiskGhosts D) (old new : F) (input : Input) (output : Output) (links : LinksScene)
     (complaints : Output) → ((d : D) (c : List ℕ) → Disk.image_since d (Disk.moment d) c → Disk.image d c)

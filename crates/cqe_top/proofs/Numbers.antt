@@ -9,13 +9,9 @@ use Rattle.line_protocol.specs.Words.{number_in}
 use Rattle.cqe_top.specs.Steps.{WorkersBounds, ServesBounds}
 use Rattle.command_words.specs.Readings.{Reading, FileNames, runs_init, runs_batch, runs_selfrun, runs_serve, reading_of, reading_with, reading_by, do_fit}
 use Rattle.command_words.specs.Readings.{CommandRow, case_row, init_row, batch_row, audit_row, selfrun_row, serve_row, files_of, audit_said, selfrun_said}
-<<<<<<< HEAD
 use Rattle.command_words.specs.Readings.{batch_said, serve_said, value_of, is_used, runs_migrate, migrate_row, migrate_said, dossier_row, dossier_said}
-use Rattle.command_words.specs.Readings.{check_row, check_said}
-=======
-use Rattle.command_words.specs.Readings.{batch_said, serve_said, value_of, is_used, runs_migrate, migrate_row, migrate_said}
 use Rattle.command_words.specs.Readings.{batch_reading, serve_reading, runs_copied_batch, runs_copied_serve, runs_standby, standby_row, standby_said}
->>>>>>> b-stby2
+use Rattle.command_words.specs.Readings.{check_row, check_said}
 
 -- a number between two, or one of them
 abbrev IsWithin : ℕ → ℕ → ℕ → Type 0
@@ -160,70 +156,42 @@ unfolding reading_of
 in_bounds [] = tt
 in_bounds (command ∷ words) =
     by (bytes_eq (codes "case") command) (bytes_eq (codes "init") command) (bytes_eq (codes "batch") command) (bytes_eq (codes "audit") command)
-<<<<<<< HEAD
     (bytes_eq (codes "selfrun") command) (bytes_eq (codes "serve") command) (bytes_eq (codes "migrate") command) (bytes_eq (codes "dossier") command)
-    (bytes_eq (codes "check") command)
+    (bytes_eq (codes "check") command) (bytes_eq (codes "standby") command)
   where
-    by : (a b c d e f g h k : Bool)
-=======
-    (bytes_eq (codes "selfrun") command) (bytes_eq (codes "serve") command) (bytes_eq (codes "migrate") command)
-    (bytes_eq (codes "standby") command)
-  where
-    by : (a b c d e f g h : Bool)
->>>>>>> b-stby2
+    by : (a b c d e f g h k m : Bool)
         → IfSome (reading_with
         (cond a (Some case_row)
         (cond b (Some init_row)
         (cond c (Some batch_row)
-<<<<<<< HEAD
         (cond d (Some audit_row) (cond e (Some selfrun_row) (cond f (Some serve_row) (cond g (Some migrate_row)
-        (cond h (Some dossier_row) (cond k (Some check_row) None))))))))) words)
+        (cond h (Some dossier_row) (cond k (Some check_row) (cond m (Some standby_row) None)))))))))) words)
         Keeps
-    by true b c d e f g h k = by_uses case_row (uses_of case_row.options words) (λ uses. tt)
-    by false true c d e f g h k = by_uses init_row (uses_of init_row.options words) (λ uses. no_init (files_of uses))
-    by false false true d e f g h k =
-        by_uses batch_row (uses_of batch_row.options words) (λ uses. of_batch (files_of uses) (value_of uses (codes "workers")))
-    by false false false true e f g h k =
-        by_uses audit_row (uses_of audit_row.options words) (λ uses. no_audit (files_of uses) (value_of uses (codes "user")) (is_used uses (codes "json")))
-    by false false false false true f g h k =
-        by_uses selfrun_row (uses_of selfrun_row.options words) (λ uses.
-        of_run (value_of uses (codes "seed")) (value_of uses (codes "users")) (value_of uses (codes "asks")))
-    by false false false false false true g h k =
-        by_uses serve_row (uses_of serve_row.options words) (λ uses.
-        of_server (files_of uses) (value_of uses (codes "listen")) (value_of uses (codes "workers")) (value_of uses (codes "sessions")))
-    by false false false false false false true h k =
-        by_uses migrate_row (uses_of migrate_row.options words) (λ uses. of_migrate (files_of uses) (value_of uses (codes "to")))
-    by false false false false false false false true k =
-        by_uses dossier_row (uses_of dossier_row.options words) (λ uses. no_dossier (files_of uses) (value_of uses (codes "user")))
-    by false false false false false false false false true =
-        by_uses check_row (uses_of check_row.options words) (λ uses.
-        no_check (value_of uses (codes "policy")) (value_of uses (codes "facts")) (value_of uses (codes "user")))
-    by false false false false false false false false false = tt
-=======
-        (cond d (Some audit_row)
-        (cond e (Some selfrun_row) (cond f (Some serve_row) (cond g (Some migrate_row) (cond h (Some standby_row) None)))))))) words)
-        Keeps
-    by true b c d e f g h = by_uses case_row (uses_of case_row.options words) (λ uses. tt)
-    by false true c d e f g h = by_uses init_row (uses_of init_row.options words) (λ uses. no_init (files_of uses))
-    by false false true d e f g h =
+    by true b c d e f g h k m = by_uses case_row (uses_of case_row.options words) (λ uses. tt)
+    by false true c d e f g h k m = by_uses init_row (uses_of init_row.options words) (λ uses. no_init (files_of uses))
+    by false false true d e f g h k m =
         by_uses batch_row (uses_of batch_row.options words) (λ uses.
         of_batch (files_of uses) (value_of uses (codes "workers")) (value_of uses (codes "standby")))
-    by false false false true e f g h =
+    by false false false true e f g h k m =
         by_uses audit_row (uses_of audit_row.options words) (λ uses. no_audit (files_of uses) (value_of uses (codes "user")) (is_used uses (codes "json")))
-    by false false false false true f g h =
+    by false false false false true f g h k m =
         by_uses selfrun_row (uses_of selfrun_row.options words) (λ uses.
         of_run (value_of uses (codes "seed")) (value_of uses (codes "users")) (value_of uses (codes "asks")))
-    by false false false false false true g h =
+    by false false false false false true g h k m =
         by_uses serve_row (uses_of serve_row.options words) (λ uses.
         of_server (files_of uses) (value_of uses (codes "listen")) (value_of uses (codes "workers")) (value_of uses (codes "sessions"))
         (value_of uses (codes "standby")))
-    by false false false false false false true h =
+    by false false false false false false true h k m =
         by_uses migrate_row (uses_of migrate_row.options words) (λ uses. of_migrate (files_of uses) (value_of uses (codes "to")))
-    by false false false false false false false true =
+    by false false false false false false false true k m =
+        by_uses dossier_row (uses_of dossier_row.options words) (λ uses. no_dossier (files_of uses) (value_of uses (codes "user")))
+    by false false false false false false false false true m =
+        by_uses check_row (uses_of check_row.options words) (λ uses.
+        no_check (value_of uses (codes "policy")) (value_of uses (codes "facts")) (value_of uses (codes "user")))
+    by false false false false false false false false false true =
         by_uses standby_row (uses_of standby_row.options words) (λ uses.
         of_standby (files_of uses) (value_of uses (codes "listen")) (value_of uses (codes "sessions")))
-    by false false false false false false false false = tt
->>>>>>> b-stby2
+    by false false false false false false false false false false = tt
 
 -- what words say has its limits
 pub kept : (words : List (List ℕ)) (reading : Reading) → reading_of words ≡ Some reading → Keeps reading

@@ -167,19 +167,11 @@ module _ (policy : PolicyValue) (world : FactSet) (header : List ℕ) (user : Po
 
 module _ {F D S K E L Door Dial In Out : Type 0} (Shelf : ShelfGhosts F D) (Disk : DiskGhosts D)
     (Source : SourceGhosts S) (Sink : SinkGhosts K) (Complaints : SinkGhosts E)
-<<<<<<< HEAD
-    (Links : LinksGhosts L Door In Out) (files : FileNames) (policy : PolicyValue) (world : FactSet)
-    (header : List ℕ) where
+    (Links : LinksGhosts L Door Dial In Out) (files : FileNames) (policy : PolicyValue)
+    (world : FactSet) (header : List ℕ) where
   -- A call of `batch`, `serve`, `audit` or `dossier` over these files, which say this policy, these
   -- facts and this header: its words and its status, its objects before it and behind it, and what
   -- `top` promised.
-=======
-    (Links : LinksGhosts L Door Dial In Out) (files : FileNames) (policy : PolicyValue)
-    (world : FactSet) (header : List ℕ) where
-  -- A call of `batch`, `serve` or `audit` over these files, which say this policy, these facts and
-  -- this header: its words and its status, its objects before it and behind it, and what `top`
-  -- promised.
->>>>>>> b-stby2
   pub record Promised : Type 0 where
     pub words : List Text
     pub status : ℕ

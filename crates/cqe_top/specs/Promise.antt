@@ -5,11 +5,8 @@ use Rattle.outside.specs.Streams.{AppendsUnless}
 use Rattle.cqe_base.specs.Schema.{Text}
 use Rattle.command_words.specs.Readings.{Reading, reading_of, runs_case, runs_init, runs_batch}
 use Rattle.command_words.specs.Readings.{runs_audit, runs_selfrun, runs_serve, runs_migrate}
-<<<<<<< HEAD
-use Rattle.command_words.specs.Readings.{runs_dossier, runs_check}
-=======
-use Rattle.command_words.specs.Readings.{runs_copied_batch, runs_copied_serve, runs_standby}
->>>>>>> b-stby2
+use Rattle.command_words.specs.Readings.{runs_dossier, runs_check, runs_copied_batch}
+use Rattle.command_words.specs.Readings.{runs_copied_serve, runs_standby}
 use Rattle.line_protocol.specs.Rests.{IsRest}
 use Rattle.cqe_top.specs.declared.end.CommandEnd.{CommandEnd}
 use Rattle.cqe_top.specs.declared.end.CommandEnd.TheVariants as command_end
@@ -18,11 +15,8 @@ use Rattle.cqe_top.specs.Batch.{OfBatch}
 use Rattle.cqe_top.specs.Case.{OfCase}
 use Rattle.cqe_top.specs.Check.{OfCheck}
 use Rattle.cqe_top.specs.Complaints.{complaint_of}
-<<<<<<< HEAD
-use Rattle.cqe_top.specs.Dossier.{OfDossier}
-=======
 use Rattle.cqe_top.specs.Copied.{OfCopiedBatch, OfCopiedServe, counted_with, IsCounted}
->>>>>>> b-stby2
+use Rattle.cqe_top.specs.Dossier.{OfDossier}
 use Rattle.cqe_top.specs.Init.{OfInit}
 use Rattle.cqe_top.specs.Migrate.{OfMigrate}
 use Rattle.cqe_top.specs.Reports.{status_of, report_of, FaultsHaveCauses}
@@ -48,15 +42,12 @@ OfReading s (Some (runs_selfrun seed users asks)) end = OfSelfrun s seed users a
 OfReading s (Some (runs_serve files address workers limit)) end =
     OfServe s files address workers limit end
 OfReading s (Some (runs_migrate files to)) end = OfMigrate s files to end
-<<<<<<< HEAD
 OfReading s (Some (runs_dossier files user)) end = OfDossier s files user end
 OfReading s (Some (runs_check policy facts user)) end = OfCheck s policy facts user end
-=======
 OfReading s (Some (runs_copied_batch files workers standby)) end = OfCopiedBatch s files end
 OfReading s (Some (runs_copied_serve files address workers limit standby)) end =
     OfCopiedServe s files address workers limit end
 OfReading s (Some (runs_standby files address limit)) end = OfStandby s files address limit end
->>>>>>> b-stby2
 
 -- of a shelf, whatever comes: its files are what they were, no disk is out, and no count of faults
 -- fell, neither that of a disk nor its own

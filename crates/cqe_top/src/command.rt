@@ -35,16 +35,13 @@ use std::thread::Threads;
 /// the same files as `batch` and serves the connections that the links give at an address, side by
 /// side, until the links end or so many connections were served. It may wait, for a client, at the
 /// desks and at the gate. `migrate` reads the same files as `init` and moves the old journal of
-<<<<<<< HEAD
 /// each user to a disk in another directory, which has to be empty. `dossier` reads the same files
 /// as `audit` and writes the history of one of the users with what shows each reply; `check` reads
 /// such a text from the source, over a policy and facts alone, and says whether it is sound.
-=======
-/// each user to a disk in another directory, which has to be empty. `standby` reads the same files
-/// as `serve` and appends to the users' journals the records that another program gives it over
-/// connections at an address, one after the other. With a standby at an address `batch` and `serve`
-/// tell a mark only once the standby answered that it has its record.
->>>>>>> b-stby2
+/// `standby` reads the same files as `serve` and appends to the users' journals the records that
+/// another program gives it over connections at an address, one after the other. With a standby at
+/// an address `batch` and `serve` tell a mark only once the standby answered that it has its
+/// record.
 /// What can't be done is said to the complaints; where they fail too, nothing else changes.
 ///
 /// No clause speaks of the gate, and none says that users of a batch or connections are served side

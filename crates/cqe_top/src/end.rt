@@ -37,15 +37,12 @@ pub enum CommandEnd<'w> {
     Serve(Vec<User>, ServeEnd),
     /// The moving of these users' journals did.
     Migrate(Vec<User>, MigrateEnd),
-<<<<<<< HEAD
     /// The dossier of the user of this name did.
     Dossier(&'w str, DossierEnd),
     /// The check of a dossier did.
     Check(CheckEnd),
-=======
     /// A standby with copies of these users' journals did.
     Standby(Vec<User>, CopyEnd),
->>>>>>> b-stby2
 }
 
 /// Why a policy file and a facts file weren't read: by the first of them of which that is so.

@@ -4,14 +4,9 @@ ghost use Rattle.command_words.specs.Readings.{reading_in};
 ghost use Rattle.command_words.specs.declared.command.Command.{Command};
 ghost use Rattle.cqe_top.specs.Steps.{reading_of_part};
 
-<<<<<<< HEAD
-use crate::over_files::{Task, UserTask};
-use command_words::{Command, Files, SelfrunWords};
-=======
 use crate::copied::CopiedTask;
-use crate::over_files::Task;
+use crate::over_files::{Task, UserTask};
 use command_words::{BatchWords, Command, Files, SelfrunWords, ServeWords};
->>>>>>> b-stby2
 use serve_engine::Listening;
 use standby_engine::Copying;
 
@@ -35,27 +30,13 @@ pub(crate) fn part_of<'w>(command: Command<'w>) -> Part<'w>
     match command {
         Command::Case => Part::Case,
         Command::Init(files) => Part::OverFiles(files, Task::Init),
-<<<<<<< HEAD
-        Command::Batch(words) => Part::OverFiles(words.files, Task::Batch(words.workers)),
+        Command::Batch(words) => batch_part(words),
         Command::Audit(words) => {
             let task = Task::OfUser(words.user, UserTask::Audit(words.json));
             Part::OverFiles(words.files, task)
         }
-=======
-        Command::Batch(words) => batch_part(words),
-        Command::Audit(words) => Part::OverFiles(words.files, Task::Audit(words.user, words.json)),
->>>>>>> b-stby2
         Command::Selfrun(words) => Part::Selfrun(words),
         Command::Serve(words) => serve_part(words),
-        Command::Migrate(words) => Part::OverFiles(words.files, Task::Migrate(words.to)),
-        Command::Standby(words) => {
-            let copying = Copying {
-                address: words.listen,
-                sessions: words.sessions,
-            };
-            Part::OverFiles(words.files, Task::Standby(copying))
-        }
-<<<<<<< HEAD
         Command::Migrate(words) => Part::OverFiles(words.files, Task::Migrate(words.to)),
         Command::Dossier(words) => {
             Part::OverFiles(words.files, Task::OfUser(words.user, UserTask::Dossier))
@@ -69,7 +50,13 @@ pub(crate) fn part_of<'w>(command: Command<'w>) -> Part<'w>
             };
             Part::OverFiles(files, Task::OfUser(words.user, UserTask::Check))
         }
-=======
+        Command::Standby(words) => {
+            let copying = Copying {
+                address: words.listen,
+                sessions: words.sessions,
+            };
+            Part::OverFiles(words.files, Task::Standby(copying))
+        }
     }
 }
 
@@ -94,6 +81,5 @@ fn serve_part<'w>(words: ServeWords<'w>) -> Part<'w>
     match words.standby {
         None => Part::OverFiles(words.files, Task::Serve(listening)),
         Some(standby) => Part::Copied(words.files, CopiedTask::Serve(listening), standby),
->>>>>>> b-stby2
     }
 }

@@ -73,12 +73,9 @@ pub(crate) fn report_of<'w>(end: CommandEnd<'w>) -> Report<'w>
         CommandEnd::Selfrun(end) => of_selfrun(end),
         CommandEnd::Serve(users, end) => of_serve(users, end),
         CommandEnd::Migrate(users, end) => of_migrate(users, end),
-<<<<<<< HEAD
         CommandEnd::Dossier(name, end) => of_dossier(name, end),
         CommandEnd::Check(end) => of_check(end),
-=======
         CommandEnd::Standby(users, end) => of_standby(users, end),
->>>>>>> b-stby2
     }
 }
 
@@ -177,7 +174,6 @@ fn of_migrate<'w>(users: Vec<User>, end: MigrateEnd) -> Report<'w>
     }
 }
 
-<<<<<<< HEAD
 fn of_dossier<'w>(name: &'w str, end: DossierEnd) -> Report<'w>
     ensures { result ≡ report_of (ends.Dossier name.entry end) }
 {
@@ -202,8 +198,6 @@ fn of_check<'w>(end: CheckEnd) -> Report<'w>
     }
 }
 
-/// What is told of a batch or a serving that was answered to its end.
-=======
 fn of_standby<'w>(users: Vec<User>, end: CopyEnd) -> Report<'w>
     ensures { result ≡ report_of (ends.Standby users end) }
 {
@@ -216,7 +210,6 @@ fn of_standby<'w>(users: Vec<User>, end: CopyEnd) -> Report<'w>
 }
 
 /// What is told of a batch, a serving or a standby that came to its end.
->>>>>>> b-stby2
 fn of_answers<'w>(users: Vec<User>, refusals: Vec<Option<DeskError>>, is_broken: bool) -> Report<'w>
     ensures { result ≡ answers_report users refusals is_broken }
 {

@@ -43,10 +43,13 @@ module _ (schema : DatabaseSchema) (world : FactSet) (name : Text) (user : UserP
 
   -- nothing at first
   pub none-read : (old : Unread) (some : Bool) → some ≡ list_any (λ v. v) [] → EachRead 0 some old old
-  none-read old some is =
-      ([], refl, is,
-      ap (λ vs. answer schema world name user (awaited_for schema world name user entries task (probes_against premises (map said goals) ++ more) vs) old)
-      (sym (append-nil shown)))
+  none-read old some is = (
+    [],
+    refl,
+    is,
+    ap (λ vs. answer schema world name user (awaited_for schema world name user entries task (probes_against premises (map said goals) ++ more) vs) old)
+        (sym (append-nil shown)),
+  )
 
   -- the probe of this goal
   abbrev pub showing_at : ℕ → W → List Bool → Showing
@@ -70,13 +73,14 @@ module _ (schema : DatabaseSchema) (world : FactSet) (name : Text) (user : UserP
         → ((verdicts : List Bool) → ReadsOn schema world name user (Ok (block (showing_at i goal verdicts))) at new
         (behind_block schema world name user (showing_at i goal verdicts)) (Ok follows))
         → EachRead (i + 1) (some || follows) old new
-    one-more some follows old at new (verdicts, size, any, so_far) next =
-        (verdicts ++ follows ∷ [],
-        length-append verdicts (follows ∷ []) ∙ ap (λ n. n + 1) size,
-        ap (λ s. s || follows) any ∙ sym (any-more verdicts follows),
-        so_far ∙ ap (λ x. answer schema world name user x at) (splits verdicts) ∙ next verdicts
-        ∙ ap (λ vs. answer schema world name user (awaited_for schema world name user entries task
-        (probes_against premises (map said (drop (i + 1) goals)) ++ more) vs) new) (append_assoc shown verdicts (follows ∷ [])))
+    one-more some follows old at new (verdicts, size, any, so_far) next = (
+      verdicts ++ follows ∷ [],
+      length-append verdicts (follows ∷ []) ∙ ap (λ n. n + 1) size,
+      ap (λ s. s || follows) any ∙ sym (any-more verdicts follows),
+      so_far ∙ ap (λ x. answer schema world name user x at) (splits verdicts) ∙ next verdicts
+          ∙ ap (λ vs. answer schema world name user (awaited_for schema world name user entries task
+          (probes_against premises (map said (drop (i + 1) goals)) ++ more) vs) new) (append_assoc shown verdicts (follows ∷ [])),
+    )
 
     -- or refused
     pub one-refused : (some : Bool) (old at new : Unread) (count : ℕ) (then : List Bool → Result Awaited DossierError) (why : DossierError)
@@ -108,7 +112,10 @@ module _ (schema : DatabaseSchema) (world : FactSet) (name : Text) (user : UserP
       → ReadsAll schema world name user (awaited_for schema world name user entries task (probes_against premises (map said goals) ++ more) shown) old new
       (length goals) (λ verdicts. awaited_for schema world name user entries task more (shown ++ verdicts)) (Ok some)
   all-read i some old new within past (verdicts, size, any, so_far) =
-      let ends : i ≡ length goals = omega arith in
-      (verdicts, size ∙ ends, any,
-      so_far ∙ ap (λ rest. answer schema world name user (awaited_for schema world name user entries task
-      (probes_against premises (map said rest) ++ more) (shown ++ verdicts)) new) (drop_all i goals past))
+      let ends : i ≡ length goals = omega arith in (
+        verdicts,
+        size ∙ ends,
+        any,
+        so_far ∙ ap (λ rest. answer schema world name user (awaited_for schema world name user entries task
+            (probes_against premises (map said rest) ++ more) (shown ++ verdicts)) new) (drop_all i goals past),
+      )

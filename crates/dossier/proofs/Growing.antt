@@ -25,11 +25,13 @@ module _ (before between after : Past) (same : IsSamePast before between) (said 
       → reading (past_schema before) said ≡ Ok query → (line : Text) → line ≡ item_head mark said → (old middle new : Text) → middle ≡ old ++ line
       → Grows (AreBlocks (past_schema before) (item_probes (past_schema before) (past_user before) (past_history before) mark query)) middle new
       → AddsSaid mark said before after old new
-  adds-said item is added reads line head old middle new lined grown =
-      (query, reads,
-      grows-then (λ text. text ≡ item_head mark said)
-      (AreBlocks (past_schema before) (item_probes (past_schema before) (past_user before) (past_history before) mark query))
-      (IsItem (past_schema before) (past_user before) (past_history before) (record { query = query; mark = mark; length = length said }) said)
-      old middle new (line, head, lined) grown
-      (item-of (past_schema before) (past_user before) (past_history before) (record { query = query; mark = mark; length = length said }) said),
-      has-added item is added)
+  adds-said item is added reads line head old middle new lined grown = (
+    query,
+    reads,
+    grows-then (λ text. text ≡ item_head mark said)
+        (AreBlocks (past_schema before) (item_probes (past_schema before) (past_user before) (past_history before) mark query))
+        (IsItem (past_schema before) (past_user before) (past_history before) (record { query = query; mark = mark; length = length said }) said)
+        old middle new (line, head, lined) grown
+        (item-of (past_schema before) (past_user before) (past_history before) (record { query = query; mark = mark; length = length said }) said),
+    has-added item is added,
+  )

@@ -68,7 +68,7 @@ module _ (schema : DatabaseSchema) (world : FactSet) (name : Text) (user : UserP
               → head_line schema world name user field ≡ Err (refused.Form field.line)
           head-other other = rw is (rw not_open (rw not_closed (rw other refl)))
 
-  -- ---- the line of the admission
+    -- ---- the line of the admission
 
     pub admission-form : is_alone field (codes "admission") ≡ false → admission_line schema world name user field ≡ Err (refused.Form field.line)
     admission-form isnt = rw isnt refl
@@ -82,7 +82,7 @@ module _ (schema : DatabaseSchema) (world : FactSet) (name : Text) (user : UserP
         ≡ awaited_for schema world name user [] admitting (probes_against (known user) (guarded user)) []
     admission-true is knows = rw is (rw knows refl)
 
-  -- ---- the lines of items
+    -- ---- the lines of items
 
     module _ (entries : History) where
       pub item-ask : bytes_eq field.word (codes "ask") ≡ true

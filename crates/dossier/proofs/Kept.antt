@@ -19,7 +19,7 @@ pub bytes-more : (entries : History) (item : AnsweredQuery)
     → sum_by (λ entry. entry.length) (entries ++ item ∷ []) ≡ sum_by (λ entry. entry.length) entries + item.length
 bytes-more entries item =
     let sum : sum_by (λ entry. entry.length) (entries ++ item ∷ [])
-        ≡ sum_by (λ entry. entry.length) entries + sum_by (λ entry. entry.length) (item ∷ []) = sum_by-append (λ entry. entry.length) entries (item ∷ []) in
+    ≡ sum_by (λ entry. entry.length) entries + sum_by (λ entry. entry.length) (item ∷ []) = sum_by-append (λ entry. entry.length) entries (item ∷ []) in
     let one : sum_by (λ entry. entry.length) (item ∷ []) ≡ item.length = omega arith in
     sum ∙ ap (λ n. sum_by (λ entry. entry.length) entries + n) one
 

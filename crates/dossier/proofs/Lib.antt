@@ -1,4 +1,16 @@
 mod Lines
+mod Ended
+mod Numerals
+mod Shifted
+mod SchemaNames
+mod FactTexts
+mod FactLists
+mod RefLines
+mod Feeds
+mod Leads
+mod BlocksLead
+mod ItemsLead
+mod Accepting
 mod Spelling
 mod Colons
 mod Worlds

@@ -11,11 +11,11 @@ use Rattle.dossier.specs.Fields.{without_empty_end, ended_parts, by_rest, first_
 
 module _ (p : ℕ → Bool) where
   -- there is always a part
-  split-some : (bytes : Text) → slice_split p bytes ≡ [] → ⊥
+  pub split-some : (bytes : Text) → slice_split p bytes ≡ [] → ⊥
   split-some bytes none = absurd (omega (arith, length-slice_split p bytes, ap length none))
 
   -- a part with others behind it stays
-  kept : (part : Text) (parts : List Text) → (parts ≡ [] → ⊥) → without_empty_end (part ∷ parts) ≡ part ∷ without_empty_end parts
+  pub kept : (part : Text) (parts : List Text) → (parts ≡ [] → ⊥) → without_empty_end (part ∷ parts) ≡ part ∷ without_empty_end parts
   kept [] [] some = absurd (some refl)
   kept [] (next ∷ parts) some = refl
   kept (b ∷ part) [] some = absurd (some refl)

@@ -46,7 +46,7 @@ len-at-most (fact ∷ facts) =
     by : (b : Bool)
         → set.len (set.from_list {R = fact_cmp} (fact ∷ facts))
         ≡ cond b (set.len (set.from_list {R = fact_cmp} facts)) (set.len (set.from_list {R = fact_cmp} facts) + 1)
-        → set.len (set.from_list {R = fact_cmp} facts) ≤ length facts → set.len (set.from_list {R = fact_cmp} (fact ∷ facts)) ≤ length facts + 1
+        → set.len (set.from_list {R = fact_cmp} facts) ≤ length facts → set.len (set.from_list {R = fact_cmp} (fact ∷ facts)) ≤ length (fact ∷ facts)
     by true is rest = omega (arith, is, rest)
     by false is rest = omega (arith, is, rest)
 

@@ -124,18 +124,23 @@ module _ (schema : DatabaseSchema) (world : FactSet) (name : Text) (user : UserP
         → answer schema world name user (awaited_for schema world name user before task (goal_probe (log user before) (query, false) ∷ more) (yes ∷ [])) middle
         ≡ answer schema world name user (awaited_for schema world name user before task more (yes ∷ no ∷ [])) new
         → ReadsImplied schema world name user before task query more old new (Ok (if yes then Some true else if no then Some false else None))
-    implied-read is old middle new yes no first second =
-        (yes ∷ no ∷ [], refl,
-        sym (ap (λ m. length (implied_probes m (log user before) query)) is),
-        ap (λ m. answer schema world name user (awaited_for schema world name user before task
-        (implied_probes m (log user before) query ++ more) []) old) is ∙ first ∙ second)
+    implied-read is old middle new yes no first second = (
+      yes ∷ no ∷ [],
+      refl,
+      sym (ap (λ m. length (implied_probes m (log user before) query)) is),
+      ap (λ m. answer schema world name user (awaited_for schema world name user before task
+          (implied_probes m (log user before) query ++ more) []) old) is ∙ first ∙ second,
+    )
 
     -- the other methods have none
     pub implied-none : implied_probes user.method (log user before) query ≡ [] → (old : Unread)
         → ReadsImplied schema world name user before task query more old old (Ok None)
-    implied-none none old =
-        ([], refl, sym (ap length none),
-        ap (λ ps. answer schema world name user (awaited_for schema world name user before task (ps ++ more) []) old) none)
+    implied-none none old = (
+      [],
+      refl,
+      sym (ap length none),
+      ap (λ ps. answer schema world name user (awaited_for schema world name user before task (ps ++ more) []) old) none,
+    )
 
     -- one of them was refused
     pub implied-refused : {X : Type 0} → user.method ≡ Refusal → (old middle new : Unread) (between : Result Awaited DossierError)
@@ -187,18 +192,22 @@ module _ (schema : DatabaseSchema) (world : FactSet) (name : Text) (user : UserP
         let (yes, yes_size, yes_is, to_second) = with_it verdicts in
         let (no, no_size, no_is, to_new) = without (verdicts ++ yes) in
         let all : answer schema world name user (awaited_for schema world name user before task
-            (probes (user_at user before) told query) []) old
-            ≡ answer schema world name user (behind_task schema world name user before task (verdicts ++ (yes ++ no))) new =
+        (probes (user_at user before) told query) []) old
+        ≡ answer schema world name user (behind_task schema world name user before task (verdicts ++ (yes ++ no))) new =
         ap (λ ps. answer schema world name user (awaited_for schema world name user before task ps []) old)
         (query-probes user.method goals told query)
         ∙ start ∙ to_second
         ∙ ap (λ ps. answer schema world name user (awaited_for schema world name user before task ps (verdicts ++ yes)) second) (sym (append-nil negated))
         ∙ to_new
-        ∙ ap (λ vs. answer schema world name user (behind_task schema world name user before task vs) new) (append_assoc verdicts yes no) in
-        (verdicts ++ (yes ++ no),
-        (refl, λ truth. ap (λ o. mark_by user.method false o yes_harm no_harm truth) implied_is
-        ∙ found-mark (length goals) yes no yes_size user.method verdicts yes_harm no_harm truth (size ∙ first-many user.method told query) yes_is no_is),
-        all)
+        ∙ ap (λ vs. answer schema world name user (behind_task schema world name user before task vs) new) (append_assoc verdicts yes no) in (
+          verdicts ++ (yes ++ no),
+          (
+            refl,
+            λ truth. ap (λ o. mark_by user.method false o yes_harm no_harm truth) implied_is
+                ∙ found-mark (length goals) yes no yes_size user.method verdicts yes_harm no_harm truth (size ∙ first-many user.method told query) yes_is no_is,
+          ),
+          all,
+        )
 
     -- what the text showed before these probes is what it shows at the first of them
     starts : (old : Unread) → answer schema world name user (awaited_for schema world name user before task (probes (user_at user before) told query) []) old

@@ -207,9 +207,15 @@ module _ (schema : DatabaseSchema) (user : UserProfile) where
   pub items-more : (before : History) (records : List Recorded) (history : History) (next : Recorded) (entry : AnsweredQuery) (text more : Text)
       → map (entry_of schema) records ≡ map Some history → entry_of schema next ≡ Some entry → AreItems schema user before records text
       → IsItem schema user (before ++ history) entry next.1 more → AreItems schema user before (records ++ next ∷ []) (text ++ more)
-  items-more before [] [] next entry text more stands is none item =
-      (entry, is, more, [], subst (λ b. IsItem schema user b entry next.1 more) (append-nil before) item, refl,
-      ap (λ t. t ++ more) none ∙ sym (append-nil more))
+  items-more before [] [] next entry text more stands is none item = (
+    entry,
+    is,
+    more,
+    [],
+    subst (λ b. IsItem schema user b entry next.1 more) (append-nil before) item,
+    refl,
+    ap (λ t. t ++ more) none ∙ sym (append-nil more),
+  )
   items-more before [] (h ∷ history) next entry text more stands is none item = absurd cc
   items-more before (r ∷ records) [] next entry text more stands is items item = absurd cc
   items-more before (r ∷ records) (h ∷ history) next entry text more stands is (e, e_is, first, rest, e_item, others, parts) item =
@@ -218,7 +224,12 @@ module _ (schema : DatabaseSchema) (user : UserProfile) where
       let same : h ≡ e = cc in
       let tails : map (entry_of schema) records ≡ map Some history = cc in
       let where_at : before ++ (h ∷ history) ≡ (before ++ e ∷ []) ++ history =
-      ap (λ x. before ++ (x ∷ history)) same ∙ sym (append_assoc before (e ∷ []) history) in
-      (e, e_is, first, rest ++ more, e_item,
-      items-more (before ++ e ∷ []) records history next entry rest more tails is others (subst (λ b. IsItem schema user b entry next.1 more) where_at item),
-      ap (λ t. t ++ more) parts ∙ append_assoc first rest more)
+      ap (λ x. before ++ (x ∷ history)) same ∙ sym (append_assoc before (e ∷ []) history) in (
+        e,
+        e_is,
+        first,
+        rest ++ more,
+        e_item,
+        items-more (before ++ e ∷ []) records history next entry rest more tails is others (subst (λ b. IsItem schema user b entry next.1 more) where_at item),
+        ap (λ t. t ++ more) parts ∙ append_assoc first rest more,
+      )

@@ -34,19 +34,18 @@ module _ {W X Y : Type 0} (now : W → X) (read : X → Option Y) (words : List 
   abbrev pub from : ℕ → Option (List Y)
   from i = all_some (map read (map now (drop i words)))
 
-  module _ (i : ℕ) (word : W) (is : word ≡ get_or words i word) (low : i < length words) where
-    splits : from i ≡ all_some (read (now word) ∷ map read (map now (drop (i + 1) words)))
-    splits =
-        ap (λ rest. all_some (map read (map now rest))) (drop_more words i word low)
-        ∙ ap (λ w. all_some (read (now w) ∷ map read (map now (drop (i + 1) words)))) (sym is)
+  module _ (i : ℕ) (d : W) (low : i < length words) where
+    splits : from i ≡ all_some (read (now (get_or words i d)) ∷ map read (map now (drop (i + 1) words)))
+    splits = ap (λ rest. all_some (map read (map now rest))) (drop_more words i d low)
 
     -- this word says something
-    pub one-read : (before : List Y) (y : Y) → read (now word) ≡ Some y → behind before (from i) ≡ behind (before ++ y ∷ []) (from (i + 1))
+    pub one-read : (before : List Y) (y : Y) → read (now (get_or words i d)) ≡ Some y
+        → behind before (from i) ≡ behind (before ++ y ∷ []) (from (i + 1))
     one-read before y says =
         ap (behind before) (splits ∙ ap (λ o. with_first o (from (i + 1))) says) ∙ behind-more before y (from (i + 1))
 
     -- this word says nothing
-    pub none-read : (before : List Y) → read (now word) ≡ None → behind before (from i) ≡ None
+    pub none-read : (before : List Y) → read (now (get_or words i d)) ≡ None → behind before (from i) ≡ None
     none-read before none = ap (behind before) (splits ∙ ap (λ o. with_first o (from (i + 1))) none)
 
   -- all words are read

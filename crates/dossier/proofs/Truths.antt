@@ -4,6 +4,7 @@ use Rattle.std.proofs.Common.{refl, sym, ap, ◌∙◌}
 use Rattle.std.specs.List.{list_all}
 use Rattle.std.proofs.Math.Bool.{and-true}
 use Rattle.std.proofs.lemmas.List.{drop_more, drop_all}
+use Rattle.std.proofs.lemmas.Option.{same_Some}
 use Rattle.std.proofs.lemmas.List.Folds.{list_all-map, list_all-append}
 use Rattle.cqe_base.specs.declared.user.Mark.{Mark}
 use Rattle.cqe_base.specs.declared.user.Mark.TheVariants.{Yes, No, Refused, Undecided, Protected}
@@ -65,11 +66,9 @@ module _ (schema : DatabaseSchema) (world : FactSet) where
   pub signed-told : (mark : Mark) (query : Formula) (yes : Bool) → Some yes ≡ sign_told mark
       → holds_in schema world (query, yes) ≡ all_hold_in schema world (told_by mark query)
   signed-told Yes query yes is =
-      let same : yes ≡ true = cc in
-      ap (λ b. holds_in schema world (query, b)) same ∙ sym (hold-one (query, true))
+      ap (λ b. holds_in schema world (query, b)) (same_Some yes true is) ∙ sym (hold-one (query, true))
   signed-told No query yes is =
-      let same : yes ≡ false = cc in
-      ap (λ b. holds_in schema world (query, b)) same ∙ sym (hold-one (query, false))
+      ap (λ b. holds_in schema world (query, b)) (same_Some yes false is) ∙ sym (hold-one (query, false))
   signed-told Refused query yes is = absurd cc
   signed-told Undecided query yes is = absurd cc
   signed-told Protected query yes is = absurd cc

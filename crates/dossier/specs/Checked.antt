@@ -173,7 +173,7 @@ module _ (schema : DatabaseSchema) (world : FactSet) (name : Text) (user : UserP
   ask_line line entries (Some mark) [] = Err (refused.Form line)
   ask_line line entries (Some mark) (b ∷ text) =
       asked line entries mark (length (b ∷ text))
-          (sentence_in schema world user entries Asking (b ∷ text))
+      (sentence_in schema world user entries Asking (b ∷ text))
 
   -- a sentence that is to be added
   abbrev pub added : ℕ → History → ℕ → Option Formula → Result Awaited DossierError
@@ -186,7 +186,7 @@ module _ (schema : DatabaseSchema) (world : FactSet) (name : Text) (user : UserP
   protect_line line entries [] = Err (refused.Form line)
   protect_line line entries (b ∷ text) =
       added line entries (length (b ∷ text))
-          (sentence_in schema world user entries Protecting (b ∷ text))
+      (sentence_in schema world user entries Protecting (b ∷ text))
 
   -- ---- lines
 

@@ -25,6 +25,7 @@ use Rattle.audit_text.specs.Text.{world_text}
 use Rattle.audit_print.specs.Said.{IsListing, world_said, method_word}
 use Rattle.user_desk.specs.Entries.{entry_of, purpose_by}
 use Rattle.dossier.specs.Words.{world_of}
+use Rattle.dossier.specs.Small.{is_small_line}
 use Rattle.dossier.specs.Checked.{is_countermodel, addition_probe}
 
 -- ---- blocks
@@ -70,12 +71,12 @@ abbrev pub IsOpenListing : DatabaseSchema → FactSet → Text → Type 0
 IsOpenListing schema world text =
     (facts : List Fact) × IsListing (Some facts) (Some world) × (text ≡ open_text schema facts)
 
--- a block has a refutation that is right for the clauses of a probe
+-- a block has a refutation that is right for the clauses of a probe, with numbers that are read
 abbrev pub IsFollowsBlock : DatabaseSchema → Probe → Text → Type 0
 IsFollowsBlock schema probe text =
     (lines : List RefutationLine)
     × (is_refutation (clauses_of_probe schema probe.premises probe.goal) lines ≡ true)
-    × (text ≡ follows_text lines)
+    × (list_all is_small_line lines ≡ true) × (text ≡ follows_text lines)
 
 -- a block shows whether the premises of a probe entail its goal
 abbrev pub IsBlock : DatabaseSchema → Probe → Text → Type 0

@@ -21,8 +21,8 @@ ghost use Rattle.dossier.specs.Checked.{is_countermodel, refutation_end};
 ghost use Rattle.dossier.specs.Reading.{bytes_left, ReadsOn, ReadsAll, IsButMemory};
 ghost use Rattle.dossier.specs.Blocks.{Probed, reason_of, probe_over, MayFollow, open_answer};
 
-use crate::error::DossierError;
 use crate::cut::{Field, FieldIter};
+use crate::error::DossierError;
 use crate::listed::{facts_listed, world_of};
 use crate::past::{is_truth, knows_truth, tells_truth};
 use crate::words::line_in;
@@ -179,11 +179,7 @@ fn shows_open(first: bool, premise: bool, goal: bool) -> bool
 }
 
 /// Whether a further premise, if there is one, is true in a world.
-fn premise_holds(
-    schema: &Schema,
-    world: &World,
-    premise: Option<(&GroundSentence, bool)>,
-) -> bool
+fn premise_holds(schema: &Schema, world: &World, premise: Option<(&GroundSentence, bool)>) -> bool
     requires { are_sentences_of schema.now (premise_list premise) ≡ true }
     ensures { result ≡ all_hold_in schema.now world.now (premise_list premise.entry) }
 {

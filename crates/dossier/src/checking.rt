@@ -14,8 +14,8 @@ ghost use Rattle.dossier.specs.Logs.{IsPastOfSame};
 ghost use Rattle.dossier.specs.Items.{ReadsItem, ReadsItems, EndsHere};
 
 use crate::blocks::{Reason, Told, read_each};
-use crate::error::DossierError;
 use crate::cut::{Field, FieldIter, fields};
+use crate::error::DossierError;
 use crate::items::{is_refusal, read_ask, read_protect};
 use crate::laws::{law_checked_is_sound, law_sound};
 use crate::past::{Past, knows_truth};
@@ -83,12 +83,7 @@ fn read_head(alloc: Global, user: &User, lines: &mut FieldIter<'_>) -> Result<()
 }
 
 /// Whether this stands behind `dossier` in the line of a user with this standing.
-fn says_head(
-    alloc: Global,
-    user: &User,
-    standing: &str,
-    rest: &str,
-) -> Result<bool, AllocError>
+fn says_head(alloc: Global, user: &User, standing: &str, rest: &str) -> Result<bool, AllocError>
     ensures { IfOk result (λ yes. yes ≡ bytes_eq rest.now
         (head_rest (string_bytes user.now.name) (profile_of user.now) standing.now)) }
 {

@@ -18,8 +18,8 @@ ghost use Rattle.dossier.specs.Items.{goal_probe, ReadsItem, ReadsShown, ReadsFi
 ghost use Rattle.dossier.specs.Items.{ReadsImplied, is_refusal};
 
 use crate::blocks::{Reason, Told, read_block, read_each};
-use crate::error::DossierError;
 use crate::cut::{Field, FieldIter, first_word};
+use crate::error::DossierError;
 use crate::past::Past;
 use crate::words::{is_same, is_undecided, mark_named, size_of};
 use censors::{Findings, decide, guard_with};

@@ -1,6 +1,8 @@
 //! Laws of dossiers. They compute nothing.
 ghost use Rattle.soundness.specs.Sound.{SoundHistoriesHide};
 ghost use Rattle.dossier.specs.Promised.{CheckedAreSound};
+ghost use Rattle.dossier.specs.Accepted.{DossiersAreAccepted, ServedAreAccepted};
+ghost use Rattle.dossier.specs.Accepted.{NamesHaveNoFeed};
 
 use cqe_base::laws::law_entailment;
 use cqe_base::machine_laws::law_refutation_entails;
@@ -24,3 +26,11 @@ pub fn law_checked_is_sound()
     law_sound_grows();
     law_verdicts();
 }
+
+/// The dossier of a legal history of an admitted user, whose name has no line feed, is accepted, and
+/// so is that of the records of a journal that opens his desk.
+pub fn law_dossiers_are_accepted()
+    ensures accepted { DossiersAreAccepted }
+    ensures served { ServedAreAccepted }
+    ensures names { NamesHaveNoFeed }
+{}

@@ -5,15 +5,17 @@
 //! the goal is false, or a refutation of the probe's clauses. `write_dossier` writes that of a
 //! legal history. `check_dossier` goes through a text line by line; `specs/Checked.antt` says which
 //! history it shows, or which line is refused first. Of a text that is accepted the user is
-//! admissible and the history sound, and so it hides, whoever wrote it (`soundness`). `fields`
-//! parts a text into its lines and their first words.
+//! admissible and the history sound, and so it hides, whoever wrote it (`soundness`). What is
+//! written of a legal history is accepted (`law_dossiers_are_accepted`). `fields` parts a text into
+//! its lines and their first words.
 //!
 //! Read `specs/Fields.antt`, `specs/Words.antt`, `specs/Checked.antt` and `specs/Written.antt`,
 //! then `cut`, `words` and `listed`; `past` is what was read so far, `blocks`, `items` and
-//! `checking` read on, and `printed` and `writing` write.
+//! `checking` read on, and `printed` and `writing` write (`bounded`: numbers that are read).
 #![tactic(auto)]
 
 mod blocks;
+mod bounded;
 mod checking;
 mod cut;
 mod error;
@@ -28,5 +30,5 @@ mod writing;
 pub use checking::check_dossier;
 pub use cut::{Field, FieldIter, fields};
 pub use error::DossierError;
-pub use laws::{law_checked_is_sound, law_sound};
+pub use laws::{law_checked_is_sound, law_dossiers_are_accepted, law_sound};
 pub use writing::{write_dossier, write_unserved};

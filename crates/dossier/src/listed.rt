@@ -135,7 +135,7 @@ fn ascends_from(first: Fact, others: &[Fact]) -> bool
 fn stands_before(first: &Fact, second: &Fact) -> bool
     ensures { result ≡ is_lt (fact_cmp first.now second.now) }
 {
-    first < second
+    first.cmp(second).is_lt()
 }
 
 /// These facts, as an audit lists them.
@@ -165,11 +165,7 @@ fn texts_of(alloc: Global, schema: &Schema, facts: &[Fact]) -> Result<Vec<String
 
 /// The world that has these facts and no other. They are of the schema and no more than a world
 /// holds, so that only memory can be wanting.
-pub(crate) fn world_of(
-    alloc: Global,
-    schema: &Schema,
-    facts: &[Fact],
-) -> Result<World, AllocError>
+pub(crate) fn world_of(alloc: Global, schema: &Schema, facts: &[Fact]) -> Result<World, AllocError>
     ensures { IfOk result (λ world. world ≡ world_of facts.now) }
 {
     let mut world = World::new(alloc);

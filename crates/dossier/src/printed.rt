@@ -1,7 +1,7 @@
 //! Blocks as they are written.
 ghost use Rattle.std.specs.Prelude.{◌≡◌, ◌≢◌, ◌≤◌, ◌+◌, ◌++◌, map, codes, string_bytes, Some};
 ghost use Rattle.std.specs.Prelude.{OnOk, true};
-ghost use Rattle.std.specs.List.{flat_map};
+ghost use Rattle.std.specs.List.{flat_map, list_all};
 ghost use Rattle.cqe_base.specs.Facts.{IsWorldOf};
 ghost use Rattle.cqe_base.specs.Formula.{nodes, is_sentence_of};
 ghost use Rattle.cqe_base.specs.Entailment.{are_sentences_of};
@@ -15,8 +15,10 @@ ghost use Rattle.dossier.specs.Blocks.{probe_over};
 ghost use Rattle.audit_text.specs.Text.{world_text};
 ghost use Rattle.dossier.specs.Written.{sign_text, literal_text, number_text, line_text};
 ghost use Rattle.dossier.specs.Written.{follows_text};
+ghost use Rattle.dossier.specs.Small.{is_small_line};
 ghost use Rattle.dossier.specs.Written.{IsOpenListing, IsBlock, Grows};
 
+use crate::bounded::are_small;
 use audit_print::fact_texts;
 use audit_text::push_facts;
 use clause_store::literal::Lit;
@@ -56,10 +58,23 @@ pub(crate) fn push_block(
     law_numbered_facts_are_few();
     law_grounded_nodes();
     match certify(alloc, view, probe, budget)? {
-        Certified::Follows(refutation) => push_refutation(text, &refutation),
+        Certified::Follows(refutation) => push_follows(text, &refutation),
         Certified::Open(world) => push_world(alloc, text, schema, &world),
         Certified::Spent => unreachable!(),
     }
+}
+
+/// Appends the lines of a refutation as a block. No number of one that a search found is too great
+/// to be read; if one were, this would be an end for want of memory.
+fn push_follows(text: &mut String, refutation: &Refutation) -> Result<(), AllocError>
+    ensures { OnOk result ((list_all is_small_line (lines_of refutation.now) ≡ true)
+        × (string_bytes text.new
+        ≡ string_bytes text.old ++ follows_text (lines_of refutation.now))) }
+{
+    if !are_small(&refutation.lines) {
+        return Err(AllocError);
+    }
+    push_refutation(text, refutation)
 }
 
 /// Appends the lines of a refutation as a block.

@@ -579,7 +579,15 @@ fn push_each(
 {
     law_amended_limits();
     let goals = past.guards.sentences();
-    push_goals(alloc, text, past.schema, &mut past.view, premise, goals, budget)
+    push_goals(
+        alloc,
+        text,
+        past.schema,
+        &mut past.view,
+        premise,
+        goals,
+        budget,
+    )
 }
 
 /// Appends the blocks of the view's log with a further premise, if there is one, against each of

@@ -15,9 +15,11 @@
 mod check;
 mod end;
 mod input;
+mod laws;
 mod run;
 mod show;
 
 pub use check::run_check;
 pub use end::{CheckEnd, CheckRefusal, DossierEnd};
+pub use laws::law_written_are_accepted;
 pub use run::run_dossier;

@@ -38,7 +38,6 @@ pub fn words_text(alloc: Global, line: &str) -> Result<String, AllocError> {
             let front = files_text(alloc, "migrate", &migrate.files)?;
             format!(in alloc; "{front} <{}>", migrate.to)
         }
-<<<<<<< HEAD
         Some(Command::Dossier(dossier)) => {
             let front = files_text(alloc, "dossier", &dossier.files)?;
             format!(in alloc; "{front} <{}>", dossier.user)
@@ -48,11 +47,10 @@ pub fn words_text(alloc: Global, line: &str) -> Result<String, AllocError> {
                 "check <{}> <{}> <{}>",
                 check.policy, check.facts, check.user
             )
-=======
+        }
         Some(Command::Standby(standby)) => {
             let front = files_text(alloc, "standby", &standby.files)?;
             format!(in alloc; "{front} <{}> {}", standby.listen, standby.sessions)
->>>>>>> b-stby2
         }
         None => String::from_str(alloc, "none"),
     }

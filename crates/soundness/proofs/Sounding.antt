@@ -154,7 +154,7 @@ module _ (schema : DatabaseSchema) (world : FactSet) (user : UserProfile) (admis
   there_for_each : (m : Method) → user.method ≡ m → (secret : Formula) → Contains (user_at user entries).secrets secret → FalseThere secret
   there_for_each Lying is secret within =
       let r : (other : FactSet) × IsSoundThere schema user entries other
-          × ((secret : Formula) → Contains (user_at user entries).secrets secret → true_in schema other secret ≡ false) = there_for_all is in
+      × ((secret : Formula) → Contains (user_at user entries).secrets secret → true_in schema other secret ≡ false) = there_for_all is in
       (r.0, r.1, r.2 secret within)
   there_for_each Refusal is secret within = there secret (subst (λ m. Contains (guarded_by m (user_at user entries).secrets) secret) (sym is) within)
   there_for_each Combined is secret within = there secret (subst (λ m. Contains (guarded_by m (user_at user entries).secrets) secret) (sym is) within)

@@ -13,8 +13,9 @@ agree-with (x ∷ xs) more = ap (λ b. b && agree (xs ++ more) xs) (eq-eqb x x r
 pub agree-longer : (xs ys more : List ℕ) → agree xs ys ≡ false → agree (xs ++ more) ys ≡ false
 agree-longer [] ys more other = absurd cc
 agree-longer (x ∷ xs) [] more other = absurd cc
-agree-longer (x ∷ xs) (y ∷ ys) more other = by_test (x == y) other
+agree-longer (x ∷ xs) (y ∷ ys) more other = by_test (x == y) (agree-longer xs ys more) other
   where
-    by_test : (same : Bool) → (same && agree xs ys) ≡ false → (same && agree (xs ++ more) ys) ≡ false
-    by_test true is = agree-longer xs ys more is
-    by_test false is = refl
+    by_test : (same : Bool) → (agree xs ys ≡ false → agree (xs ++ more) ys ≡ false) → (same && agree xs ys) ≡ false
+        → (same && agree (xs ++ more) ys) ≡ false
+    by_test true later is = later is
+    by_test false later is = refl

@@ -63,13 +63,13 @@ begins_either header first added old new keeps begins = by (keeps header (first 
     by (inl same) = (begins.0, same)
     by (inr more) = (begins.0 ++ added ∷ [], subst (λ l. IsJournal header l new) (append_assoc first begins.0 (added ∷ [])) more)
 
+abbrev copy_name : Copy → List ℕ
+copy_name copy = copy.name
+
 module _ {D : Type 0} {g : _} where
   -- ---- all copies
 
   module _ (reads : D → List ℕ) where
-    abbrev copy_name : Copy → List ℕ
-    copy_name copy = copy.name
-
     -- the copy of a name is that of its journal
     pub copy_of : (name : List ℕ) (journals : List (Held D g))
         → copy_at (map (copy_in reads) journals) name ≡ option_map (copy_in reads) (first_named held_name journals name)
@@ -151,7 +151,7 @@ module _ {D : Type 0} {g : _} where
       (copy_in reads held, copy_of reads name journals ∙ ap (option_map (copy_in reads)) is, same)
 
 -- whose append failed, where the copy of a name is this one
-pub failed_there : {copies : List Copy} {name : List ℕ} (copy : Copy) → Some copy ≡ copy_at copies name → HasFailed copies name → copy.failed ≡ true
-failed_there copy is failed =
+pub failed_there : (copies : List Copy) (name : List ℕ) (copy : Copy) → Some copy ≡ copy_at copies name → HasFailed copies name → copy.failed ≡ true
+failed_there copies name copy is failed =
     let same : Some copy ≡ Some failed.0 = is ∙ failed.1 in
     ap (λ (k : Copy). k.failed) (same_Some copy failed.0 same) ∙ failed.2

@@ -20,11 +20,12 @@ use Rattle.standby_core.proofs.Agreeing.{agree-with, agree-longer}
 pub agree-take : (xs ys : List ℕ) → agree xs ys ≡ true → length ys ≤ length xs → take (length ys) xs ≡ ys
 agree-take xs [] same long = refl
 agree-take [] (y ∷ ys) same long = absurd (omega (arith, long))
-agree-take (x ∷ xs) (y ∷ ys) same long = by (x == y) refl same
+agree-take (x ∷ xs) (y ∷ ys) same long = by (x == y) refl (λ others. agree-take xs ys others (omega (arith, long))) same
   where
-    by : (b : Bool) → (x == y) ≡ b → (b && agree xs ys) ≡ true → take (length (y ∷ ys)) (x ∷ xs) ≡ y ∷ ys
-    by true one others = λ i. eqb-true x y one i ∷ agree-take xs ys others (omega (arith, long)) i
-    by false one others = absurd cc
+    by : (b : Bool) → (x == y) ≡ b → (agree xs ys ≡ true → take (length ys) xs ≡ ys) → (b && agree xs ys) ≡ true
+        → take (length (y ∷ ys)) (x ∷ xs) ≡ y ∷ ys
+    by true one on others = λ i. eqb-true x y one i ∷ on others i
+    by false one on others = absurd cc
 
 -- it agrees with two one behind the other where it does with each
 pub agree-both : (xs ys zs : List ℕ) → agree xs (ys ++ zs) ≡ (agree xs ys && agree (drop (length ys) xs) zs)
@@ -61,27 +62,27 @@ drop_within xs n m is =
     (λ long. let same : m ≡ n = omega (arith, is, long) in ap (λ k. drop k xs) same)
     (cases_lt (length xs) n)
 
-module _ (header : Header) (policy_size : length header.policy ≡ 32) (facts_size : length header.facts ≡ 32) where
+-- how long a tail is
+pub tail_size : (one : Carried) → length (tail_bytes one) ≡ length one.name + 11 + length one.text
+tail_size one =
+    let number = to_be_bytes w64 one.number in
+    let kind = one.kind ∷ [] in
+    let size = to_be_bytes w16 (length one.text) in
+    omega (
+      arith,
+      length-append (one.name ++ number ++ kind ++ size) one.text,
+      length-append (one.name ++ number ++ kind) size,
+      length-append (one.name ++ number) kind,
+      length-append one.name number,
+    )
+
+module _ (header : Header) where
   abbrev pub digests : List ℕ
   digests = header.policy ++ header.facts
 
   -- the first bytes, both digests, and the length of a name
   abbrev pub head_bytes : ℕ → List ℕ
   head_bytes named = frame_mark ++ header.policy ++ header.facts ++ (named ∷ [])
-
-  digests_size : length digests ≡ 64
-  digests_size = omega (arith, length-append header.policy header.facts, policy_size, facts_size)
-
-  head_size : (named : ℕ) → length (head_bytes named) ≡ 73
-  head_size named =
-      omega (
-        arith,
-        length-append (frame_mark ++ header.policy ++ header.facts) (named ∷ []),
-        length-append (frame_mark ++ header.policy) header.facts,
-        length-append frame_mark header.policy,
-        policy_size,
-        facts_size,
-      )
 
   head_split : (named : ℕ) (rest : List ℕ) → head_bytes named ++ rest ≡ frame_mark ++ (digests ++ (named ∷ rest))
   head_split named rest =
@@ -103,30 +104,25 @@ module _ (header : Header) (policy_size : length header.policy ≡ 32) (facts_si
       ∙ append_assoc head (one.name ++ number ++ kind) size)
       ∙ append_assoc head (one.name ++ number ++ kind ++ size) one.text
 
+  -- two frames differ in length as their tails do
+  pub frames_alike : (one other : Carried)
+      → length (frame_bytes header one) + length (tail_bytes other) ≡ length (frame_bytes header other) + length (tail_bytes one)
+  frames_alike one other =
+      omega (
+        arith,
+        ap length (frame_split one),
+        ap length (frame_split other),
+        length-append (head_bytes (length one.name)) (tail_bytes one),
+        length-append (head_bytes (length other.name)) (tail_bytes other),
+        length-append (frame_mark ++ header.policy ++ header.facts) (length one.name ∷ []),
+        length-append (frame_mark ++ header.policy ++ header.facts) (length other.name ∷ []),
+      )
+
   pub frame_goes : (one : Carried) (more : List ℕ)
       → frame_bytes header one ++ more ≡ frame_mark ++ (digests ++ (length one.name ∷ (tail_bytes one ++ more)))
   frame_goes one more =
       ap (λ l. l ++ more) (frame_split one) ∙ append_assoc (head_bytes (length one.name)) (tail_bytes one) more
       ∙ head_split (length one.name) (tail_bytes one ++ more)
-
-  pub frame_size : (one : Carried) → length (frame_bytes header one) ≡ 73 + length (tail_bytes one)
-  frame_size one =
-      ap length (frame_split one) ∙ length-append (head_bytes (length one.name)) (tail_bytes one)
-      ∙ ap (λ n. n + length (tail_bytes one)) (head_size (length one.name))
-
-  -- how long a tail is
-  pub tail_size : (one : Carried) → length (tail_bytes one) ≡ length one.name + 11 + length one.text
-  tail_size one =
-      let number = to_be_bytes w64 one.number in
-      let kind = one.kind ∷ [] in
-      let size = to_be_bytes w16 (length one.text) in
-      omega (
-        arith,
-        length-append (one.name ++ number ++ kind ++ size) one.text,
-        length-append (one.name ++ number ++ kind) size,
-        length-append (one.name ++ number) kind,
-        length-append one.name number,
-      )
 
   -- what some bytes go on to as a frame agrees with the first bytes
   frame_marked : (bytes rest more : List ℕ) (one : Carried) → bytes ++ rest ≡ frame_bytes header one ++ more → agree (bytes ++ rest) frame_mark ≡ true
@@ -157,84 +153,105 @@ module _ (header : Header) (policy_size : length header.policy ≡ 32) (facts_si
   pub not_other_now : (bytes : List ℕ) → agree (drop 8 bytes) digests ≡ true → IsOther header bytes → ⊥
   not_other_now bytes same other = let clash : true ≡ false = sym same ∙ other.differs in absurd cc
 
-  pub short_of_head : (bytes : List ℕ) → agree (drop 8 bytes) digests ≡ true → length bytes < 73 → Shows header bytes (Short 73)
-  short_of_head bytes same short = (
-    short,
-    omega arith,
-    λ one rest more proper is. omega (arith, frame_size one),
-    not_other_now bytes same,
-  )
+  module _ (policy_size : length header.policy ≡ 32) (facts_size : length header.facts ≡ 32) where
+    digests_size : length digests ≡ 64
+    digests_size = omega (arith, length-append header.policy header.facts, policy_size, facts_size)
 
-  -- ---- the head is there
+    head_size : (named : ℕ) → length (head_bytes named) ≡ 73
+    head_size named =
+        omega (
+          arith,
+          length-append (frame_mark ++ header.policy ++ header.facts) (named ∷ []),
+          length-append (frame_mark ++ header.policy) header.facts,
+          length-append frame_mark header.policy,
+          policy_size,
+          facts_size,
+        )
 
-  module _ (bytes : List ℕ) (marked : agree bytes frame_mark ≡ true) (same : agree (drop 8 bytes) digests ≡ true) (long : 73 ≤ length bytes) where
-    abbrev named : ℕ
-    named = get_or bytes 72 0
+    pub frame_size : (one : Carried) → length (frame_bytes header one) ≡ 73 + length (tail_bytes one)
+    frame_size one =
+        ap length (frame_split one) ∙ length-append (head_bytes (length one.name)) (tail_bytes one)
+        ∙ ap (λ n. n + length (tail_bytes one)) (head_size (length one.name))
 
-    abbrev tail : List ℕ
-    tail = drop 73 bytes
-
-    headed : bytes ≡ head_bytes named ++ tail
-    headed =
-        let mark : take 8 bytes ≡ frame_mark = agree-take bytes frame_mark marked (omega (arith, long)) in
-        let behind : 64 ≤ length (drop 8 bytes) = omega (arith, length-drop 8 bytes, long) in
-        let many : length digests ≤ length (drop 8 bytes) = omega (arith, digests_size, behind) in
-        let begins : take (length digests) (drop 8 bytes) ≡ digests = agree-take (drop 8 bytes) digests same many in
-        let both : take 64 (drop 8 bytes) ≡ digests = ap (λ n. take n (drop 8 bytes)) (sym digests_size) ∙ begins in
-        let rest : drop 64 (drop 8 bytes) ≡ named ∷ tail = drop-drop 64 8 bytes ∙ drop_more bytes 72 0 (omega (arith, long)) in
-        sym (take-append-drop 8 bytes)
-        ∙ (λ i. mark i ++ sym (take-append-drop 64 (drop 8 bytes)) i)
-        ∙ (λ i. frame_mark ++ (both i ++ rest i))
-        ∙ sym (head_split named tail)
-
-    length_is : length bytes ≡ 73 + length tail
-    length_is = omega (arith, length-drop 73 bytes, long)
-
-    -- what goes on as a frame goes on as its tail
-    goes_on : (one : Carried) (rest more : List ℕ) → IsCarried one → bytes ++ rest ≡ frame_bytes header one ++ more → GoesOn named tail one
-    goes_on one rest more proper is =
-        let whole : frame_mark ++ (digests ++ (named ∷ (tail ++ rest))) ≡ frame_mark ++ (digests ++ (length one.name ∷ (tail_bytes one ++ more))) =
-        sym (head_split named (tail ++ rest)) ∙ sym (append_assoc (head_bytes named) tail rest) ∙ ap (λ l. l ++ rest) (sym headed) ∙ is ∙ frame_goes one more in
-        let behind : named ∷ (tail ++ rest) ≡ length one.name ∷ (tail_bytes one ++ more) =
-        append_cancel_left digests _ _ (append_cancel_left frame_mark _ _ whole) in
-        record { proper = proper; size = cc; rest = rest; more = more; is = cc }
-
-    -- and what goes on as a tail as a frame
-    came_from : (one : Carried) (goes : GoesOn named tail one) → bytes ++ goes.rest ≡ frame_bytes header one ++ goes.more
-    came_from one goes =
-        ap (λ l. l ++ goes.rest) headed ∙ append_assoc (head_bytes named) tail goes.rest
-        ∙ (λ i. head_bytes (sym goes.size i) ++ goes.is i)
-        ∙ sym (append_assoc (head_bytes (length one.name)) (tail_bytes one) goes.more) ∙ ap (λ l. l ++ goes.more) (sym (frame_split one))
-
-    pub tail_within : IsWithin header bytes → (one : Carried) → GoesOn named tail one → length tail ≤ length (tail_bytes one)
-    tail_within within one goes =
-        let most = within one goes.rest goes.more goes.proper (came_from one goes) in
-        omega (arith, most, frame_size one, length_is)
-
-    still_same : (rest : List ℕ) → agree (drop 8 (bytes ++ rest)) digests ≡ true
-    still_same rest =
-        ap (λ l. agree (drop 8 l) digests)
-        (ap (λ l. l ++ rest) headed ∙ append_assoc (head_bytes named) tail rest ∙ head_split named (tail ++ rest))
-        ∙ agree-with digests (named ∷ (tail ++ rest))
-
-    -- what the tail shows, the bytes show
-    pub tail_shows : (judged : Judged) → ShowsTail named tail judged → Shows header bytes judged
-    tail_shows (Frame frame) shows = record {
-      proper = shows.0;
-      is = headed ∙ (λ i. head_bytes (sym shows.1 i) ++ shows.2 i) ∙ sym (frame_split (carried_in frame));
-    }
-    tail_shows (Short need) shows = (
-      omega (arith, length_is, shows.0),
-      shows.1,
-      λ one rest more proper is. omega (arith, frame_size one, shows.2 one (goes_on one rest more proper is)),
+    pub short_of_head : (bytes : List ℕ) → agree (drop 8 bytes) digests ≡ true → length bytes < 73 → Shows header bytes (Short 73)
+    short_of_head bytes same short = (
+      short,
+      omega arith,
+      λ one rest more proper is. omega (arith, frame_size one),
       not_other_now bytes same,
     )
-    tail_shows Bad shows = (
-      λ none. omega (arith, long, ap length none),
-      λ one rest more proper is. shows one (goes_on one rest more proper is),
-      λ rest other. not_other bytes rest (still_same rest) other,
-    )
-    tail_shows Other shows = absurd shows
+
+    -- ---- the head is there
+
+    module _ (bytes : List ℕ) (marked : agree bytes frame_mark ≡ true) (same : agree (drop 8 bytes) digests ≡ true) (long : 73 ≤ length bytes) where
+      abbrev named : ℕ
+      named = get_or bytes 72 0
+
+      abbrev tail : List ℕ
+      tail = drop 73 bytes
+
+      headed : bytes ≡ head_bytes named ++ tail
+      headed =
+          let mark : take 8 bytes ≡ frame_mark = agree-take bytes frame_mark marked (omega (arith, long)) in
+          let behind : 64 ≤ length (drop 8 bytes) = omega (arith, length-drop 8 bytes, long) in
+          let many : length digests ≤ length (drop 8 bytes) = omega (arith, digests_size, behind) in
+          let begins : take (length digests) (drop 8 bytes) ≡ digests = agree-take (drop 8 bytes) digests same many in
+          let both : take 64 (drop 8 bytes) ≡ digests = ap (λ n. take n (drop 8 bytes)) (sym digests_size) ∙ begins in
+          let rest : drop 64 (drop 8 bytes) ≡ named ∷ tail = drop-drop 64 8 bytes ∙ drop_more bytes 72 0 (omega (arith, long)) in
+          sym (take-append-drop 8 bytes)
+          ∙ (λ i. mark i ++ sym (take-append-drop 64 (drop 8 bytes)) i)
+          ∙ (λ i. frame_mark ++ (both i ++ rest i))
+          ∙ sym (head_split named tail)
+
+      length_is : length bytes ≡ 73 + length tail
+      length_is = omega (arith, length-drop 73 bytes, long)
+
+      -- what goes on as a frame goes on as its tail
+      goes_on : (one : Carried) (rest more : List ℕ) → IsCarried one → bytes ++ rest ≡ frame_bytes header one ++ more → GoesOn named tail one
+      goes_on one rest more proper is =
+          let whole : frame_mark ++ (digests ++ (named ∷ (tail ++ rest))) ≡ frame_mark ++ (digests ++ (length one.name ∷ (tail_bytes one ++ more))) =
+          sym (head_split named (tail ++ rest)) ∙ sym (append_assoc (head_bytes named) tail rest) ∙ ap (λ l. l ++ rest) (sym headed) ∙ is
+          ∙ frame_goes one more in
+          let behind : named ∷ (tail ++ rest) ≡ length one.name ∷ (tail_bytes one ++ more) =
+          append_cancel_left digests _ _ (append_cancel_left frame_mark _ _ whole) in
+          record { proper = proper; size = cc; rest = rest; more = more; is = cc }
+
+      -- and what goes on as a tail as a frame
+      came_from : (one : Carried) (goes : GoesOn named tail one) → bytes ++ goes.rest ≡ frame_bytes header one ++ goes.more
+      came_from one goes =
+          ap (λ l. l ++ goes.rest) headed ∙ append_assoc (head_bytes named) tail goes.rest
+          ∙ (λ i. head_bytes (sym goes.size i) ++ goes.is i)
+          ∙ sym (append_assoc (head_bytes (length one.name)) (tail_bytes one) goes.more) ∙ ap (λ l. l ++ goes.more) (sym (frame_split one))
+
+      pub tail_within : IsWithin header bytes → (one : Carried) → GoesOn named tail one → length tail ≤ length (tail_bytes one)
+      tail_within within one goes =
+          let most = within one goes.rest goes.more goes.proper (came_from one goes) in
+          omega (arith, most, frame_size one, length_is)
+
+      still_same : (rest : List ℕ) → agree (drop 8 (bytes ++ rest)) digests ≡ true
+      still_same rest =
+          ap (λ l. agree (drop 8 l) digests)
+          (ap (λ l. l ++ rest) headed ∙ append_assoc (head_bytes named) tail rest ∙ head_split named (tail ++ rest))
+          ∙ agree-with digests (named ∷ (tail ++ rest))
+
+      -- what the tail shows, the bytes show
+      pub tail_shows : (judged : Judged) → ShowsTail named tail judged → Shows header bytes judged
+      tail_shows (Frame frame) shows = record {
+        proper = shows.0;
+        is = headed ∙ (λ i. head_bytes (sym shows.1 i) ++ shows.2 i) ∙ sym (frame_split (carried_in frame));
+      }
+      tail_shows (Short need) shows = (
+        omega (arith, length_is, shows.0),
+        shows.1,
+        λ one rest more proper is. omega (arith, frame_size one, shows.2 one (goes_on one rest more proper is)),
+        not_other_now bytes same,
+      )
+      tail_shows Bad shows = (
+        λ none. omega (arith, long, ap length none),
+        λ one rest more proper is. shows one (goes_on one rest more proper is),
+        λ rest other. not_other bytes rest (still_same rest) other,
+      )
+      tail_shows Other shows = absurd shows
 
 -- ---- the tail
 
@@ -350,14 +367,13 @@ same_texts one other rest more proper proper' named is =
 
 -- ---- a whole frame is judged as one
 
-module _ (header : Header) (policy_size : length header.policy ≡ 32) (facts_size : length header.facts ≡ 32) (room : List ℕ) (one : Carried)
-    (frame : IsFrame header room one) where
+module _ (header : Header) (room : List ℕ) (one : Carried) (frame : IsFrame header room one) where
   -- what goes on from a frame is that frame
   pub frame_within : IsWithin header room
   frame_within other rest more proper goes =
       let is : frame_bytes header one ++ rest ≡ frame_bytes header other ++ more = ap (λ l. l ++ rest) (sym frame.is) ∙ goes in
-      let left = frame_goes header policy_size facts_size one rest in
-      let right = frame_goes header policy_size facts_size other more in
+      let left = frame_goes header one rest in
+      let right = frame_goes header other more in
       let behind : length one.name ∷ (tail_bytes one ++ rest) ≡ length other.name ∷ (tail_bytes other ++ more) =
       append_cancel_left (header.policy ++ header.facts) _ _ (append_cancel_left frame_mark _ _ (sym left ∙ is ∙ right)) in
       let named : length one.name ≡ length other.name = cc in
@@ -366,8 +382,7 @@ module _ (header : Header) (policy_size : length header.policy ≡ 32) (facts_si
       omega (
         arith,
         ap length frame.is,
-        frame_size header policy_size facts_size one,
-        frame_size header policy_size facts_size other,
+        frames_alike header one other,
         tail_size one,
         tail_size other,
         named,
@@ -386,6 +401,6 @@ module _ (header : Header) (policy_size : length header.policy ≡ 32) (facts_si
   never_other other =
       let same : agree (drop 8 room) (header.policy ++ header.facts) ≡ true =
       ap (λ l. agree (drop 8 l) (header.policy ++ header.facts)) (frame.is ∙ sym (append-nil (frame_bytes header one))
-      ∙ frame_goes header policy_size facts_size one [])
+      ∙ frame_goes header one [])
       ∙ agree-with (header.policy ++ header.facts) (length one.name ∷ (tail_bytes one ++ [])) in
-      not_other_now header policy_size facts_size room same other
+      not_other_now header room same other

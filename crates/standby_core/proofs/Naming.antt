@@ -62,21 +62,24 @@ module _ {X : Type 0} (name : X → List ℕ) (wanted : List ℕ) where
   -- the search from a place on finds it there
   found_from : (xs : List X) (i found : ℕ) (other : X) → position_from has_it i xs ≡ Some found → (k : ℕ) × (found ≡ i + k) × IsAt xs k other
   found_from [] i found other is = absurd cc
-  found_from (x ∷ xs) i found other is = by (has_it x) refl is
+  found_from (x ∷ xs) i found other is = by (has_it x) refl (found_from xs (i + 1) found other) is
     where
-      by : (b : Bool) → has_it x ≡ b → cond b (Some i) (position_from has_it (i + 1) xs) ≡ Some found → (k : ℕ) × (found ≡ i + k) × IsAt (x ∷ xs) k other
-      by true it is = let same : i ≡ found = cc in (0, omega (arith, same), at_front x xs other it)
-      by false miss is =
-          let later = found_from xs (i + 1) found other is in
+      by : (b : Bool) → has_it x ≡ b
+          → (position_from has_it (i + 1) xs ≡ Some found → (k : ℕ) × (found ≡ (i + 1) + k) × IsAt xs k other)
+          → cond b (Some i) (position_from has_it (i + 1) xs) ≡ Some found → (k : ℕ) × (found ≡ i + k) × IsAt (x ∷ xs) k other
+      by true it on is = let same : i ≡ found = cc in (0, omega (arith, same), at_front x xs other it)
+      by false miss on is =
+          let later = on is in
           (suc later.0, omega (arith, later.1), at_next x xs later.0 other miss later.2)
 
   none_from : (xs : List X) (i : ℕ) → position_from has_it i xs ≡ None → first_named name xs wanted ≡ None
   none_from [] i is = refl
-  none_from (x ∷ xs) i is = by (has_it x) is
+  none_from (x ∷ xs) i is = by (has_it x) (none_from xs (i + 1)) is
     where
-      by : (b : Bool) → cond b (Some i) (position_from has_it (i + 1) xs) ≡ None → (if b then Some x else first_named name xs wanted) ≡ None
-      by true is = absurd cc
-      by false is = none_from xs (i + 1) is
+      by : (b : Bool) → (position_from has_it (i + 1) xs ≡ None → first_named name xs wanted ≡ None)
+          → cond b (Some i) (position_from has_it (i + 1) xs) ≡ None → (if b then Some x else first_named name xs wanted) ≡ None
+      by true on is = absurd cc
+      by false on is = on is
 
   pub found : (xs : List X) (place : ℕ) (other : X) → position has_it xs ≡ Some place → IsAt xs place other
   found xs place other is =

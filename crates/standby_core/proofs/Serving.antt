@@ -1,5 +1,5 @@
 -- A connection that is served, frame by frame.
-use Rattle.std.proofs.Common.{◌≡◌, ℕ, ◌+◌, List, [], ◌∷◌, ◌++◌, length, take, Err, Ok, refl, sym, ap, subst, ◌∙◌, arith, append_assoc, length-append}
+use Rattle.std.proofs.Common.{◌≡◌, ℕ, suc, ◌+◌, List, [], ◌∷◌, ◌++◌, length, take, Err, Ok, refl, sym, ap, subst, ◌∙◌, arith, append_assoc, length-append}
 use Rattle.log_journal.specs.declared.header.Header.{Header}
 use Rattle.standby_core.specs.Copies.{Copy, HasCount}
 use Rattle.standby_core.specs.Exchanges.{Takes, more, Serves, HasEnded, IsAnswered, AreLeft, IsTaking, Took}
@@ -9,8 +9,12 @@ use Rattle.standby_core.specs.declared.serve.StandbyEnd.TheVariants as end
 
 -- all of a list and some of what stands behind it
 take_into : (xs ys : List ℕ) (n : ℕ) → take (length xs + n) (xs ++ ys) ≡ xs ++ take n ys
-take_into [] ys n = refl
-take_into (x ∷ xs) ys n = λ i. x ∷ take_into xs ys n i
+take_into [] ys n =
+    let none : 0 + n ≡ n = omega arith in
+    ap (λ k. take k ys) none
+take_into (x ∷ xs) ys n =
+    let one : suc (length xs) + n ≡ suc (length xs + n) = omega arith in
+    ap (λ k. take k (x ∷ (xs ++ ys))) one ∙ ap (λ l. x ∷ l) (take_into xs ys n)
 
 module _ (header : Header) (bytes : List ℕ) (copies : List Copy) where
   -- the frames so far were taken, and these answers written

@@ -183,11 +183,12 @@ module _ {C : Type 0} {g : _} (faults : C → ℕ) (name : List ℕ) where
   pub none_failed : (slots : List (Slot C g)) → AllByRecursion (λ slot. faults_in faults (Some slot.place) ≡ 0) slots
       → faults_in faults (place_at slots name) ≡ 0
   none_failed [] all = refl
-  none_failed (slot ∷ slots) all = by (bytes_eq (slot_name slot) name)
+  none_failed (slot ∷ slots) all = by (bytes_eq (slot_name slot) name) (none_failed slots all.1)
     where
-      by : (b : Bool) → faults_in faults (option_map (λ (s : Slot C g). s.place) (if b then Some slot else first_named slot_name slots name)) ≡ 0
-      by true = all.0
-      by false = none_failed slots all.1
+      by : (b : Bool) → faults_in faults (place_at slots name) ≡ 0
+          → faults_in faults (option_map (λ (s : Slot C g). s.place) (if b then Some slot else first_named slot_name slots name)) ≡ 0
+      by true none = all.0
+      by false none = none
 
 -- one more of which something holds
 pub all_more : {X : Type 0} (P : X → Type 0) (xs : List X) (x : X) → AllByRecursion P xs → P x → AllByRecursion P (xs ++ x ∷ [])

@@ -170,7 +170,9 @@ fn is_marked(bytes: &[u8]) -> bool
 
 // Whether both digests stand behind that, as far as the bytes go.
 fn has_header(bytes: &[u8], header: &Header) -> bool
-    ensures { result ≡ agree (drop 8 bytes.now) (header.now.policy ++ header.now.facts) }
+    ensures same { result ≡ agree (drop 8 bytes.now) (header.now.policy ++ header.now.facts) }
+    ensures policy { length header.now.policy ≡ 32 }
+    ensures facts { length header.now.facts ≡ 32 }
 {
     let has_policy = agrees(behind(bytes, 8), &header.policy);
     let has_facts = agrees(behind(bytes, 40), &header.facts);

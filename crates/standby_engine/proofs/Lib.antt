@@ -3,8 +3,8 @@ pub mod Giving
 pub mod Returning
 pub mod Places
 pub mod Parting
-pub mod Copying
-pub mod Opening
-pub mod Serving
+pub mod Mirroring
+pub mod Openings
+pub mod Servings
 pub mod Ending
 pub mod Listening

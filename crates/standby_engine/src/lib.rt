@@ -13,4 +13,4 @@ mod opening;
 mod run;
 mod serving;
 
-pub use run::{CopyEnd, run_standby};
+pub use run::{CopyEnd, Copying, run_standby};

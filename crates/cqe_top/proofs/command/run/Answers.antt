@@ -4,13 +4,9 @@ use Rattle.cqe_base.specs.Schema.{Text}
 use Rattle.command_words.specs.Readings.{FileNames, reading_in, names_of_files, runs_selfrun}
 use Rattle.cqe_top.specs.Steps.{reading_over, reading_copied, KeepsBounds, KeepsCopiedBounds}
 use Rattle.cqe_top.specs.declared.over_files.Task.{Task}
-<<<<<<< HEAD
-use Rattle.cqe_top.specs.declared.over_files.Task.TheVariants.{Init, Batch, OfUser, Migrate, Serve}
-=======
-use Rattle.cqe_top.specs.declared.over_files.Task.TheVariants.{Init, Batch, Audit, Migrate, Serve, Standby}
+use Rattle.cqe_top.specs.declared.over_files.Task.TheVariants.{Init, Batch, OfUser, Migrate, Serve, Standby}
 use Rattle.cqe_top.specs.declared.copied.CopiedTask.{CopiedTask}
 use Rattle.cqe_top.specs.declared.copied.CopiedTask.TheVariants as copied
->>>>>>> b-stby2
 use Rattle.cqe_top.proofs.Numbers.{Keeps, kept}
 use Rattle.cqe_top.proofs.command.run.Goals as goal
 

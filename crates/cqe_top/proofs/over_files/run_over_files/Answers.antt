@@ -23,35 +23,21 @@ use Rattle.cqe_top.specs.Serve.{OfServe, RunsServe}
 use Rattle.cqe_top.specs.Standby.{OfStandby, RunsStandby}
 use Rattle.cqe_top.specs.Steps.{reading_over}
 use Rattle.cqe_top.specs.declared.end.CommandEnd.TheVariants as ends
-<<<<<<< HEAD
 use Rattle.cqe_top.specs.declared.over_files.Task.TheVariants.{OfUser}
-use Rattle.cqe_top.proofs.Causes.{files_cause, init_cause, batch_cause, audit_cause, dossier_cause, check_cause, migrate_cause, serve_cause}
-=======
-use Rattle.cqe_top.proofs.Causes.{files_cause, init_cause, batch_cause, audit_cause, migrate_cause, serve_cause, standby_cause}
->>>>>>> b-stby2
+use Rattle.cqe_top.proofs.Causes.{files_cause, init_cause, batch_cause, audit_cause, dossier_cause, check_cause, migrate_cause, serve_cause, standby_cause}
 use Rattle.cqe_top.proofs.Finding.{is_named, one_named, named_at, nobody_named}
 use Rattle.cqe_top.proofs.Good.{unread, init_succeeds, batch_succeeds, audit_succeeds, dossier_succeeds, check_succeeds, migrate_succeeds, nobody_there}
 use Rattle.cqe_top.proofs.Over.{serve_over, init_caused, some_rose, same_journals, touches_over, init_over, others_over, bytes_over, images_over, batch_over}
-<<<<<<< HEAD
 use Rattle.cqe_top.proofs.Over.{batch_left, serve_left, one_of, silent_end, silent_dossier, counts_over, counted_over, moments_over}
-use Rattle.cqe_top.proofs.Over.{durable_over, migrate_over, migrate_caused, counts_both, at_one_of}
-=======
-use Rattle.cqe_top.proofs.Over.{batch_left, serve_left, one_of, silent_end, counts_over, counted_over, moments_over}
 use Rattle.cqe_top.proofs.Over.{copies_left, durable_over, migrate_over, migrate_caused, counts_both, at_one_of}
->>>>>>> b-stby2
 use Rattle.cqe_top.proofs.Serving.{serve_succeeds, served_out}
 use Rattle.cqe_top.proofs.Standing.{standby_succeeds}
 use Rattle.cqe_top.proofs.Users.{batch_names_are}
 use Rattle.cqe_top.proofs.over_files.run_over_files.Given.{Over}
 use Rattle.cqe_top.proofs.over_files.run_over_files.Goals as goal
-<<<<<<< HEAD
-use Rattle.cqe_top.proofs.over_files.run_over_files.Goals.{After-drop-inputs-5, After-drop-inputs-in-Batch-4}
-use Rattle.cqe_top.proofs.over_files.run_over_files.Goals.{After-drop-inputs-in-Init-3, After-drop-inputs-in-Migrate-4, In-Err}
-=======
-use Rattle.cqe_top.proofs.over_files.run_over_files.Goals.{After-drop-inputs-4, After-drop-inputs-in-Audit-5, After-drop-inputs-in-Batch-4}
+use Rattle.cqe_top.proofs.over_files.run_over_files.Goals.{After-drop-inputs-4, After-drop-inputs-in-Batch-4}
 use Rattle.cqe_top.proofs.over_files.run_over_files.Goals.{After-drop-inputs-in-Init-3, After-drop-inputs-in-Migrate-4, After-drop-inputs-in-Serve-5}
-use Rattle.cqe_top.proofs.over_files.run_over_files.Goals.{After-drop-inputs-in_default-5, In-Err}
->>>>>>> b-stby2
+use Rattle.cqe_top.proofs.over_files.run_over_files.Goals.{In-Err}
 
 pub run_batch-end-requires-clause-names : goal.run_batch-end-requires-clause-names
 run_batch-end-requires-clause-names g c κs within =
@@ -375,16 +361,16 @@ returns-in-Dossier-clause-command g c =
 
 -- ---- the check of a dossier
 
-pub returns-in-Check-clause-cause : goal.returns-in-Check-clause-cause
-returns-in-Check-clause-cause g c =
+pub returns-in-OfUser-clause-cause : goal.returns-in-OfUser-clause-cause
+returns-in-OfUser-clause-cause g c =
     let ran = c.run_check.ensures in
     let scene : Scene = scene_of (shelf_of g.F.Shelf g.F.D.Disk c.args.shelf.now c.read_files.new.shelf)
     (input_of g.S.Source c.args.source.now c.run_check.new.source)
     (output_of g.K.Sink c.args.sink.now c.run_check.new.sink) (links_of g.L.Links c.args.links.now c.args.links.now) in
     check_cause scene c.run_check.result ran.read_cause ran.write_cause
 
-pub returns-in-Check-clause-command : goal.returns-in-Check-clause-command
-returns-in-Check-clause-command g c =
+pub returns-in-OfUser-clause-command : goal.returns-in-OfUser-clause-command
+returns-in-OfUser-clause-command g c =
     let scene : Scene = scene_of (shelf_of g.F.Shelf g.F.D.Disk c.args.shelf.now c.read_files.new.shelf)
     (input_of g.S.Source c.args.source.now c.run_check.new.source)
     (output_of g.K.Sink c.args.sink.now c.run_check.new.sink) (links_of g.L.Links c.args.links.now c.args.links.now) in
@@ -412,7 +398,7 @@ returns-in-Check-clause-command g c =
     } in
     let does : OfCheck scene files.policy files.facts name (ends.Check c.run_check.result) = record {
       ends = runs;
-      succeeds = check_succeeds scene two name c.run_check.result runs (returns-in-Check-clause-cause g c);
+      succeeds = check_succeeds scene two name c.run_check.result runs (returns-in-OfUser-clause-cause g c);
       listens_nowhere = refl;
     } in
     subst (λ task. OfReading scene (Some (reading_over files task)) (ends.Check c.run_check.result))

@@ -25,7 +25,7 @@ returns-in-None-clause-read c =
     sym (c.loop-rest.invariant.facts
     ∙ ap (λ parts. behind c.loop-rest.facts.items (facts_in c.args.schema.now parts)) c.first_part.ensures.first
     ∙ ap (λ fact. behind c.loop-rest.facts.items (with_first fact (facts_in c.args.schema.now (ended_parts 41 c.first_part.result.1.now))))
-    (sym c.in_ok-fact_in.ensures.fact ∙ c.in-None.is))
+    (sym c.in_ok-fact.ensures.fact ∙ c.in-None.is))
 
 -- one more fact
 pub loop-rest-preserved : goal.loop-rest-preserved
@@ -34,7 +34,7 @@ loop-rest-preserved c = record {
   facts = c.loop-rest.invariant.facts
       ∙ ap (λ parts. behind c.loop-rest.facts.items (facts_in c.args.schema.now parts)) c.first_part.ensures.first
       ∙ ap (λ fact. behind c.loop-rest.facts.items (with_first fact (facts_in c.args.schema.now (ended_parts 41 c.first_part.result.1.now))))
-      (sym c.in_ok-fact_in.ensures.fact ∙ c.in-Some.is)
+      (sym c.in_ok-fact.ensures.fact ∙ c.in-Some.is)
       ∙ behind-more c.loop-rest.facts.items c.in-Some.fact (facts_in c.args.schema.now (ended_parts 41 c.first_part.result.1.now))
       ∙ ap (λ facts. behind facts (facts_in c.args.schema.now (ended_parts 41 c.first_part.result.1.now))) (sym c.in_ok-push-in-Some.ensures.items);
   of_schema = ap (list_all (is_fact_of c.args.schema.now)) c.in_ok-push-in-Some.ensures.items

@@ -7,11 +7,10 @@ use Rattle.dossier.proofs.listed.world_of.Goals as goal
 -- the world with one more fact
 pub loop-fact-preserved : goal.loop-fact-preserved
 loop-fact-preserved c =
-    let fact = c.fact-item.result in
     let so_far = take c.loop-fact.fact-index c.args.facts.now in
-    c.in-Ok.ensures.added ∙ ap (λ world. set.insert world fact) c.loop-fact.invariant
-    ∙ sym (world-more so_far fact)
-    ∙ ap set.from_list (sym (take_more c.args.facts.now c.loop-fact.fact-index fact c.loop-fact-test.true ∙ ap (λ f. so_far ++ f ∷ []) (sym c.fact-item.is)))
+    c.in-Ok.ensures.added ∙ ap (λ world. set.insert world _) c.loop-fact.invariant
+    ∙ sym (world-more so_far _)
+    ∙ ap set.from_list (sym (take_more c.args.facts.now c.loop-fact.fact-index _ c.loop-fact-test.true))
 
 -- all facts are in it
 pub returns : goal.returns

@@ -20,10 +20,10 @@ returns-in-Follows-clause-block c =
     let probe = c.args.probe.now in
     let lines = lines_of c.in-Follows.refutation in
     let right : is_refutation (clauses_of_probe (schema_of view) (log_of view ++ premise_of probe) (goal_of probe)) lines ≡ true =
-    rw c.in-Follows.is at c.in_ok-certify.ensures.right in
+    rw c.in-Follows.is at c.in_ok-refutation.ensures.right in
     let here : is_refutation (clauses_of_probe c.args.schema.now (log_of view ++ premise_of probe) (goal_of probe)) lines ≡ true =
     subst (λ s. is_refutation (clauses_of_probe s (log_of view ++ premise_of probe) (goal_of probe)) lines ≡ true) c.requires.schema right in
-    on_ok_weaker c.push_refutation.result (λ is. (follows_text lines, inr (lines, here, refl), is)) c.push_refutation.ensures
+    on_ok_weaker c.push_follows.result (λ both. (follows_text lines, inr (lines, here, both.0, refl), both.1)) c.push_follows.ensures
 
 -- a world
 pub push_world-requires : goal.push_world-requires
@@ -31,7 +31,7 @@ push_world-requires c =
     let view = c.args.view.now in
     let probe = c.args.probe.now in
     let counter : IsCountermodel (schema_of view) (log_of view ++ premise_of probe) (goal_of probe) c.in-Open.world =
-    rw c.in-Open.is at c.in_ok-certify.ensures.sound in
+    rw c.in-Open.is at c.in_ok-refutation.ensures.sound in
     subst (λ s. IsWorldOf s c.in-Open.world) c.requires.schema counter.of_schema
 
 pub returns-in-Open-clause-block : goal.returns-in-Open-clause-block
@@ -40,11 +40,11 @@ returns-in-Open-clause-block c =
     let probe = c.args.probe.now in
     let schema = schema_of view in
     let counter : IsCountermodel schema (log_of view ++ premise_of probe) (goal_of probe) c.in-Open.world =
-    rw c.in-Open.is at c.in_ok-certify.ensures.sound in
+    rw c.in-Open.is at c.in_ok-refutation.ensures.sound in
     let here : IsCountermodel c.args.schema.now (log_of view ++ premise_of probe) (goal_of probe) c.in-Open.world =
     subst (λ s. IsCountermodel s (log_of view ++ premise_of probe) (goal_of probe) c.in-Open.world) c.requires.schema counter in
     let verdict : Open c.in-Open.world ≡ verdict_of_probe schema (log_of view ++ premise_of probe) (goal_of probe) c.args.budget =
-    rw c.in-Open.is at c.in_ok-certify.ensures.end in
+    rw c.in-Open.is at c.in_ok-refutation.ensures.end in
     on_ok_weaker c.push_world.result
     (λ grows. (
       grows.0,
@@ -56,4 +56,4 @@ returns-in-Open-clause-block c =
 
 -- it isn't spent
 pub unreachable-requires : goal.unreachable-requires
-unreachable-requires c = c.requires.unspent (sym (rw c.in-Spent.is at c.in_ok-certify.ensures.outcome))
+unreachable-requires c = c.requires.unspent (sym (rw c.in-Spent.is at c.in_ok-refutation.ensures.outcome))

@@ -11,7 +11,7 @@ loop-word-init c =
 pub loop-word-preserved : goal.loop-word-preserved
 loop-word-preserved c =
     c.loop-word.invariant
-    ∙ one-read (λ word. word.now) literal_of c.args.words.now c.loop-word.word-index c.word-item.result c.word-item.is c.loop-word-test.true
+    ∙ one-read (λ word. word.now) literal_of c.args.words.now c.loop-word.word-index _ c.loop-word-test.true
     c.loop-word.clause.items c.in-Some.literal (sym c.literal_of.ensures ∙ c.in-Some.is)
     ∙ ap (λ read. behind read (from (λ word. word.now) literal_of c.args.words.now (c.loop-word.word-index + 1))) (sym c.in_ok-push-in-Some.ensures.items)
 
@@ -19,7 +19,7 @@ loop-word-preserved c =
 pub returns-in-None : goal.returns-in-None
 returns-in-None c =
     sym (c.loop-word.invariant
-    ∙ none-read (λ word. word.now) literal_of c.args.words.now c.loop-word.word-index c.word-item.result c.word-item.is c.loop-word-test.true
+    ∙ none-read (λ word. word.now) literal_of c.args.words.now c.loop-word.word-index _ c.loop-word-test.true
     c.loop-word.clause.items (sym c.literal_of.ensures ∙ c.in-None.is))
 
 pub returns : goal.returns

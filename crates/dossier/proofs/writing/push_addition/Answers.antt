@@ -54,9 +54,11 @@ push_goal-requires-clause-unspent c =
     (sym (ap formula_of c.in_ok-goal.ensures.same
     ∙ guard-at _ (past_user past) (past_history past) (formula_of c.args.secret.now) (formula_of c.in_ok-guarded.guarded) c.requires.kept.current
     c.in_ok-guarded.ensures))
-    (open-unspent (past_schema past) (outcome (past_schema past) told
-    (guard_by (past_user past).method ((user_at (past_user past) (past_history past)).secrets ++ formula_of c.args.secret.now ∷ [])
-    (formula_of c.args.secret.now), true) admission_budget) c.requires.safe)
+    (open-unspent (past_schema past) (outcome (past_schema past) told (
+      guard_by (past_user past).method ((user_at (past_user past) (past_history past)).secrets ++ formula_of c.args.secret.now ∷ [])
+          (formula_of c.args.secret.now),
+      true,
+    ) admission_budget) c.requires.safe)
 
 pub returns-clause-block : goal.returns-clause-block
 returns-clause-block c =

@@ -14,8 +14,8 @@ loop-size-init g c = record {
   later = omega arith;
 }
 
-pub judge-size-requires : goal.judge-size-requires
-judge-size-requires g c = subst (IsWithin c.args.header.now) (sym c.bytes.ensures) c.loop-size.invariant.within
+pub judge-requires : goal.judge-requires
+judge-requires g c = subst (IsWithin c.args.header.now) (sym c.bytes.ensures) c.loop-size.invariant.within
 
 pub take_up_to-requires-clause-more : goal.take_up_to-requires-clause-more
 take_up_to-requires-clause-more g c = omega (arith, c.in-Short.ensures.0, ap length c.bytes.ensures)

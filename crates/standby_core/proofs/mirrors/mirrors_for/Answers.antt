@@ -15,7 +15,7 @@ loop-user-init g c =
       fresh = subst (AllByRecursion (λ slot. faults_in g.L.Dial.Dial.faults (Some slot.place) ≡ 0))
           (sym (c.in_ok-reserve.ensures.items ∙ c.new-slots.ensures.items)) tt;
       count = omega (arith, c.reserve.new.self.ok.0, ap length c.in_ok-reserve.ensures.items, none);
-      room = omega (arith, c.in_ok-reserve.ensures.room);
+      room = omega (arith, c.in_ok-reserve.ensures.ok);
       mirror = refl;
       doors = keeps_all g.L.Links c.args.links.now;
     }

@@ -1,4 +1,4 @@
-use Rattle.std.proofs.Common.{◌≡◌, ◌++◌, length, take, refl, sym, ap, subst, ◌∙◌, arith, rules}
+use Rattle.std.proofs.Common.{◌++◌, length, take, refl, sym, ap, subst, ◌∙◌, arith}
 use Rattle.standby_core.specs.Frames.{IsWithin, IsFrame, Shows, carried_in}
 use Rattle.standby_core.specs.declared.frame.Judged.TheVariants.{Short, Bad, Other}
 use Rattle.standby_core.proofs.Framing.{frame_within, never_short, never_bad, never_other}
@@ -6,60 +6,46 @@ use Rattle.standby_core.proofs.serve.take_frame.Given.{Over}
 use Rattle.standby_core.proofs.serve.take_frame.Goals as goal
 use Rattle.standby_core.proofs.serve.take_frame.Goals.{In-Frame}
 
-pub judge-frame-requires : goal.judge-frame-requires
-judge-frame-requires g c =
+pub judge-requires : goal.judge-requires
+judge-requires g c =
     let header = c.args.header.now in
-    let policy : length header.policy ≡ 32 = search rules in
-    let facts : length header.facts ≡ 32 = search rules in
-    subst (IsWithin header) (sym c.bytes.ensures) (frame_within header policy facts c.args.room.now c.requires.0 c.requires.1)
+    subst (IsWithin header) (sym c.bytes.ensures) (frame_within header c.args.room.now c.requires.0 c.requires.1)
 
 -- ---- never: the bytes are a whole frame
 
 pub returns-in-Short-clause-took : goal.returns-in-Short-clause-took
 returns-in-Short-clause-took g c =
     let header = c.args.header.now in
-    let policy : length header.policy ≡ 32 = search rules in
-    let facts : length header.facts ≡ 32 = search rules in
-    absurd (never_short header policy facts c.args.room.now c.requires.0 c.requires.1 c.in-Short.field-0
+    absurd (never_short header c.args.room.now c.requires.0 c.requires.1 c.in-Short.field-0
     (subst (λ l. Shows header l (Short c.in-Short.field-0)) c.bytes.ensures c.in-Short.ensures))
 
 pub returns-in-Bad-clause-took : goal.returns-in-Bad-clause-took
 returns-in-Bad-clause-took g c =
     let header = c.args.header.now in
-    let policy : length header.policy ≡ 32 = search rules in
-    let facts : length header.facts ≡ 32 = search rules in
-    absurd (never_bad header policy facts c.args.room.now c.requires.0 c.requires.1
+    absurd (never_bad header c.args.room.now c.requires.0 c.requires.1
     (subst (λ l. Shows header l Bad) c.bytes.ensures c.in-Bad.ensures))
 
 pub returns-in-Other-clause-took : goal.returns-in-Other-clause-took
 returns-in-Other-clause-took g c =
     let header = c.args.header.now in
-    let policy : length header.policy ≡ 32 = search rules in
-    let facts : length header.facts ≡ 32 = search rules in
-    absurd (never_other header policy facts c.args.room.now c.requires.0 c.requires.1
+    absurd (never_other header c.args.room.now c.requires.0 c.requires.1
     (subst (λ l. Shows header l Other) c.bytes.ensures c.in-Other.ensures))
 
 pub returns-in-Short-clause-ends : goal.returns-in-Short-clause-ends
 returns-in-Short-clause-ends g c =
     let header = c.args.header.now in
-    let policy : length header.policy ≡ 32 = search rules in
-    let facts : length header.facts ≡ 32 = search rules in
-    never_short header policy facts c.args.room.now c.requires.0 c.requires.1 c.in-Short.field-0
+    never_short header c.args.room.now c.requires.0 c.requires.1 c.in-Short.field-0
     (subst (λ l. Shows header l (Short c.in-Short.field-0)) c.bytes.ensures c.in-Short.ensures)
 
 pub returns-in-Bad-clause-ends : goal.returns-in-Bad-clause-ends
 returns-in-Bad-clause-ends g c =
     let header = c.args.header.now in
-    let policy : length header.policy ≡ 32 = search rules in
-    let facts : length header.facts ≡ 32 = search rules in
-    never_bad header policy facts c.args.room.now c.requires.0 c.requires.1 (subst (λ l. Shows header l Bad) c.bytes.ensures c.in-Bad.ensures)
+    never_bad header c.args.room.now c.requires.0 c.requires.1 (subst (λ l. Shows header l Bad) c.bytes.ensures c.in-Bad.ensures)
 
 pub returns-in-Other-clause-ends : goal.returns-in-Other-clause-ends
 returns-in-Other-clause-ends g c =
     let header = c.args.header.now in
-    let policy : length header.policy ≡ 32 = search rules in
-    let facts : length header.facts ≡ 32 = search rules in
-    never_other header policy facts c.args.room.now c.requires.0 c.requires.1 (subst (λ l. Shows header l Other) c.bytes.ensures c.in-Other.ensures)
+    never_other header c.args.room.now c.requires.0 c.requires.1 (subst (λ l. Shows header l Other) c.bytes.ensures c.in-Other.ensures)
 
 -- ---- the frame in the room
 

@@ -52,7 +52,7 @@ returns-clause-kept c =
         c.in_ok-tell.ensures.log ∙ ap (λ l. l ++ told_by item.mark item.query) c.requires.kept.view.1
             ∙ sym (c.law_logs.ensures.grows user history item) ∙ ap (log user) (sym more),
       );
-      bytes = ap (λ n. n + item.length) c.requires.kept.bytes ∙ sym (bytes-more history item) ∙ ap (sum_by (λ entry. entry.length)) (sym more);
+      bytes = (λ i. c.requires.kept.bytes i + c.from.ensures i) ∙ sym (bytes-more history item) ∙ ap (sum_by (λ entry. entry.length)) (sym more);
       nodes = (λ i. c.requires.kept.nodes i + c.told_nodes.ensures i)
           ∙ sym (view_size-push schema user history item c.law_logs.ensures.grows c.law_added_secrets.ensures.grows) ∙ ap (view_size schema user) (sym more);
     }

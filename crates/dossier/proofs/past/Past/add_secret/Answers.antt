@@ -42,15 +42,15 @@ returns-clause-kept c =
       limits = c.requires.kept.limits;
       sizes = subst (KeepsSizes schema user) (sym more) (sizes_push schema user history item c.requires.kept.sizes c.requires.fits);
       current = current ∙ ap (user_at user) (sym more);
-      guards_schema = c.in_ok-new.ensures.schema;
-      guarded_now = c.in_ok-new.ensures.guarded ∙ ap guarded (current ∙ ap (user_at user) (sym more));
+      guards_schema = c.in_ok-self.ensures.schema;
+      guarded_now = c.in_ok-self.ensures.guarded ∙ ap guarded (current ∙ ap (user_at user) (sym more));
       view = (
         c.requires.kept.view.0,
         c.requires.kept.view.1
             ∙ sym (log-added c.law_logs.ensures.grows c.law_added_secrets.ensures.grows user history item c.requires.added)
             ∙ ap (log user) (sym more),
       );
-      bytes = ap (λ n. n + item.length) c.requires.kept.bytes ∙ sym (bytes-more history item) ∙ ap (sum_by (λ entry. entry.length)) (sym more);
+      bytes = (λ i. c.requires.kept.bytes i + c.from.ensures i) ∙ sym (bytes-more history item) ∙ ap (sum_by (λ entry. entry.length)) (sym more);
       nodes = (λ i. c.requires.kept.nodes i + c.told_nodes.ensures i)
           ∙ sym (view_size-push schema user history item c.law_logs.ensures.grows c.law_added_secrets.ensures.grows) ∙ ap (view_size schema user) (sym more);
     }

@@ -9,7 +9,8 @@ use Rattle.dossier.proofs.past.Past.has_no_room.Goals as goal
 pub returns-then-is_too_large_secret : goal.returns-then-is_too_large_secret
 returns-then-is_too_large_secret c =
     let self = c.args.self.now in
-    sym (or_left (is_too_large_secret (past_schema self) (past_user self) (past_history self) (formula_of c.args.secret.now)) _
+    c.if-is_too_large_secret.true
+    ∙ sym (or_left (is_too_large_secret (past_schema self) (past_user self) (past_history self) (formula_of c.args.secret.now)) _
     (sym c.is_too_large_secret.ensures ∙ c.if-is_too_large_secret.true))
 
 pub returns-else-is_too_large_secret : goal.returns-else-is_too_large_secret

@@ -1,8 +1,11 @@
-use Rattle.std.proofs.Common.{◌≡◌, ◌≤◌, ◌+◌, ◌++◌, ◌∷◌, [], length, true, false, sym, ap, subst, ◌∙◌, arith}
+use Rattle.std.proofs.Common.{◌≡◌, ◌≤◌, ◌+◌, ◌++◌, ◌∷◌, [], length, true, false, Result, Ok, Err, sym, ap, subst, ◌∙◌, arith}
+use Rattle.std.specs.Result.{OnOk, OnErr, is_err}
 use Rattle.outside.specs.Faults.{Rose}
 use Rattle.outside.proofs.Rises.{rose_since}
 use Rattle.log_journal.specs.Journal.{disk_of, is_broken, count_of}
+use Rattle.log_journal.specs.Records.{Recorded}
 use Rattle.log_journal.specs.Walk.{records}
+use Rattle.log_journal.specs.declared.header.AppendError.TheVariants.{DiskFault, Broken}
 use Rattle.standby_core.specs.Copies.{held_name}
 use Rattle.standby_core.specs.Lasting.{HasBeginning}
 use Rattle.standby_core.proofs.Booking.{copy_kept, copy_grown, begins_added, begins_either}
@@ -10,18 +13,18 @@ use Rattle.standby_core.proofs.book.Held.take.Goals as goal
 
 -- ---- a record that isn't the next
 
-pub returns-then-number-ne-count-clause-taken : goal.returns-then-number-ne-count-clause-taken
-returns-then-number-ne-count-clause-taken g c told =
+pub returns-then-number-count-clause-taken : goal.returns-then-number-count-clause-taken
+returns-then-number-count-clause-taken g c told =
     let journal = c.args.self.now.journal in
     let whole : is_broken journal ≡ false = sym c.has_failed.ensures ∙ c.if-has_failed.false in
     let count = c.args.self.now.count in
     let same : count ≡ count_of journal = c.requires.counted in
     copy_kept (held_name c.args.self.now) count c.args.number (records (g.D.Disk.reads (disk_of journal))) (is_broken journal) c.args.kind c.args.text.now
-    (λ is. c.if-number-ne-count.true (is ∙ same ∙ sym c.count-count.ensures.same))
+    (λ is. c.if-number-count.true (is ∙ same ∙ sym c.count-count.ensures.same))
     (same ∙ sym c.count-count.ensures.same ∙ c.count-count.ensures.records told whole)
 
-pub returns-then-number-ne-count-clause-count : goal.returns-then-number-ne-count-clause-count
-returns-then-number-ne-count-clause-count g c = c.count-count.ensures.same ∙ sym c.requires.counted
+pub returns-then-number-count-clause-count : goal.returns-then-number-count-clause-count
+returns-then-number-count-clause-count g c = c.count-count.ensures.same ∙ sym c.requires.counted
 
 -- ---- no memory for its room
 
@@ -52,8 +55,12 @@ returns-then-is_err-clause-faults g c count counted = record {
 
 -- ---- the next record
 
+room_when : {T E : Type 0} (r : Result T E) (P : Type 0) → is_err r ≡ false → OnOk r P → P
+room_when (Ok x) P whole on = on
+room_when (Err e) P failed on = let clash : true ≡ false = failed in absurd cc
+
 pub append-appended-requires-clause-reserved : goal.append-appended-requires-clause-reserved
-append-appended-requires-clause-reserved g c = c.reserve.ensures.room
+append-appended-requires-clause-reserved g c = room_when c.reserve.result _ (sym c.is_err.ensures.value ∙ c.if-is_err.false) c.reserve.ensures.room
 
 pub returns-in-Ok-clause-taken : goal.returns-in-Ok-clause-taken
 returns-in-Ok-clause-taken g c told =
@@ -65,7 +72,7 @@ returns-in-Ok-clause-taken g c told =
     let rs : records (g.D.Disk.reads (disk_of kept)) ≡ records (g.D.Disk.reads (disk_of journal)) =
     ap (λ d. records (g.D.Disk.reads d)) c.reserve.ensures.disk in
     let next : c.args.number ≡ c.args.self.now.count =
-    omega (arith, c.if-number-ne-count.false, c.count-count.ensures.same, c.requires.counted) in
+    omega (arith, c.if-number-count.false, c.count-count.ensures.same, c.requires.counted) in
     copy_grown (held_name c.args.self.now) c.args.self.now.count c.args.number (records (g.D.Disk.reads (disk_of journal))) (is_broken journal)
     c.args.kind c.args.text.now c.count-grown.result (records (g.D.Disk.reads (disk_of c.append-appended.new.self))) (is_broken c.append-appended.new.self)
     next (same ∙ c.append-appended.ensures.number told still ∙ ap length rs)
@@ -75,7 +82,7 @@ returns-in-Ok-clause-taken g c told =
 pub returns-in-Ok-clause-lasts : goal.returns-in-Ok-clause-lasts
 returns-in-Ok-clause-lasts g c told header first lasts =
     let kept = c.reserve.new.self in
-    let added = (c.args.kind, c.args.text.now) in
+    let added : Recorded = (c.args.kind, c.args.text.now) in
     let whole : is_broken c.args.self.now.journal ≡ false = sym c.has_failed.ensures ∙ c.if-has_failed.false in
     let before = subst (λ d. HasBeginning header first (g.D.Disk.reads d)) (sym c.reserve.ensures.disk) (lasts.reads_it whole) in
     record {
@@ -94,33 +101,44 @@ returns-in-Ok-clause-faults g c count counted = record {
 
 pub returns-in-Err-DiskFault-clause-faults : goal.returns-in-Err-DiskFault-clause-faults
 returns-in-Err-DiskFault-clause-faults g c count counted =
+    let why = rw c.in-Err-DiskFault.is at c.in-Err-DiskFault.field-0-is in
+    let is : c.append-appended.result ≡ Err DiskFault = c.in-Err-DiskFault.is ∙ ap Err why in
     let same = ap g.D.Disk.faults c.reserve.ensures.disk in
     record {
       later = omega (arith, counted.later, same, c.append-appended.ensures.count);
       rose = λ broke. rose_since count (g.D.Disk.faults (disk_of c.reserve.new.self)) (g.D.Disk.faults (disk_of c.append-appended.new.self))
-          (omega (arith, counted.later, same)) (c.append-appended.ensures.fault cc);
+          (omega (arith, counted.later, same)) (c.append-appended.ensures.fault is);
     }
 
 pub returns-in-Err-DiskFault-clause-fault : goal.returns-in-Err-DiskFault-clause-fault
-returns-in-Err-DiskFault-clause-fault g c = λ is.
-    subst (λ d. Rose (g.D.Disk.faults d) (g.D.Disk.faults (disk_of c.append-appended.new.self))) c.reserve.ensures.disk (c.append-appended.ensures.fault cc)
+returns-in-Err-DiskFault-clause-fault g c = λ fault.
+    let why = rw c.in-Err-DiskFault.is at c.in-Err-DiskFault.field-0-is in
+    let is : c.append-appended.result ≡ Err DiskFault = c.in-Err-DiskFault.is ∙ ap Err why in
+    subst (λ d. Rose (g.D.Disk.faults d) (g.D.Disk.faults (disk_of c.append-appended.new.self))) c.reserve.ensures.disk
+    (c.append-appended.ensures.fault is)
 
 pub returns-in-Err-DiskFault-clause-lasts : goal.returns-in-Err-DiskFault-clause-lasts
 returns-in-Err-DiskFault-clause-lasts g c told header first lasts =
+    let why = rw c.in-Err-DiskFault.is at c.in-Err-DiskFault.field-0-is in
+    let is : c.append-appended.result ≡ Err DiskFault = c.in-Err-DiskFault.is ∙ ap Err why in
     let kept = c.reserve.new.self in
     let whole : is_broken c.args.self.now.journal ≡ false = sym c.has_failed.ensures ∙ c.if-has_failed.false in
     let before = subst (λ d. HasBeginning header first (g.D.Disk.reads d)) (sym c.reserve.ensures.disk) (lasts.reads_it whole) in
+    let broken : is_broken c.append-appended.new.self ≡ true =
+    subst (λ r. OnErr r (is_broken c.append-appended.new.self ≡ true)) is c.append-appended.ensures.broken in
     record {
-      reads_it = λ still. let clash : true ≡ false = sym c.in-Err.ensures.broken ∙ still in absurd cc;
-      leaves_it = λ d is. begins_either header first (c.args.kind, c.args.text.now) (g.D.Disk.reads (disk_of kept)) d
-          (c.append-appended.ensures.either told cc d is) before;
+      reads_it = λ still. let clash : true ≡ false = sym broken ∙ still in absurd cc;
+      leaves_it = λ d left. begins_either header first (c.args.kind, c.args.text.now) (g.D.Disk.reads (disk_of kept)) d
+          (c.append-appended.ensures.either told is d left) before;
     }
 
 -- ---- never: an earlier append failed
 
 pub returns-in-Err-Broken-clause-broken : goal.returns-in-Err-Broken-clause-broken
 returns-in-Err-Broken-clause-broken g c =
+    let why = rw c.in-Err-Broken.is at c.in-Err-Broken.field-0-is in
+    let is : c.append-appended.result ≡ Err Broken = c.in-Err-Broken.is ∙ ap Err why in
     let whole : is_broken c.args.self.now.journal ≡ false = sym c.has_failed.ensures ∙ c.if-has_failed.false in
-    let failed : is_broken c.reserve.new.self ≡ true = c.append-appended.ensures.refused.0 cc in
+    let failed : is_broken c.reserve.new.self ≡ true = c.append-appended.ensures.refused.0 is in
     let clash : true ≡ false = sym failed ∙ c.reserve.ensures.broken ∙ whole in
     absurd cc

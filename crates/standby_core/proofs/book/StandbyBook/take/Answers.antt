@@ -77,9 +77,10 @@ take-requires-clause-counted g c =
     (omega (arith, c.in-Some.ensures.within, ap length c.as_slice.ensures.value)))
 
 pub invariant_of-self : goal.invariant_of-self
-invariant_of-self g c =
-    All-set (λ held. held.count ≡ count_of held.journal) c.args.self.now.journals.items c.in-Some.place c.take.new.self c.take.ensures.counted
-    c.args.self.now.counted
+invariant_of-self g c = record {
+  counted = All-set (λ held. held.count ≡ count_of held.journal) c.args.self.now.journals.items c.in-Some.place c.take.new.self
+      c.take.ensures.counted c.args.self.now.counted;
+}
 
 pub returns-clause-taken : goal.returns-clause-taken
 returns-clause-taken g c told =
@@ -141,7 +142,9 @@ pub returns-clause-broken : goal.returns-clause-broken
 returns-clause-broken g c =
     let at = (goal.at.returns-clause-broken g c).After-take in (
       λ is. (copy_in g.D.Disk.reads c.index_mut-held.result.now, copy_first g at, c.take.ensures.broken.0 is),
-      λ failed. c.take.ensures.broken.1 (failed_there (copy_in g.D.Disk.reads c.index_mut-held.result.now) (sym (copy_first g at)) failed),
+      λ failed. c.take.ensures.broken.1
+          (failed_there (map (copy_in g.D.Disk.reads) c.args.self.now.journals.items) c.args.name.now (copy_in g.D.Disk.reads c.index_mut-held.result.now)
+          (sym (copy_first g at)) failed),
     )
 
 pub returns-clause-fault : goal.returns-clause-fault

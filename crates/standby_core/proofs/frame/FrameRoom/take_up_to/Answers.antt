@@ -1,4 +1,5 @@
-use Rattle.std.proofs.Common.{◌≡◌, ◌+◌, ◌++◌, List, ℕ, length, take, sym, ap, ◌∙◌, arith, length-take}
+use Rattle.std.proofs.Common.{◌≡◌, ◌+◌, ◌++◌, List, ℕ, Result, Ok, Err, length, take, sym, ap, ◌∙◌, arith, length-take}
+use Rattle.std.specs.Result.{OnErr}
 use Rattle.std.proofs.lemmas.List.{take_at, take-take}
 use Rattle.standby_core.proofs.Filling.{part_filled}
 use Rattle.standby_core.proofs.frame.FrameRoom.take_up_to.Goals as goal
@@ -22,9 +23,13 @@ returns-clause-moved g c told =
     (sym (part_filled front _ _ _ _ _ n (c.in_ok-count.ensures.moved told)
     ∙ ap (λ (l : List ℕ). l ++ g.S.Source.left c.args.source.now) c.self.view_is))
 
+always_err : {T E : Type 0} (r : Result T E) (P : Type 0) → P → OnErr r P
+always_err (Ok x) P p = tt
+always_err (Err e) P p = p
+
 pub returns-in_err-count-clause-same : goal.returns-in_err-count-clause-same
 returns-in_err-count-clause-same g c =
     let inside = c.self.inside in
     let front = take inside.length inside.bytes in
     let size : length front ≡ inside.length = omega (arith, length-take inside.length inside.bytes) in
-    take_at front _ inside.length size ∙ c.self.view_is
+    always_err c.from_residual.result _ (take_at front _ inside.length size ∙ c.self.view_is)

@@ -4,30 +4,8 @@ use Rattle.outside.specs.Shelf.{IsTaken}
 use Rattle.standby_core.specs.MirroredDisks.{inner_of, mirror_of, faults_by}
 use Rattle.standby_core.specs.Places.{faults_in, mirror_in}
 use Rattle.standby_core.specs.Slots.{place_at, mirrored_at}
-use Rattle.standby_core.proofs.Slotting.{new_is, restored, taken_count, taken_mirrored, kept_places}
+use Rattle.standby_core.proofs.Slotting.{new_is, restored, taken_count, taken_mirrored}
 use Rattle.standby_core.proofs.shelf.MirroredShelfShelf.take_disk.Goals as goal
-
--- ---- each disk that is out has a place
-
-pub invariant_of-self-in_default-1 : goal.invariant_of-self-in_default-1
-invariant_of-self-in_default-1 g c = record {
-  there = λ name out. ap is_some (c.in_default.ensures.none name) ∙ c.args.self.now.there name out;
-}
-
-pub invariant_of-self-in-Ok-2 : goal.invariant_of-self-in-Ok-2
-invariant_of-self-in-Ok-2 g c = record {
-  there = kept_places c.args.name.now (g.F.Shelf.is_out c.args.self.now.shelf.now) (g.F.Shelf.is_out c.take_disk.new.shelf)
-      c.args.self.now.mirrors.now.slots.items c.take.new.self.slots.items c.args.self.now.there c.take_disk.ensures.others_out c.take.ensures.others
-      (ap is_some c.in-Some.ensures.out);
-}
-
-pub invariant_of-self-in-Err-3 : goal.invariant_of-self-in-Err-3
-invariant_of-self-in-Err-3 g c = record {
-  there = λ name out.
-      ap is_some (restored c.args.name.now c.args.self.now.mirrors.now.slots.items c.take.new.self.slots.items c.put_new.new.self.slots.items
-      c.in-Some.mirror c.in-Some.ensures.taken c.take.ensures.others c.put_new.ensures.put c.put_new.ensures.others name)
-      ∙ c.args.self.now.there name (sym (c.in-Err.ensures.refused_out name) ∙ out);
-}
 
 -- ---- a name without a mirror
 

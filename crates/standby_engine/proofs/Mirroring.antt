@@ -243,16 +243,18 @@ module _ (directory header : List ℕ) {D : Type 0} {g : _} (told : Type 0) (Dis
     some_failed [] (p ∷ places) are after back counted broken = absurd are
     some_failed (u ∷ users) [] are after back counted broken = absurd are
     some_failed (u ∷ users) (Opened journal held ∷ places) are [] back counted broken = absurd counted
-    some_failed (u ∷ users) (Opened journal held ∷ places) are (h ∷ after) back counted broken = by (is_broken h.journal) refl
+    some_failed (u ∷ users) (Opened journal held ∷ places) are (h ∷ after) back counted broken =
+        by (is_broken h.journal) refl
+        (some_failed users places are.1 after (record { others = back.others; opened = back.opened.1 }) counted.1)
       where
         by : (b : Bool) → is_broken h.journal ≡ b
+            → (has_broken after ≡ true
+            → SomeFailed (journals_by Disk.reads Disk.image Disk.moment Disk.image_since directory disk0 disk1 count0 count1) users)
             → SomeFailed (journals_by Disk.reads Disk.image Disk.moment Disk.image_since directory disk0 disk1 count0 count1) (u ∷ users)
-        by true is =
+        by true is later =
             inl (subst (λ n. Rose n (count1 (journal_name directory (string_bytes u.name)))) are.0.counted
             (subst (λ n. Rose (Disk.faults are.0.taken) n) (sym back.opened.0.counted ∙ ap count1 are.0.journal_is) (counted.0.rose is)))
-        by false is =
-            inr (some_failed users places are.1 after (record { others = back.others; opened = back.opened.1 }) counted.1
-            (ap (λ b. b || has_broken after) (sym is) ∙ broken))
+        by false is later = inr (later (ap (λ b. b || has_broken after) (sym is) ∙ broken))
     some_failed (u ∷ users) (Refused journal disk why ∷ places) are after back counted broken =
         inr (some_failed users places are.1 after (record { others = back.others.1; opened = back.opened }) counted broken)
 
