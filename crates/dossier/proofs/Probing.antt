@@ -70,7 +70,7 @@ module _ (schema : DatabaseSchema) (world : FactSet) (name : Text) (user : UserP
         (λ verdicts. awaited_for schema world name user [] admitting [] ([] ++ verdicts)) (Err why)
         → ReadsOn schema world name user {X = Unit {0}} (Ok admission) old new (λ _. Ok (item [])) (Err why)
     admission-refused why next =
-        all-refused (Ok admission) (awaited_for schema world name user [] admitting read []) old middle new count
+        all-refused {X = Unit {0}} (Ok admission) (awaited_for schema world name user [] admitting read []) old middle new count
         (λ verdicts. awaited_for schema world name user [] admitting [] ([] ++ verdicts)) (λ _. Ok (item [])) why to-blocks next
 
   -- ---- several blocks

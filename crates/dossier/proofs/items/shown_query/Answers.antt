@@ -1,4 +1,4 @@
-use Rattle.std.proofs.Common.{◌≡◌, ◌≤◌, true, refl, sym, ap, subst, ◌∙◌, arith}
+use Rattle.std.proofs.Common.{◌≡◌, ◌≤◌, true, Err, refl, sym, ap, subst, ◌∙◌, arith}
 use Rattle.std.proofs.lemmas.Result.{err_from_is_err_and}
 use Rattle.std.proofs.lemmas.Bool.{both_ways}
 use Rattle.cqe_base.specs.Formula.{formula_of, nodes, is_sentence_of}
@@ -7,6 +7,7 @@ use Rattle.cqe_base.specs.Censor.{mark_by}
 use Rattle.cqe_base.specs.Limits.{FitsLog}
 use Rattle.dossier.specs.Checked.{asking}
 use Rattle.dossier.specs.Reading.{answer}
+use Rattle.dossier.specs.Items.{ReadsFindings}
 use Rattle.dossier.specs.Logs.{past_schema, past_user, past_history}
 use Rattle.dossier.proofs.Asking.{asked-undecided, shown-refused, shown-mark, other-mark}
 use Rattle.dossier.proofs.Sayings.{undecided-is, decided-is}
@@ -26,8 +27,8 @@ read_findings-requires-clause-fits c =
     let past = c.args.past.now in
     subst (λ s. FitsLog (past_schema past) (past_user past) (past_history past) (formula_of s)) (sym c.in_ok-query.ensures.same) c.requires.fits
 
-pub holds-requires : goal.holds-requires
-holds-requires c =
+pub holds-truth-requires : goal.holds-truth-requires
+holds-truth-requires c =
     subst (λ schema. is_sentence_of schema (formula_of c.in_ok-query.query.sentence) ≡ true) (sym c.read_findings.ensures.same.0.schema)
     (subst (λ s. is_sentence_of (past_schema c.args.past.now) (formula_of s) ≡ true) (sym c.in_ok-query.ensures.same) c.requires.sentence)
 
@@ -49,7 +50,9 @@ returns-in_err-findings-clause-reads c name size =
     rw (p.1, p.2)
     (shown-refused (past_schema past) c.args.world.now name (past_user past) (past_history past) c.args.line (formula_of c.args.query) size c.args.mark isnt
     c.args.lines.now c.read_findings.new.lines _ _
-    (rw c.in_ok-query.ensures.same at
+    (subst (λ s. ReadsFindings (past_schema past) c.args.world.now name (past_user past) (past_history past)
+    (asking c.args.line c.args.mark (formula_of c.args.query) size) (formula_of s) c.args.lines.now c.read_findings.new.lines (Err _))
+    c.in_ok-query.ensures.same
     (c.in_err-findings.ensures.reads c.args.world.now name (asking c.args.line c.args.mark (formula_of c.args.query) size) refl)))
 
 -- the mark is another
@@ -90,5 +93,5 @@ returns-clause-reads c name size =
 
 pub returns-in_err-query-clause-reads : goal.returns-in_err-query-clause-reads
 returns-in_err-query-clause-reads c name size =
-    let p = err_from_is_err_and c.from_residual-in_err-query.result c.from_residual-in_err-query.ensures.1 in
+    let p = err_from_is_err_and c.from_residual.result c.from_residual.ensures.1 in
     rw (p.1, p.2) tt

@@ -1,7 +1,7 @@
 use Rattle.std.proofs.Common.{[], List, map, arith}
 use Rattle.log_journal.specs.Opening.{header_bytes, recorded}
 use Rattle.log_journal.specs.Records.{Recorded}
-use Rattle.standby_engine.proofs.Openings.{lasts_first}
+use Rattle.standby_engine.proofs.Begun.{lasts_first}
 use Rattle.standby_engine.proofs.opening.open_held.Goals as goal
 
 pub returns-in-Ok-clause-opened : goal.returns-in-Ok-clause-opened

@@ -5,7 +5,7 @@ use Rattle.outside.specs.Visits.{visit_of}
 use Rattle.standby_core.specs.Books.{copies_in}
 use Rattle.standby_core.specs.Exchanges.{Serves}
 use Rattle.standby_engine.specs.Served.{IsServedVisit}
-use Rattle.standby_engine.proofs.Servings.{none_served, one_served, written_alone}
+use Rattle.standby_engine.proofs.Visits.{none_served, one_served, written_alone}
 use Rattle.standby_engine.proofs.serving.serve_door.Goals as goal
 
 pub loop-init : goal.loop-init
