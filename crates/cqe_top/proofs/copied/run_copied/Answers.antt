@@ -272,8 +272,8 @@ returns g c = record {
             omega (arith, first, last, few);
         ends = λ told done.
             served_out scene.links listening.workers listening.sessions (doors.ended told listening.workers listening.sessions (ran.ended told done));
-        left = λ told all. doors.left told ran.left all;
-        left_all = λ told all. doors.left_all told ran.left_all all;
+        left = λ told all. doors.left told (ran.left told) all;
+        left_all = λ told all. doors.left_all told (ran.left_all told) all;
         limited = λ told.
             let first = made.doors.given told in
             let last = hung.doors.given told in
