@@ -96,6 +96,14 @@ module _ (schema : DatabaseSchema) (world : FactSet) (name : Text) (user : UserP
         by (refused.Admission at) next = start ∙ next
         by (refused.Unsafe at) next = start ∙ next
 
+    -- the same where the query is the same
+    pub shown-refused-at : {X : Type 0} (onward : X → Result Awaited DossierError) (why : DossierError) (other : Formula) → other ≡ query
+        → ReadsFindings schema world name user before (asking line mark query size) other old new (Err why)
+        → ReadsOn schema world name user (asked schema world name user line before mark size (Some query)) old new onward (Err why)
+    shown-refused-at onward why other same next =
+        shown-refused onward why
+        (subst (λ q. ReadsFindings schema world name user before (asking line mark query size) q old new (Err why)) same next)
+
     module _ (findings : Findings) (decided : Mark)
         (decides : decided ≡ mark_by user.method findings.spent findings.implied findings.yes_harm findings.no_harm (true_in schema world query))
         (read : ReadsFindings schema world name user before (asking line mark query size) query old new (Ok findings)) where
