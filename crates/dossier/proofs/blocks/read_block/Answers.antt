@@ -1,4 +1,4 @@
-use Rattle.std.proofs.Common.{true, false, Ok, map, sym, ◌∙◌, rules, tests}
+use Rattle.std.proofs.Common.{true, false, Ok, [], map, sym, ◌∙◌, rules, tests}
 use Rattle.std.proofs.lemmas.Result.{err_from_is_err_and}
 use Rattle.cqe_base.specs.History.{profile_of, answered_query_of, log}
 use Rattle.clause_store.specs.PlainLines.{lines_of}

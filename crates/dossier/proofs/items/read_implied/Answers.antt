@@ -6,6 +6,7 @@ use Rattle.entailment.specs.GroundSentences.{sentence_of, IsGroundOver}
 use Rattle.dossier.specs.Logs.{past_schema, past_user, past_history}
 use Rattle.dossier.specs.Checked.{awaited_for}
 use Rattle.dossier.specs.Items.{goal_probe}
+use Rattle.dossier.specs.declared.error.DossierError.TheVariants as refused
 use Rattle.dossier.proofs.Verdicts.{refusal-is, none-implied}
 use Rattle.dossier.proofs.Probing.{implied-read, implied-none, implied-refused, goal-at, fits-at}
 use Rattle.dossier.proofs.items.read_implied.Goals as goal
@@ -55,10 +56,11 @@ returns-in_err-no-clause-reads c world name task more of =
     (implied-refused (past_schema past) world name (past_user past) (past_history past) task query more {X = Bool}
     (refusal-is _ (sym c.is_refusal.ensures ∙ c.if-not-is_refusal.false))
     c.args.lines.now c.read_goal.new.lines c.read_goal-2.new.lines
-    (awaited_for (past_schema past) world name (past_user past) (past_history past) task (goal_probe told (query, false) ∷ more) (c.in_ok-yes.yes ∷ [])) _ _
+    (awaited_for (past_schema past) world name (past_user past) (past_history past) task (goal_probe told (query, false) ∷ more) (c.in_ok-yes.yes ∷ []))
+    (λ _. Err refused.Memory) _
     (c.in_ok-yes.ensures.reads world name task (goal_probe told (query, false) ∷ more) [] of)
-    (goal-at (past_schema past) _ world name (past_user past) _ (past_history past) _ task (query, false) more (c.in_ok-yes.yes ∷ []) c.read_goal.new.lines c.read_goal-2.new.lines (Err _)
-    same.0.schema same.0.user same.1
+    (goal-at (past_schema past) _ world name (past_user past) _ (past_history past) _ task (query, false) more (c.in_ok-yes.yes ∷ [])
+    c.read_goal.new.lines c.read_goal-2.new.lines (Err _) same.0.schema same.0.user same.1
     (c.in_err-no.ensures.reads world name task more (c.in_ok-yes.yes ∷ []) of)))
 
 pub returns-clause-reads : goal.returns-clause-reads
