@@ -1,5 +1,3 @@
-use Rattle.std.proofs.Common.{map}
-use Rattle.cqe_base.specs.History.{answered_query_of}
 use Rattle.desk_tests.proofs.dossiers.written.Goals as goal
 
 pub write_dossier-requires-clause-admitted : goal.write_dossier-requires-clause-admitted

@@ -17,7 +17,7 @@ returns-in-Ok-clause-opened g c = λ told.
 
 pub returns-in-Ok-clause-sound : goal.returns-in-Ok-clause-sound
 returns-in-Ok-clause-sound g c =
-    let count = c.len.ensures in
+    let count = c.len-count.ensures in
     let number = c.in-Ok.ensures.number in
     (c.in-Ok.ensures.whole, omega (arith, count, number))
 
