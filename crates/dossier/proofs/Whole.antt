@@ -20,8 +20,8 @@ reads-at schema schema' world name user user' awaited old new then result s u re
     subst (λ x. ReadsOn x world name user awaited old new then result) s (subst (λ x. ReadsOn schema' world name x awaited old new then result) u reads)
 
 -- and so is one of the items, behind those that there were
-pub items-at : (schema schema' : DatabaseSchema) (world : FactSet) (name : Text) (user user' : UserProfile) (entries entries' after : History) (old new : Unread)
-    (result : Result (Unit {0}) DossierError) → schema' ≡ schema → user' ≡ user → entries' ≡ entries
+pub items-at : (schema schema' : DatabaseSchema) (world : FactSet) (name : Text) (user user' : UserProfile) (entries entries' after : History)
+    (old new : Unread) (result : Result (Unit {0}) DossierError) → schema' ≡ schema → user' ≡ user → entries' ≡ entries
     → ReadsItems schema' world name user' entries' old new after result → ReadsItems schema world name user entries old new after result
 items-at schema schema' world name user user' entries entries' after old new result s u e reads =
     subst (λ x. ReadsItems x world name user entries old new after result) s

@@ -37,17 +37,19 @@ returns-in_err-read_admission-clause-check c =
     (refused-check c.args.schema.now c.args.world.now (string_bytes c.args.user.now.name) (profile_of c.args.user.now) c.args.text.now
     c.fields-lines.result c.fields-lines.ensures.first c.fields-lines.ensures.fields {X = Unit {0}} (Ok admission) c.read_head.new.lines
     c.read_admission.new.lines (λ _. Ok (item [])) _ head_read
-    (reads-at {X = Unit {0}} c.args.schema.now (past_schema c.in_ok-past.past) c.args.world.now (string_bytes c.args.user.now.name)
-    (profile_of c.args.user.now) (past_user c.in_ok-past.past) (Ok admission) c.read_head.new.lines c.read_admission.new.lines (λ _. Ok (item [])) (Err _)
-    c.in_ok-past.ensures.schema c.in_ok-past.ensures.user (c.in_err-read_admission.ensures.reads (string_bytes c.args.user.now.name))))
+    (reads-at {X = Unit {0}} c.args.schema.now (past_schema c.in_ok-past.past) c.args.world.now
+    (string_bytes c.args.user.now.name) (profile_of c.args.user.now) (past_user c.in_ok-past.past) (Ok admission) c.read_head.new.lines
+    c.read_admission.new.lines (λ _. Ok (item [])) (Err _) c.in_ok-past.ensures.schema c.in_ok-past.ensures.user
+    (c.in_err-read_admission.ensures.reads (string_bytes c.args.user.now.name))))
 
 pub returns-in_err-read_items-clause-check : goal.returns-in_err-read_items-clause-check
 returns-in_err-read_items-clause-check c =
     let p = err_from_is_err_and c.from_residual-in_err-read_items.result c.from_residual-in_err-read_items.ensures.1 in
     let head_read = c.in_ok-read_head.ensures.reads c.args.schema.now c.args.world.now in
-    let admission_read = head_read ∙ reads-at {X = Unit {0}} c.args.schema.now (past_schema c.in_ok-past.past) c.args.world.now (string_bytes c.args.user.now.name)
-    (profile_of c.args.user.now) (past_user c.in_ok-past.past) (Ok admission) c.read_head.new.lines c.read_admission.new.lines (λ _. Ok (item [])) (Ok tt)
-    c.in_ok-past.ensures.schema c.in_ok-past.ensures.user (c.in_ok-read_admission.ensures.reads (string_bytes c.args.user.now.name)) in
+    let admission_read = head_read ∙ reads-at {X = Unit {0}} c.args.schema.now (past_schema c.in_ok-past.past) c.args.world.now
+    (string_bytes c.args.user.now.name) (profile_of c.args.user.now) (past_user c.in_ok-past.past) (Ok admission) c.read_head.new.lines
+    c.read_admission.new.lines (λ _. Ok (item [])) (Ok tt) c.in_ok-past.ensures.schema c.in_ok-past.ensures.user
+    (c.in_ok-read_admission.ensures.reads (string_bytes c.args.user.now.name)) in
     rw (p.1, p.2)
     (refused-check c.args.schema.now c.args.world.now (string_bytes c.args.user.now.name) (profile_of c.args.user.now) c.args.text.now
     c.fields-lines.result c.fields-lines.ensures.first c.fields-lines.ensures.fields {X = Unit {0}} (Ok (item [])) c.read_admission.new.lines
@@ -62,9 +64,10 @@ pub returns-in_err-read_end-clause-check : goal.returns-in_err-read_end-clause-c
 returns-in_err-read_end-clause-check c =
     let p = err_from_is_err_and c.from_residual-in_err-read_end.result c.from_residual-in_err-read_end.ensures.1 in
     let head_read = c.in_ok-read_head.ensures.reads c.args.schema.now c.args.world.now in
-    let admission_read = head_read ∙ reads-at {X = Unit {0}} c.args.schema.now (past_schema c.in_ok-past.past) c.args.world.now (string_bytes c.args.user.now.name)
-    (profile_of c.args.user.now) (past_user c.in_ok-past.past) (Ok admission) c.read_head.new.lines c.read_admission.new.lines (λ _. Ok (item [])) (Ok tt)
-    c.in_ok-past.ensures.schema c.in_ok-past.ensures.user (c.in_ok-read_admission.ensures.reads (string_bytes c.args.user.now.name)) in
+    let admission_read = head_read ∙ reads-at {X = Unit {0}} c.args.schema.now (past_schema c.in_ok-past.past) c.args.world.now
+    (string_bytes c.args.user.now.name) (profile_of c.args.user.now) (past_user c.in_ok-past.past) (Ok admission) c.read_head.new.lines
+    c.read_admission.new.lines (λ _. Ok (item [])) (Ok tt) c.in_ok-past.ensures.schema c.in_ok-past.ensures.user
+    (c.in_ok-read_admission.ensures.reads (string_bytes c.args.user.now.name)) in
     let items_read = admission_read ∙ items-at c.args.schema.now (past_schema c.read_admission.new.past) c.args.world.now (string_bytes c.args.user.now.name)
     (profile_of c.args.user.now) (past_user c.read_admission.new.past) [] (past_history c.read_admission.new.past)
     (past_history c.read_items.new.past) c.read_admission.new.lines c.read_items.new.lines (Ok tt)
@@ -88,9 +91,10 @@ overflow_cast-result c =
 pub returns-clause-check : goal.returns-clause-check
 returns-clause-check c =
     let head_read = c.in_ok-read_head.ensures.reads c.args.schema.now c.args.world.now in
-    let admission_read = head_read ∙ reads-at {X = Unit {0}} c.args.schema.now (past_schema c.in_ok-past.past) c.args.world.now (string_bytes c.args.user.now.name)
-    (profile_of c.args.user.now) (past_user c.in_ok-past.past) (Ok admission) c.read_head.new.lines c.read_admission.new.lines (λ _. Ok (item [])) (Ok tt)
-    c.in_ok-past.ensures.schema c.in_ok-past.ensures.user (c.in_ok-read_admission.ensures.reads (string_bytes c.args.user.now.name)) in
+    let admission_read = head_read ∙ reads-at {X = Unit {0}} c.args.schema.now (past_schema c.in_ok-past.past) c.args.world.now
+    (string_bytes c.args.user.now.name) (profile_of c.args.user.now) (past_user c.in_ok-past.past) (Ok admission) c.read_head.new.lines
+    c.read_admission.new.lines (λ _. Ok (item [])) (Ok tt) c.in_ok-past.ensures.schema c.in_ok-past.ensures.user
+    (c.in_ok-read_admission.ensures.reads (string_bytes c.args.user.now.name)) in
     let items_read = admission_read ∙ items-at c.args.schema.now (past_schema c.read_admission.new.past) c.args.world.now (string_bytes c.args.user.now.name)
     (profile_of c.args.user.now) (past_user c.read_admission.new.past) [] (past_history c.read_admission.new.past)
     (past_history c.read_items.new.past) c.read_admission.new.lines c.read_items.new.lines (Ok tt)
@@ -102,14 +106,16 @@ returns-clause-check c =
     let counted : length (past_history c.read_items.new.past) ≡ c.len.result =
     omega (arith, sized, c.read_items.new.past.entries.ok.0, c.len.ensures) in
     whole-check c.args.schema.now c.args.world.now (string_bytes c.args.user.now.name) (profile_of c.args.user.now) c.args.text.now
-    c.fields-lines.result c.fields-lines.ensures.first c.fields-lines.ensures.fields (past_history c.read_items.new.past) (items_read ∙ ends) c.len.result counted
+    c.fields-lines.result c.fields-lines.ensures.first c.fields-lines.ensures.fields (past_history c.read_items.new.past) (items_read ∙ ends)
+    c.len.result counted
 
 pub returns-clause-accepted : goal.returns-clause-accepted
 returns-clause-accepted c =
     let head_read = c.in_ok-read_head.ensures.reads c.args.schema.now c.args.world.now in
-    let admission_read = head_read ∙ reads-at {X = Unit {0}} c.args.schema.now (past_schema c.in_ok-past.past) c.args.world.now (string_bytes c.args.user.now.name)
-    (profile_of c.args.user.now) (past_user c.in_ok-past.past) (Ok admission) c.read_head.new.lines c.read_admission.new.lines (λ _. Ok (item [])) (Ok tt)
-    c.in_ok-past.ensures.schema c.in_ok-past.ensures.user (c.in_ok-read_admission.ensures.reads (string_bytes c.args.user.now.name)) in
+    let admission_read = head_read ∙ reads-at {X = Unit {0}} c.args.schema.now (past_schema c.in_ok-past.past) c.args.world.now
+    (string_bytes c.args.user.now.name) (profile_of c.args.user.now) (past_user c.in_ok-past.past) (Ok admission) c.read_head.new.lines
+    c.read_admission.new.lines (λ _. Ok (item [])) (Ok tt) c.in_ok-past.ensures.schema c.in_ok-past.ensures.user
+    (c.in_ok-read_admission.ensures.reads (string_bytes c.args.user.now.name)) in
     let items_read = admission_read ∙ items-at c.args.schema.now (past_schema c.read_admission.new.past) c.args.world.now (string_bytes c.args.user.now.name)
     (profile_of c.args.user.now) (past_user c.read_admission.new.past) [] (past_history c.read_admission.new.past)
     (past_history c.read_items.new.past) c.read_admission.new.lines c.read_items.new.lines (Ok tt)

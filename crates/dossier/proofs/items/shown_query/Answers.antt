@@ -7,10 +7,9 @@ use Rattle.cqe_base.specs.Censor.{mark_by}
 use Rattle.cqe_base.specs.Limits.{FitsLog}
 use Rattle.dossier.specs.Checked.{asking}
 use Rattle.dossier.specs.Reading.{answer}
-use Rattle.dossier.specs.Items.{ReadsFindings}
 use Rattle.dossier.specs.Logs.{past_schema, past_user, past_history}
 use Rattle.dossier.specs.declared.error.DossierError.TheVariants as refused
-use Rattle.dossier.proofs.Asking.{asked-undecided, shown-refused, shown-mark, other-mark}
+use Rattle.dossier.proofs.Asking.{asked-undecided, shown-refused-at, shown-mark, other-mark}
 use Rattle.dossier.proofs.Sayings.{undecided-is, decided-is}
 use Rattle.dossier.proofs.items.shown_query.Goals as goal
 
@@ -49,12 +48,10 @@ returns-in_err-findings-clause-reads c name size =
     let past = c.args.past.now in
     let isnt = decided-is c.args.mark (sym c.is_undecided.ensures ∙ c.if-is_undecided.false) in
     rw (p.1, p.2)
-    (shown-refused (past_schema past) c.args.world.now name (past_user past) (past_history past) c.args.line (formula_of c.args.query) size c.args.mark isnt
-    c.args.lines.now c.read_findings.new.lines {X = Unit {0}} (λ _. Err refused.Memory) _
-    (subst (λ s. ReadsFindings (past_schema past) c.args.world.now name (past_user past) (past_history past)
-    (asking c.args.line c.args.mark (formula_of c.args.query) size) (formula_of s) c.args.lines.now c.read_findings.new.lines (Err _))
-    c.in_ok-query.ensures.same
-    (c.in_err-findings.ensures.reads c.args.world.now name (asking c.args.line c.args.mark (formula_of c.args.query) size) refl)))
+    (shown-refused-at (past_schema past) c.args.world.now name (past_user past) (past_history past) c.args.line (formula_of c.args.query) size c.args.mark
+    isnt c.args.lines.now c.read_findings.new.lines {X = Unit {0}} (λ _. Err refused.Memory) _ (formula_of c.in_ok-query.query.sentence)
+    (ap formula_of c.in_ok-query.ensures.same)
+    (c.in_err-findings.ensures.reads c.args.world.now name (asking c.args.line c.args.mark (formula_of c.args.query) size) refl))
 
 -- the mark is another
 pub returns-then-not-is_same-clause-reads : goal.returns-then-not-is_same-clause-reads
