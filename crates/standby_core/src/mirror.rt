@@ -11,8 +11,8 @@ use outside::{Dial, Failed};
 /// It keeps the last count that the standby answered, so that a record that the standby has anyway
 /// needs no exchange, as those before the last one at an opening.
 #[derive(Drop)]
-pub struct Mirror<'h, C: Dial> {
-    header: &'h Header,
+pub struct Mirror<C: Dial> {
+    header: Header,
     user: String,
     room: FrameRoom,
     dial: C,
@@ -21,19 +21,19 @@ pub struct Mirror<'h, C: Dial> {
     ghost short: { length (string_bytes user) ≤ 32 },
 }
 
-impl<'h, C: Dial> Mirror<'h, C> {
+impl<C: Dial> Mirror<C> {
     ghost use Rattle.standby_core.specs.Mirrors.{dial_of, user_of};
 
     /// A mirror with a dial that was answered nothing yet. A standby refuses the frames of a user
     /// without a name.
-    pub fn new(header: &'h Header, user: String, dial: C) -> Self
+    pub fn new(header: &Header, user: String, dial: C) -> Self
         requires unanswered { C.answered dial ≡ 0 }
         requires short { length (string_bytes user) ≤ 32 }
         ensures user { user_of result ≡ string_bytes user }
         ensures dial { dial_of result ≡ dial }
     {
         Mirror {
-            header,
+            header: *header,
             user,
             room: FrameRoom::new(),
             dial,
@@ -55,14 +55,14 @@ impl<'h, C: Dial> Mirror<'h, C> {
             return Ok(());
         }
         self.room
-            .fill(self.header, self.user.as_str(), number, kind, text);
+            .fill(&self.header, self.user.as_str(), number, kind, text);
         self.count = self.dial.exchange(self.room.bytes(), number)?;
         Ok(())
     }
 
     /// Its dial.
     pub fn into_dial(self) -> C
-        ensures { result ≡ dial_of self.entry }
+        ensures { result ≡ dial_of self }
     {
         let Mirror {
             header: _,

@@ -9,25 +9,25 @@ use outside::{Dial, Disk, Failed};
 /// that of the disk under it. Its faults are those of the disk and those of the dial. One without a
 /// mirror is as the disk under it; a `MirroredShelf` gives none.
 #[derive(Drop)]
-pub struct MirroredDisk<'h, D, C: Dial> {
+pub struct MirroredDisk<D, C: Dial> {
     inner: D,
-    mirror: Option<Mirror<'h, C>>,
+    mirror: Option<Mirror<C>>,
 }
 
-impl<'h, D, C: Dial> MirroredDisk<'h, D, C> {
+impl<D, C: Dial> MirroredDisk<D, C> {
     ghost use Rattle.standby_core.specs.MirroredDisks.{inner_of, mirror_of, mirrored};
     ghost use Rattle.standby_core.specs.MirroredDisks.{told_by, faults_by};
 
     /// A disk with a mirror, or without one.
-    pub fn new(inner: D, mirror: Option<Mirror<'h, C>>) -> Self
-        ensures { result ≡ mirrored inner mirror.entry }
+    pub fn new(inner: D, mirror: Option<Mirror<C>>) -> Self
+        ensures { result ≡ mirrored inner mirror }
     {
         MirroredDisk { inner, mirror }
     }
 
     /// The disk and the mirror.
-    pub fn split(self) -> (D, Option<Mirror<'h, C>>)
-        ensures { self.entry ≡ mirrored result.0 result.1 }
+    pub fn split(self) -> (D, Option<Mirror<C>>)
+        ensures { self ≡ mirrored result.0 result.1 }
     {
         let MirroredDisk { inner, mirror } = self;
         (inner, mirror)
@@ -50,7 +50,7 @@ impl<'h, D, C: Dial> MirroredDisk<'h, D, C> {
     }
 }
 
-impl<D: Disk, C: Dial> Disk for MirroredDisk<'_, D, C> {
+impl<D: Disk, C: Dial> Disk for MirroredDisk<D, C> {
     ghost use Rattle.standby_core.specs.MirroredDisks.{inner_of, mirror_of, told_by, faults_by};
 
     ghost tells = { D.tells };

@@ -18,13 +18,13 @@ use std::alloc::{AllocError, Global};
 
 /// The mirrors of users' journals, by the names of their disks.
 #[derive(Drop)]
-pub struct Mirrors<'h, C: Dial> {
-    slots: Vec<Slot<'h, C>>,
+pub struct Mirrors<C: Dial> {
+    slots: Vec<Slot<C>>,
 }
 
-impl<'h, C: Dial + Drop> Mirrors<'h, C> {
+impl<C: Dial + Drop> Mirrors<C> {
     /// Takes the mirror of this name, where it wasn't taken yet. Its place is kept.
-    pub(crate) fn take(&mut self, name: &str) -> Option<Mirror<'h, C>>
+    pub(crate) fn take(&mut self, name: &str) -> Option<Mirror<C>>
         ensures taken { result ≡ new_in (place_at (slots_of self.old) name.now) }
         ensures out { IfSome result
             (λ mirror. place_at (slots_of self.new) name.now ≡ Some Place.Out) }
@@ -42,10 +42,10 @@ impl<'h, C: Dial + Drop> Mirrors<'h, C> {
     }
 
     /// Puts a mirror back that wasn't used. It takes no memory.
-    pub(crate) fn put_new(&mut self, name: &str, mirror: Mirror<'h, C>)
+    pub(crate) fn put_new(&mut self, name: &str, mirror: Mirror<C>)
         requires there { IsSome (place_at (slots_of self.old) name.now) }
         requires faultless { C.faults (dial_of mirror) ≡ 0 }
-        ensures put { place_at (slots_of self.new) name.now ≡ Some (Place.New mirror.entry) }
+        ensures put { place_at (slots_of self.new) name.now ≡ Some (Place.New mirror) }
         ensures others { SameOthers name.now (place_at (slots_of self.old))
             (place_at (slots_of self.new)) }
     {
@@ -58,9 +58,9 @@ impl<'h, C: Dial + Drop> Mirrors<'h, C> {
 
     /// Puts the mirror of a disk that was taken, or none, to the place of this name. It takes no
     /// memory.
-    pub(crate) fn put_back(&mut self, name: &str, mirror: Option<Mirror<'h, C>>)
+    pub(crate) fn put_back(&mut self, name: &str, mirror: Option<Mirror<C>>)
         requires { IsSome (place_at (slots_of self.old) name.now) }
-        ensures put { place_at (slots_of self.new) name.now ≡ Some (place_with mirror.entry) }
+        ensures put { place_at (slots_of self.new) name.now ≡ Some (place_with mirror) }
         ensures others { SameOthers name.now (place_at (slots_of self.old))
             (place_at (slots_of self.new)) }
     {
@@ -73,7 +73,7 @@ impl<'h, C: Dial + Drop> Mirrors<'h, C> {
 }
 
 // The place of the slot of this name.
-fn slot_place<C: Dial>(slots: &[Slot<'_, C>], name: &str) -> Option<usize>
+fn slot_place<C: Dial>(slots: &[Slot<C>], name: &str) -> Option<usize>
     ensures place { result ≡ position (λ slot. bytes_eq (slot_name slot) name.now) slots.now }
     ensures within { IfSome result (λ place. place < length slots.now) }
 {
@@ -82,14 +82,14 @@ fn slot_place<C: Dial>(slots: &[Slot<'_, C>], name: &str) -> Option<usize>
 
 /// A mirror for the journal of each user in a directory, with a dial to the standby at an address.
 /// The links open no connection for them.
-pub fn mirrors_for<'h, L: Links>(
+pub fn mirrors_for<L: Links>(
     alloc: Global,
     links: &mut L,
     address: &str,
-    header: &'h Header,
+    header: &Header,
     directory: &str,
     users: &[User],
-) -> Result<Mirrors<'h, L::Dial>, AllocError>
+) -> Result<Mirrors<L::Dial>, AllocError>
     ensures fresh { IfOk result
         (λ mirrors. (name : List ℕ) → dial_faults L.Dial.faults mirrors name ≡ 0) }
     ensures mirror { OnOk result (L.mirror links.new ≡ L.mirror links.old) }
@@ -111,14 +111,14 @@ pub fn mirrors_for<'h, L: Links>(
 }
 
 // The mirror for the journal of a user, under its name.
-fn slot_for<'h, L: Links>(
+fn slot_for<L: Links>(
     alloc: Global,
     links: &mut L,
     address: &str,
-    header: &'h Header,
+    header: &Header,
     directory: &str,
     user: &User,
-) -> Result<Slot<'h, L::Dial>, AllocError>
+) -> Result<Slot<L::Dial>, AllocError>
     ensures name { IfOk result
         (λ slot. slot_name slot ≡ journal_name directory.now (string_bytes user.now.name)) }
     ensures fresh { IfOk result (λ slot. faults_in L.Dial.faults (Some slot.place) ≡ 0) }
@@ -147,9 +147,9 @@ fn frame_name(alloc: Global, name: &str) -> Result<String, AllocError>
 
 /// Hangs the dials of mirrors up: the links' second count rises by the faults of each. It takes no
 /// memory.
-pub fn hang_up_all<L: Links>(links: &mut L, mirrors: Mirrors<'_, L::Dial>)
+pub fn hang_up_all<L: Links>(links: &mut L, mirrors: Mirrors<L::Dial>)
     ensures mirror { (name : List ℕ) → RisesAtLeast (L.mirror links.old)
-        (dial_faults L.Dial.faults mirrors.entry name) (L.mirror links.new) }
+        (dial_faults L.Dial.faults mirrors name) (L.mirror links.new) }
     ensures later { L.mirror links.old ≤ L.mirror links.new }
     ensures doors { KeepsDoors L.Links links.old links.new }
 {
@@ -160,9 +160,9 @@ pub fn hang_up_all<L: Links>(links: &mut L, mirrors: Mirrors<'_, L::Dial>)
 }
 
 // Hangs the dial of a place up, where its mirror is there.
-fn hang_up<L: Links>(links: &mut L, slot: Slot<'_, L::Dial>)
+fn hang_up<L: Links>(links: &mut L, slot: Slot<L::Dial>)
     ensures mirror { RisesAtLeast (L.mirror links.old)
-        (faults_in L.Dial.faults (Some slot.entry.place)) (L.mirror links.new) }
+        (faults_in L.Dial.faults (Some slot.place)) (L.mirror links.new) }
     ensures later { L.mirror links.old ≤ L.mirror links.new }
     ensures doors { KeepsDoors L.Links links.old links.new }
 {

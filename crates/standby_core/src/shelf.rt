@@ -15,15 +15,15 @@ use std::alloc::Global;
 /// The count of faults of a name is there that of its disk and that of its dial together. What the
 /// shelf holds under a name is the disk that the lent shelf holds, with the mirror.
 #[derive(Drop)]
-pub struct MirroredShelf<'a, 'h, F: Shelf, C: Dial> {
+pub struct MirroredShelf<'a, F: Shelf, C: Dial> {
     shelf: &'a mut F,
-    mirrors: &'a mut Mirrors<'h, C>,
+    mirrors: &'a mut Mirrors<C>,
     ghost there: { HavePlaces (F.is_out shelf.now) (slots_of mirrors.now) },
 }
 
-impl<'a, 'h, F: Shelf, C: Dial> MirroredShelf<'a, 'h, F, C> {
+impl<'a, F: Shelf, C: Dial> MirroredShelf<'a, F, C> {
     /// No disk of the shelf is out yet. It takes no memory.
-    pub fn new(shelf: &'a mut F, mirrors: &'a mut Mirrors<'h, C>) -> Self
+    pub fn new(shelf: &'a mut F, mirrors: &'a mut Mirrors<C>) -> Self
         requires { NoneOut (F.is_out shelf.old) }
         ensures same_shelf { result.shelf.ghost_name ≡ shelf.entry.ghost_name }
         ensures same_mirrors { result.mirrors.ghost_name ≡ mirrors.entry.ghost_name }
@@ -34,8 +34,8 @@ impl<'a, 'h, F: Shelf, C: Dial> MirroredShelf<'a, 'h, F, C> {
     }
 }
 
-impl<'h, F: Shelf, C: Dial + Drop> Shelf for MirroredShelf<'_, 'h, F, C> {
-    type D = MirroredDisk<'h, F::D, C>;
+impl<F: Shelf, C: Dial + Drop> Shelf for MirroredShelf<'_, F, C> {
+    type D = MirroredDisk<F::D, C>;
 
     ghost tells = { F.tells };
 
@@ -65,7 +65,7 @@ impl<'h, F: Shelf, C: Dial + Drop> Shelf for MirroredShelf<'_, 'h, F, C> {
         &mut self,
         alloc: Global,
         name: &str,
-    ) -> Result<MirroredDisk<'h, F::D, C>, ShelfError> {
+    ) -> Result<MirroredDisk<F::D, C>, ShelfError> {
         let Some(mirror) = self.mirrors.take(name) else {
             return Err(ShelfError::Memory);
         };
@@ -78,7 +78,7 @@ impl<'h, F: Shelf, C: Dial + Drop> Shelf for MirroredShelf<'_, 'h, F, C> {
         }
     }
 
-    fn give_disk(&mut self, name: &str, taken: MirroredDisk<'h, F::D, C>) {
+    fn give_disk(&mut self, name: &str, taken: MirroredDisk<F::D, C>) {
         let (inner, mirror) = taken.split();
         self.mirrors.put_back(name, mirror);
         self.shelf.give_disk(name, inner);
