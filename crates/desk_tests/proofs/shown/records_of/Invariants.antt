@@ -4,4 +4,4 @@ use Rattle.desk_tests.proofs.shown.records_of.Given as goal
 
 -- all that was made so far are records
 abbrev pub invariant-loop-line : goal.invariant-loop-line
-invariant-loop-line l = All (IsRecord 5) l.records.items
+invariant-loop-line g l = All (IsRecord 5) l.records.items
