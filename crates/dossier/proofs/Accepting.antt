@@ -1,9 +1,8 @@
 -- The dossier of a legal history is accepted.
-use Rattle.std.proofs.Common.{◌≡◌, ◌≤◌, ◌<◌, ◌+◌, ◌==◌, ℕ, true, false, List, [], ◌∷◌, ◌++◌, length, map, Some, Ok, Err, Result}
-use Rattle.std.proofs.Common.{refl, sym, ap, subst, ◌∙◌, arith, append_assoc, append-nil, length-append}
-use Rattle.std.specs.Prelude.{if◌then◌else◌, codes, decimal, bytes_eq, nat_le, nat_lt, sum_by}
+use Rattle.std.proofs.Common.{◌≡◌, ◌≤◌, ◌==◌, ℕ, true, false, List, [], ◌∷◌, ◌++◌, length, map, Some, Ok, Err, Result}
+use Rattle.std.proofs.Common.{refl, sym, ap, subst, ◌∙◌, arith, append-nil, length-append}
+use Rattle.std.specs.Prelude.{if◌then◌else◌, codes, decimal, bytes_eq}
 use Rattle.std.specs.List.{list_all, list_any}
-use Rattle.std.proofs.lemmas.Bool.Decides.{nat_tests}
 use Rattle.std.proofs.lemmas.Fmt.{decimal_nonempty}
 use Rattle.cqe_base.specs.declared.user.Method.{Method}
 use Rattle.cqe_base.specs.declared.user.Method.TheVariants.{Lying, Refusal, Combined}
@@ -13,7 +12,7 @@ use Rattle.cqe_base.specs.History.{UserProfile, History, known}
 use Rattle.cqe_base.specs.Censor.{guarded, probes_against, IsAdmissible, IsLegal, admitted}
 use Rattle.cqe_base.specs.Limits.{KeepsLimits, KeepsSizes}
 use Rattle.cqe_base.proofs.Lists.{text_is}
-use Rattle.cqe_base.proofs.Truths.{and_first, or_first, list_any-map, length-map}
+use Rattle.cqe_base.proofs.Truths.{and_first, list_any-map, length-map}
 use Rattle.cqe_base.proofs.Limits.{sizes_are_of_schema}
 use Rattle.cqe_base.proofs.Confidential.{admitted_are_admissible}
 use Rattle.log_journal.specs.Records.{Recorded, is_record}
@@ -27,6 +26,7 @@ use Rattle.dossier.specs.Accepted.{DossiersAreAccepted, ServedAreAccepted, Names
 use Rattle.dossier.specs.declared.error.DossierError.{DossierError}
 use Rattle.dossier.specs.declared.error.DossierError.TheVariants as refused
 use Rattle.dossier.proofs.Ended.{none-both, kind-lacks}
+use Rattle.dossier.proofs.Few.{few-items}
 use Rattle.dossier.proofs.Numerals.{decimal-lacks}
 use Rattle.dossier.proofs.FactTexts.{name-bytes}
 use Rattle.dossier.proofs.Leads.{field-with, field-alone, shows, Leads, leads-both, leads-line, leads-one}
@@ -102,15 +102,6 @@ module _ (schema : DatabaseSchema) (world : FactSet) (name : Text) (user : UserP
   -- ---- the whole text
 
   module _ (all : History) (sizes : KeepsSizes schema user all) where
-    -- it has at most 4,096 items
-    few-from : (before rest : History) → all ≡ before ++ rest → length before ≤ 4096 → length all ≤ 4096
-    few-from before [] parts few = let same = ap length (parts ∙ append-nil before) in omega (arith, same, few)
-    few-from before (e ∷ rest) parts few =
-        let room : nat_le 4096 (length before) ≡ false =
-        or_first (nat_le 4096 (length before)) (nat_lt 1048576 (sum_by (λ entry. entry.length) before + e.length)) (sizes before e rest parts).room in
-        let less : length before < 4096 = grind (arith, nat_tests) in
-        few-from (before ++ e ∷ []) rest (parts ∙ sym (append_assoc before (e ∷ []) rest)) (omega (arith, less, length-append before (e ∷ [])))
-
     text-leads : is_valid_schema schema ≡ true → list_any (λ b. b == 10) name ≡ false → KeepsLimits schema user → admitted schema world user ≡ true
         → (records : List Recorded) → list_all (is_record 5) records ≡ true → map (entry_of schema) records ≡ map Some all
         → IsLegal schema world user all → (text : Text) → IsDossier schema name user records text → LeadsOn (Ok head) text (Ok (nothing all))
@@ -124,7 +115,7 @@ module _ (schema : DatabaseSchema) (world : FactSet) (name : Text) (user : UserP
         (items-lead schema world name user valid all sizes
         (legal_histories_are_sound schema world user all valid limits.sentences (sizes_are_of_schema schema user all sizes) legal) [] all refl records items
         kept stands are_items))
-        (done-leads all (length records) counted (omega (arith, counted, few-from [] all refl (omega arith)))))
+        (done-leads all (length records) counted (omega (arith, counted, few-items schema user all sizes))))
       where
         counted : length records ≡ length all
         counted = sym (length-map (entry_of schema) records) ∙ ap length stands ∙ length-map Some all

@@ -1,5 +1,5 @@
 -- Asks that are read: their marks, and what shows them.
-use Rattle.std.proofs.Common.{◌≡◌, ◌≢◌, ℕ, ◌==◌, Bool, true, false, [], Some, Result, Ok, Err, refl, sym, ap, ◌∙◌, arith}
+use Rattle.std.proofs.Common.{subst, ◌≡◌, ◌≢◌, ℕ, ◌==◌, Bool, true, false, [], Some, Result, Ok, Err, refl, sym, ap, ◌∙◌, arith}
 use Rattle.std.specs.Prelude.{if◌then◌else◌}
 use Rattle.std.proofs.lemmas.Bool.Decides.{nat_tests}
 use Rattle.cqe_base.specs.declared.user.Mark.{Mark}
@@ -76,10 +76,10 @@ module _ (schema : DatabaseSchema) (world : FactSet) (name : Text) (user : UserP
 
   module _ (mark : Mark) (isnt : mark ≢ Undecided) (old new : Unread) where
     -- the blocks were refused
-    pub shown-refused : {X : Type 0} (then : X → Result Awaited DossierError) (why : DossierError)
+    pub shown-refused : {X : Type 0} (onward : X → Result Awaited DossierError) (why : DossierError)
         → ReadsFindings schema world name user before (asking line mark query size) query old new (Err why)
-        → ReadsOn schema world name user (asked schema world name user line before mark size (Some query)) old new then (Err why)
-    shown-refused then why next = by why next
+        → ReadsOn schema world name user (asked schema world name user line before mark size (Some query)) old new onward (Err why)
+    shown-refused onward why next = by why next
       where
         start : answer schema world name user (asked schema world name user line before mark size (Some query)) old
             ≡ answer schema world name user (awaited_for schema world name user before (asking line mark query size)
@@ -87,7 +87,7 @@ module _ (schema : DatabaseSchema) (world : FactSet) (name : Text) (user : UserP
         start = ap (λ x. answer schema world name user x old) (asked-shown mark isnt)
 
         by : (why : DossierError) → ReadsFindings schema world name user before (asking line mark query size) query old new (Err why)
-            → ReadsOn schema world name user (asked schema world name user line before mark size (Some query)) old new then (Err why)
+            → ReadsOn schema world name user (asked schema world name user line before mark size (Some query)) old new onward (Err why)
         by refused.Memory next = tt
         by (refused.Form at) next = start ∙ next
         by (refused.Text at) next = start ∙ next
@@ -95,6 +95,14 @@ module _ (schema : DatabaseSchema) (world : FactSet) (name : Text) (user : UserP
         by (refused.Mark at) next = start ∙ next
         by (refused.Admission at) next = start ∙ next
         by (refused.Unsafe at) next = start ∙ next
+
+    -- the same where the query is the same
+    pub shown-refused-at : {X : Type 0} (onward : X → Result Awaited DossierError) (why : DossierError) (other : Formula) → other ≡ query
+        → ReadsFindings schema world name user before (asking line mark query size) other old new (Err why)
+        → ReadsOn schema world name user (asked schema world name user line before mark size (Some query)) old new onward (Err why)
+    shown-refused-at onward why other same next =
+        shown-refused onward why
+        (subst (λ q. ReadsFindings schema world name user before (asking line mark query size) q old new (Err why)) same next)
 
     module _ (findings : Findings) (decided : Mark)
         (decides : decided ≡ mark_by user.method findings.spent findings.implied findings.yes_harm findings.no_harm (true_in schema world query))

@@ -167,7 +167,8 @@ module _ (schema : DatabaseSchema) (world : FactSet) (user : UserProfile) (entri
         → (is_full entries size ≡ false) × (is_too_large_secret schema user entries sentence ≡ false) × (has_all_secrets user entries ≡ false)
     added-within is =
         let (full, others) = or_parts (is_full entries size) (is_too_large_secret schema user entries sentence || has_all_secrets user entries) is in
-        (full, or_parts (is_too_large_secret schema user entries sentence) (has_all_secrets user entries) others)
+        let (large, most) = or_parts (is_too_large_secret schema user entries sentence) (has_all_secrets user entries) others in
+        (full, large, most)
 
 module _ (schema : DatabaseSchema) (world : FactSet) (name : Text) (user : UserProfile) (entries : History) (field : FieldSaid) where
   -- ---- the line of an ask

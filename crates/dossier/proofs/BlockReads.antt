@@ -100,11 +100,11 @@ module _ (schema : DatabaseSchema) (world : FactSet) (name : Text) (user : UserP
             ∙ follows-reads schema world name user field.line showing reason of may)
 
         -- which aren't read
-        pub block-refused : {X : Type 0} (new : Unread) (then : X → Result Awaited DossierError) (why : DossierError) → MayFollow reason field.line (Ok tt)
-            → ReadsOn schema world name user (Ok (step showing [])) next new then (Err why)
+        pub block-refused : {X : Type 0} (new : Unread) (onward : X → Result Awaited DossierError) (why : DossierError) → MayFollow reason field.line (Ok tt)
+            → ReadsOn schema world name user (Ok (step showing [])) next new onward (Err why)
             → ReadsOn schema world name user (Ok (block showing)) old new (behind_block schema world name user showing) (Err why)
-        block-refused new then why may read =
-            reads-refused schema world name user (Ok (block showing)) old new (behind_block schema world name user showing) next (Ok (step showing [])) then
+        block-refused new onward why may read =
+            reads-refused schema world name user (Ok (block showing)) old new (behind_block schema world name user showing) next (Ok (step showing [])) onward
             why (goes-on may) read
 
         -- or are, up to their end

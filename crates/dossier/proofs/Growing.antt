@@ -28,10 +28,12 @@ module _ (before between after : Past) (same : IsSamePast before between) (said 
   adds-said item is added reads line head old middle new lined grown = (
     query,
     reads,
-    grows-then (λ text. text ≡ item_head mark said)
-        (AreBlocks (past_schema before) (item_probes (past_schema before) (past_user before) (past_history before) mark query))
-        (IsItem (past_schema before) (past_user before) (past_history before) (record { query = query; mark = mark; length = length said }) said)
-        old middle new (line, head, lined) grown
-        (item-of (past_schema before) (past_user before) (past_history before) (record { query = query; mark = mark; length = length said }) said),
-    has-added item is added,
+    (
+      grows-then (λ text. text ≡ item_head mark said)
+          (AreBlocks (past_schema before) (item_probes (past_schema before) (past_user before) (past_history before) mark query))
+          (IsItem (past_schema before) (past_user before) (past_history before) (record { query = query; mark = mark; length = length said }) said)
+          old middle new (line, head, lined) grown
+          (item-of (past_schema before) (past_user before) (past_history before) (record { query = query; mark = mark; length = length said }) said),
+      has-added item is added,
+    ),
   )

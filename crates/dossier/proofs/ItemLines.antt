@@ -30,11 +30,11 @@ module _ (schema : DatabaseSchema) (world : FactSet) (name : Text) (user : UserP
   -- ---- lines that are taken
 
   -- the next line is missing where more is awaited
-  pub line-missing : {X : Type 0} (awaited : Awaited) (old new : Unread) (then : X → Result Awaited DossierError) (why : DossierError)
+  pub line-missing : {X : Type 0} (awaited : Awaited) (old new : Unread) (onward : X → Result Awaited DossierError) (why : DossierError)
       → at_end schema world name user awaited (next_line old) ≡ Err (refused.Form (next_line old)) → TakesLine old (Err why) new
-      → ReadsOn schema world name user (Ok awaited) old new then (Err why)
-  line-missing awaited old new then why ends (passes, is) =
-      reads-err schema world name user (Ok awaited) old new then why
+      → ReadsOn schema world name user (Ok awaited) old new onward (Err why)
+  line-missing awaited old new onward why ends (passes, is) =
+      reads-err schema world name user (Ok awaited) old new onward why
       (λ isnt. answer-end schema world name user awaited old new passes ∙ ends ∙ ap Err (sym is))
 
   -- the next line says what is awaited behind it
@@ -130,7 +130,7 @@ module _ (schema : DatabaseSchema) (world : FactSet) (name : Text) (user : UserP
         → ReadsItem schema world name user so_far (field_said field) middle new after (Err why)
         → ReadsItems schema world name user before start new end (Err why)
     items-refused after end new why reads =
-        reads-refused schema world name user (Ok (item before)) start new (λ _. Ok (nothing end)) middle
+        reads-refused schema world name user {X = Unit {0}} (Ok (item before)) start new (λ _. Ok (nothing end)) {Y = Unit {0}} middle
         (item_line schema world name user so_far (field_said field)) (λ _. Ok (item after)) why to-item reads
 
     -- or which is no item's, but the end

@@ -20,6 +20,7 @@ mod Shown
 mod ReadLines
 mod BlockReads
 mod Kept
+mod Few
 mod Verdicts
 mod ItemLines
 mod Each

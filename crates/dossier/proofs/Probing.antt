@@ -35,17 +35,17 @@ admission-probes empty_log empty_user user entries goals none are =
 module _ (schema : DatabaseSchema) (world : FactSet) (name : Text) (user : UserProfile) where
   -- a refusal of one of several blocks is one of the whole
   pub all-refused : {X : Type 0} (awaited between : Result Awaited DossierError) (old middle new : Unread) (count : ℕ)
-      (other : List Bool → Result Awaited DossierError) (then : X → Result Awaited DossierError) (why : DossierError)
+      (other : List Bool → Result Awaited DossierError) (onward : X → Result Awaited DossierError) (why : DossierError)
       → answer schema world name user awaited old ≡ answer schema world name user between middle
       → ReadsAll schema world name user between middle new count other (Err why)
-      → ReadsOn schema world name user awaited old new then (Err why)
-  all-refused awaited between old middle new count other then refused.Memory first next = tt
-  all-refused awaited between old middle new count other then (refused.Form line) first next = first ∙ next
-  all-refused awaited between old middle new count other then (refused.Text line) first next = first ∙ next
-  all-refused awaited between old middle new count other then (refused.Verdict line) first next = first ∙ next
-  all-refused awaited between old middle new count other then (refused.Mark line) first next = first ∙ next
-  all-refused awaited between old middle new count other then (refused.Admission line) first next = first ∙ next
-  all-refused awaited between old middle new count other then (refused.Unsafe line) first next = first ∙ next
+      → ReadsOn schema world name user awaited old new onward (Err why)
+  all-refused awaited between old middle new count other onward refused.Memory first next = tt
+  all-refused awaited between old middle new count other onward (refused.Form line) first next = first ∙ next
+  all-refused awaited between old middle new count other onward (refused.Text line) first next = first ∙ next
+  all-refused awaited between old middle new count other onward (refused.Verdict line) first next = first ∙ next
+  all-refused awaited between old middle new count other onward (refused.Mark line) first next = first ∙ next
+  all-refused awaited between old middle new count other onward (refused.Admission line) first next = first ∙ next
+  all-refused awaited between old middle new count other onward (refused.Unsafe line) first next = first ∙ next
 
   -- the line of the admission, where what the user knows is true if it has to be, and then the blocks
   module _ (old middle new : Unread) (field : Field) (taken : TakesLine old (Ok field) middle) (alone : is_alone (field_said field) (codes "admission") ≡ true)
@@ -68,9 +68,9 @@ module _ (schema : DatabaseSchema) (world : FactSet) (name : Text) (user : UserP
     pub admission-refused : (why : DossierError)
         → ReadsAll schema world name user (awaited_for schema world name user [] admitting read []) middle new count
         (λ verdicts. awaited_for schema world name user [] admitting [] ([] ++ verdicts)) (Err why)
-        → ReadsOn schema world name user (Ok admission) old new (λ _. Ok (item [])) (Err why)
+        → ReadsOn schema world name user {X = Unit {0}} (Ok admission) old new (λ _. Ok (item [])) (Err why)
     admission-refused why next =
-        all-refused (Ok admission) (awaited_for schema world name user [] admitting read []) old middle new count
+        all-refused {X = Unit {0}} (Ok admission) (awaited_for schema world name user [] admitting read []) old middle new count
         (λ verdicts. awaited_for schema world name user [] admitting [] ([] ++ verdicts)) (λ _. Ok (item [])) why to-blocks next
 
   -- ---- several blocks
@@ -117,15 +117,15 @@ module _ (schema : DatabaseSchema) (world : FactSet) (name : Text) (user : UserP
 
   module _ (before : History) (task : Task) (query : Formula) (more : List Probe) where
     -- for refusal both blocks were read
-    pub implied-read : user.method ≡ Refusal → (old middle new : Unread) (yes no : Bool)
+    pub implied-read : user.method ≡ Refusal → (old middle new : Unread) (pro con : Bool)
         → answer schema world name user (awaited_for schema world name user before task
         (goal_probe (log user before) (query, true) ∷ (goal_probe (log user before) (query, false) ∷ more)) []) old
-        ≡ answer schema world name user (awaited_for schema world name user before task (goal_probe (log user before) (query, false) ∷ more) (yes ∷ [])) middle
-        → answer schema world name user (awaited_for schema world name user before task (goal_probe (log user before) (query, false) ∷ more) (yes ∷ [])) middle
-        ≡ answer schema world name user (awaited_for schema world name user before task more (yes ∷ no ∷ [])) new
-        → ReadsImplied schema world name user before task query more old new (Ok (if yes then Some true else if no then Some false else None))
-    implied-read is old middle new yes no first second = (
-      yes ∷ no ∷ [],
+        ≡ answer schema world name user (awaited_for schema world name user before task (goal_probe (log user before) (query, false) ∷ more) (pro ∷ [])) middle
+        → answer schema world name user (awaited_for schema world name user before task (goal_probe (log user before) (query, false) ∷ more) (pro ∷ [])) middle
+        ≡ answer schema world name user (awaited_for schema world name user before task more (pro ∷ con ∷ [])) new
+        → ReadsImplied schema world name user before task query more old new (Ok (if pro then Some true else if con then Some false else None))
+    implied-read is old middle new pro con first second = (
+      pro ∷ con ∷ [],
       refl,
       sym (ap (λ m. length (implied_probes m (log user before) query)) is),
       ap (λ m. answer schema world name user (awaited_for schema world name user before task
@@ -144,13 +144,13 @@ module _ (schema : DatabaseSchema) (world : FactSet) (name : Text) (user : UserP
 
     -- one of them was refused
     pub implied-refused : {X : Type 0} → user.method ≡ Refusal → (old middle new : Unread) (between : Result Awaited DossierError)
-        (then : X → Result Awaited DossierError) (why : DossierError)
+        (onward : X → Result Awaited DossierError) (why : DossierError)
         → answer schema world name user (awaited_for schema world name user before task
         (goal_probe (log user before) (query, true) ∷ (goal_probe (log user before) (query, false) ∷ more)) []) old
         ≡ answer schema world name user between middle
-        → ReadsOn schema world name user between middle new then (Err why)
+        → ReadsOn schema world name user between middle new onward (Err why)
         → ReadsImplied schema world name user before task query more old new (Err why)
-    implied-refused is old middle new between then why first next = by why next
+    implied-refused is old middle new between onward why first next = by why next
       where
         start : answer schema world name user (awaited_for schema world name user before task
             (implied_probes user.method (log user before) query ++ more) []) old ≡ answer schema world name user between middle
@@ -158,7 +158,7 @@ module _ (schema : DatabaseSchema) (world : FactSet) (name : Text) (user : UserP
             ap (λ m. answer schema world name user (awaited_for schema world name user before task
             (implied_probes m (log user before) query ++ more) []) old) is ∙ first
 
-        by : (why : DossierError) → ReadsOn schema world name user between middle new then (Err why)
+        by : (why : DossierError) → ReadsOn schema world name user between middle new onward (Err why)
             → ReadsImplied schema world name user before task query more old new (Err why)
         by refused.Memory next = tt
         by (refused.Form line) next = start ∙ next
@@ -189,22 +189,22 @@ module _ (schema : DatabaseSchema) (world : FactSet) (name : Text) (user : UserP
         → ReadsFindings schema world name user before task query old new
         (Ok (record { spent = false; implied = implied; yes_harm = yes_harm; no_harm = no_harm }))
     findings-read old first second new implied yes_harm no_harm (verdicts, implied_is, size, start) with_it without =
-        let (yes, yes_size, yes_is, to_second) = with_it verdicts in
-        let (no, no_size, no_is, to_new) = without (verdicts ++ yes) in
+        let (pro, yes_size, yes_is, to_second) = with_it verdicts in
+        let (con, no_size, no_is, to_new) = without (verdicts ++ pro) in
         let all : answer schema world name user (awaited_for schema world name user before task
         (probes (user_at user before) told query) []) old
-        ≡ answer schema world name user (behind_task schema world name user before task (verdicts ++ (yes ++ no))) new =
+        ≡ answer schema world name user (behind_task schema world name user before task (verdicts ++ (pro ++ con))) new =
         ap (λ ps. answer schema world name user (awaited_for schema world name user before task ps []) old)
         (query-probes user.method goals told query)
         ∙ start ∙ to_second
-        ∙ ap (λ ps. answer schema world name user (awaited_for schema world name user before task ps (verdicts ++ yes)) second) (sym (append-nil negated))
+        ∙ ap (λ ps. answer schema world name user (awaited_for schema world name user before task ps (verdicts ++ pro)) second) (sym (append-nil negated))
         ∙ to_new
-        ∙ ap (λ vs. answer schema world name user (behind_task schema world name user before task vs) new) (append_assoc verdicts yes no) in (
-          verdicts ++ (yes ++ no),
+        ∙ ap (λ vs. answer schema world name user (behind_task schema world name user before task vs) new) (append_assoc verdicts pro con) in (
+          verdicts ++ (pro ++ con),
           (
             refl,
             λ truth. ap (λ o. mark_by user.method false o yes_harm no_harm truth) implied_is
-                ∙ found-mark (length goals) yes no yes_size user.method verdicts yes_harm no_harm truth (size ∙ first-many user.method told query) yes_is no_is,
+                ∙ found-mark (length goals) pro con yes_size user.method verdicts yes_harm no_harm truth (size ∙ first-many user.method told query) yes_is no_is,
           ),
           all,
         )
@@ -229,15 +229,15 @@ module _ (schema : DatabaseSchema) (world : FactSet) (name : Text) (user : UserP
     findings-err old new (refused.Unsafe line) is = is (λ e. absurd cc)
 
     -- what a refusal says of several blocks, but for want of memory
-    all-says : (awaited : Result Awaited DossierError) (old new : Unread) (count : ℕ) (then : List Bool → Result Awaited DossierError) (why : DossierError)
-        → ReadsAll schema world name user awaited old new count then (Err why) → why ≢ refused.Memory → answer schema world name user awaited old ≡ Err why
-    all-says awaited old new count then refused.Memory next isnt = absurd (isnt refl)
-    all-says awaited old new count then (refused.Form line) next isnt = next
-    all-says awaited old new count then (refused.Text line) next isnt = next
-    all-says awaited old new count then (refused.Verdict line) next isnt = next
-    all-says awaited old new count then (refused.Mark line) next isnt = next
-    all-says awaited old new count then (refused.Admission line) next isnt = next
-    all-says awaited old new count then (refused.Unsafe line) next isnt = next
+    all-says : (awaited : Result Awaited DossierError) (old new : Unread) (count : ℕ) (onward : List Bool → Result Awaited DossierError) (why : DossierError)
+        → ReadsAll schema world name user awaited old new count onward (Err why) → why ≢ refused.Memory → answer schema world name user awaited old ≡ Err why
+    all-says awaited old new count onward refused.Memory next isnt = absurd (isnt refl)
+    all-says awaited old new count onward (refused.Form line) next isnt = next
+    all-says awaited old new count onward (refused.Text line) next isnt = next
+    all-says awaited old new count onward (refused.Verdict line) next isnt = next
+    all-says awaited old new count onward (refused.Mark line) next isnt = next
+    all-says awaited old new count onward (refused.Admission line) next isnt = next
+    all-says awaited old new count onward (refused.Unsafe line) next isnt = next
 
     implied-says : (old new : Unread) (why : DossierError) → ReadsImplied schema world name user before task query (asserted ++ negated) old new (Err why)
         → why ≢ refused.Memory
@@ -272,11 +272,11 @@ module _ (schema : DatabaseSchema) (world : FactSet) (name : Text) (user : UserP
         → ((shown : List Bool) → ReadsHarm before task (query, false) [] shown second new (Err why))
         → ReadsFindings schema world name user before task query old new (Err why)
     third-refused old first second new implied yes_harm why (verdicts, implied_is, size, start) with_it next =
-        let (yes, yes_size, yes_is, to_second) = with_it verdicts in
+        let (pro, yes_size, yes_is, to_second) = with_it verdicts in
         findings-err old new why (λ isnt. starts old ∙ start ∙ to_second
-        ∙ ap (λ ps. answer schema world name user (awaited_for schema world name user before task ps (verdicts ++ yes)) second) (sym (append-nil negated))
-        ∙ all-says (awaited_for schema world name user before task (negated ++ []) (verdicts ++ yes)) second new (length goals)
-        (λ more. awaited_for schema world name user before task [] ((verdicts ++ yes) ++ more)) why (next (verdicts ++ yes)) isnt)
+        ∙ ap (λ ps. answer schema world name user (awaited_for schema world name user before task ps (verdicts ++ pro)) second) (sym (append-nil negated))
+        ∙ all-says (awaited_for schema world name user before task (negated ++ []) (verdicts ++ pro)) second new (length goals)
+        (λ more. awaited_for schema world name user before task [] ((verdicts ++ pro) ++ more)) why (next (verdicts ++ pro)) isnt)
 
 -- the same over the schema, the user and the items that are kept
 pub harm-at : (schema schema' : DatabaseSchema) (world : FactSet) (name : Text) (user user' : UserProfile) (before before' : History) (task : Task)

@@ -43,10 +43,10 @@ module _ (schema : DatabaseSchema) (world : FactSet) (name : Text) (user : UserP
 
   -- ---- joining
 
-  module _ {X : Type 0} (awaited : Result Awaited DossierError) (old new : Unread) (then : X → Result Awaited DossierError) where
+  module _ {X : Type 0} (awaited : Result Awaited DossierError) (old new : Unread) (onward : X → Result Awaited DossierError) where
     -- a refusal
     pub reads-err : (why : DossierError) → (why ≢ refused.Memory → answer schema world name user awaited old ≡ Err why)
-        → ReadsOn schema world name user awaited old new then (Err why)
+        → ReadsOn schema world name user awaited old new onward (Err why)
     reads-err refused.Memory is = tt
     reads-err (refused.Form line) is = is (λ e. absurd cc)
     reads-err (refused.Text line) is = is (λ e. absurd cc)
@@ -59,7 +59,7 @@ module _ (schema : DatabaseSchema) (world : FactSet) (name : Text) (user : UserP
     pub reads-refused : {Y : Type 0} (middle : Unread) (between : Result Awaited DossierError) (other : Y → Result Awaited DossierError) (why : DossierError)
         → answer schema world name user awaited old ≡ answer schema world name user between middle
         → ReadsOn schema world name user between middle new other (Err why)
-        → ReadsOn schema world name user awaited old new then (Err why)
+        → ReadsOn schema world name user awaited old new onward (Err why)
     reads-refused middle between other refused.Memory first next = tt
     reads-refused middle between other (refused.Form line) first next = first ∙ next
     reads-refused middle between other (refused.Text line) first next = first ∙ next
@@ -68,13 +68,13 @@ module _ (schema : DatabaseSchema) (world : FactSet) (name : Text) (user : UserP
     reads-refused middle between other (refused.Admission line) first next = first ∙ next
     reads-refused middle between other (refused.Unsafe line) first next = first ∙ next
 
-    -- one step, and then another
+    -- one step, and onward another
     pub reads-then : (middle : Unread) (between : Result Awaited DossierError) (result : Result X DossierError)
         → answer schema world name user awaited old ≡ answer schema world name user between middle
-        → ReadsOn schema world name user between middle new then result
-        → ReadsOn schema world name user awaited old new then result
+        → ReadsOn schema world name user between middle new onward result
+        → ReadsOn schema world name user awaited old new onward result
     reads-then middle between (Ok x) first next = first ∙ next
-    reads-then middle between (Err why) first next = reads-refused middle between then why first next
+    reads-then middle between (Err why) first next = reads-refused middle between onward why first next
 
   -- ---- the first line of a block
 
@@ -104,7 +104,7 @@ module _ (schema : DatabaseSchema) (world : FactSet) (name : Text) (user : UserP
   open-shows line showing None is = absurd cc
   open-shows line showing (Some facts) is = by (is_countermodel schema showing.probe (world_of facts)) is
     where
-      by : (b : Bool) → Ok tt ≡ (if b then Ok tt else Err (refused.Verdict line))
+      by : (b : Bool) → ◌≡◌ {A = Result (Unit {0}) DossierError} (Ok tt) (if b then Ok tt else Err (refused.Verdict line))
           → (if b then behind_block schema world name user showing false else Err (refused.Verdict line)) ≡ behind_block schema world name user showing false
       by true is = refl
       by false is = absurd cc
@@ -115,7 +115,7 @@ module _ (schema : DatabaseSchema) (world : FactSet) (name : Text) (user : UserP
   open-refused line showing None why is = cc
   open-refused line showing (Some facts) why is = by (is_countermodel schema showing.probe (world_of facts)) is
     where
-      by : (b : Bool) → Err why ≡ (if b then Ok tt else Err (refused.Verdict line))
+      by : (b : Bool) → ◌≡◌ {A = Result (Unit {0}) DossierError} (Err why) (if b then Ok tt else Err (refused.Verdict line))
           → (if b then behind_block schema world name user showing false else Err (refused.Verdict line)) ≡ Err why
       by true is = absurd cc
       by false is = cc

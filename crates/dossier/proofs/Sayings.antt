@@ -73,13 +73,13 @@ asked-probes schema user before Protected query asked isnt = absurd cc
 
 -- ---- the mark of the rule
 
-by-cost : (m : Method) (s : Bool) (given : Option Bool) (yes no truth : Bool) → mark_by m s given yes no truth ≢ Undecided → s ≡ false
-by-cost Lying true given yes no truth isnt = absurd (isnt refl)
-by-cost Refusal true given yes no truth isnt = absurd (isnt refl)
-by-cost Combined true given yes no truth isnt = absurd (isnt refl)
-by-cost Lying false given yes no truth isnt = refl
-by-cost Refusal false given yes no truth isnt = refl
-by-cost Combined false given yes no truth isnt = refl
+by-cost : (m : Method) (s : Bool) (given : Option Bool) (pro con truth : Bool) → mark_by m s given pro con truth ≢ Undecided → s ≡ false
+by-cost Lying true given pro con truth isnt = absurd (isnt refl)
+by-cost Refusal true given pro con truth isnt = absurd (isnt refl)
+by-cost Combined true given pro con truth isnt = absurd (isnt refl)
+by-cost Lying false given pro con truth isnt = refl
+by-cost Refusal false given pro con truth isnt = refl
+by-cost Combined false given pro con truth isnt = refl
 
 -- where the rule decides, no probe is spent
 pub rule-unspent : (schema : DatabaseSchema) (world : FactSet) (user : UserProfile) (told : List Signed) (query : Formula)

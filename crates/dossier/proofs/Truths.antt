@@ -63,15 +63,15 @@ module _ (schema : DatabaseSchema) (world : FactSet) where
   -- ---- what is told
 
   -- a mark that tells something of its query
-  pub signed-told : (mark : Mark) (query : Formula) (yes : Bool) → Some yes ≡ sign_told mark
-      → holds_in schema world (query, yes) ≡ all_hold_in schema world (told_by mark query)
-  signed-told Yes query yes is =
-      ap (λ b. holds_in schema world (query, b)) (same_Some yes true is) ∙ sym (hold-one (query, true))
-  signed-told No query yes is =
-      ap (λ b. holds_in schema world (query, b)) (same_Some yes false is) ∙ sym (hold-one (query, false))
-  signed-told Refused query yes is = absurd cc
-  signed-told Undecided query yes is = absurd cc
-  signed-told Protected query yes is = absurd cc
+  pub signed-told : (mark : Mark) (query : Formula) (says : Bool) → Some says ≡ sign_told mark
+      → holds_in schema world (query, says) ≡ all_hold_in schema world (told_by mark query)
+  signed-told Yes query says is =
+      ap (λ b. holds_in schema world (query, b)) (same_Some says true is) ∙ sym (hold-one (query, true))
+  signed-told No query says is =
+      ap (λ b. holds_in schema world (query, b)) (same_Some says false is) ∙ sym (hold-one (query, false))
+  signed-told Refused query says is = absurd cc
+  signed-told Undecided query says is = absurd cc
+  signed-told Protected query says is = absurd cc
 
   -- or nothing
   pub unsigned-told : (mark : Mark) (query : Formula) → None ≡ sign_told mark → true ≡ all_hold_in schema world (told_by mark query)

@@ -8,6 +8,7 @@ use Rattle.dossier.specs.Fields.{fields_of}
 use Rattle.dossier.specs.Checked.{Awaited, head, checked_from, checked}
 use Rattle.dossier.specs.Promised.{counted, IsCheckOf, IsAccepted, CheckedAreSound}
 use Rattle.dossier.specs.Reading.{Unread, next_line, fields_left, answer, ReadsOn}
+use Rattle.dossier.specs.Items.{ReadsItems}
 use Rattle.dossier.specs.declared.error.DossierError.{DossierError}
 use Rattle.dossier.specs.declared.error.DossierError.TheVariants as refused
 
@@ -17,6 +18,15 @@ pub reads-at : {X : Type 0} (schema schema' : DatabaseSchema) (world : FactSet) 
     → ReadsOn schema' world name user' awaited old new then result → ReadsOn schema world name user awaited old new then result
 reads-at schema schema' world name user user' awaited old new then result s u reads =
     subst (λ x. ReadsOn x world name user awaited old new then result) s (subst (λ x. ReadsOn schema' world name x awaited old new then result) u reads)
+
+-- and so is one of the items, behind those that there were
+pub items-at : (schema schema' : DatabaseSchema) (world : FactSet) (name : Text) (user user' : UserProfile) (entries entries' after : History)
+    (old new : Unread) (result : Result (Unit {0}) DossierError) → schema' ≡ schema → user' ≡ user → entries' ≡ entries
+    → ReadsItems schema' world name user' entries' old new after result → ReadsItems schema world name user entries old new after result
+items-at schema schema' world name user user' entries entries' after old new result s u e reads =
+    subst (λ x. ReadsItems x world name user entries old new after result) s
+    (subst (λ x. ReadsItems schema' world name x entries old new after result) u
+    (subst (λ x. ReadsItems schema' world name user' x old new after result) e reads))
 
 module _ (schema : DatabaseSchema) (world : FactSet) (name : Text) (user : UserProfile) (text : Text) (start : Unread) (first : next_line start ≡ 1)
     (fields : fields_left start ≡ fields_of text) where

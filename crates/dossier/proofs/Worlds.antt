@@ -1,10 +1,11 @@
 -- The world of listed facts, fact by fact.
-use Rattle.std.proofs.Common.{◌≡◌, Bool, true, false, ◌||◌, List, [], ◌∷◌, ◌++◌, refl, sym, ap, ◌∙◌}
+use Rattle.std.proofs.Common.{◌≡◌, ℕ, ◌+◌, ◌<◌, Bool, true, false, ◌||◌, List, [], ◌∷◌, ◌++◌, length, take, get_or, refl, sym, ap, ◌∙◌}
+use Rattle.std.proofs.lemmas.List.{take_more}
 use Rattle.std.specs.List.{list_any}
 use Rattle.std.specs.Ordering.{eq_by_cmp}
 use Rattle.std.specs.FinSet as set
 use Rattle.cqe_base.specs.declared.world.Fact.{Fact}
-use Rattle.cqe_base.specs.Facts.{fact_cmp}
+use Rattle.cqe_base.specs.Facts.{FactSet, fact_cmp}
 use Rattle.cqe_base.proofs.Worlds.{fact_cmp_total, fact_cmp-IsAntisymmetric}
 
 -- what is in a list with one more at its end
@@ -24,3 +25,10 @@ world-more facts fact =
     set.contains-from_list fact_cmp_total (facts ++ fact ∷ []) q ∙ any-pushed (eq_by_cmp fact_cmp q) facts fact
     ∙ ap (λ b. eq_by_cmp fact_cmp q fact || b) (sym (set.contains-from_list fact_cmp_total facts q))
     ∙ sym (set.contains-insert fact_cmp_total (set.from_list facts) fact q))
+
+-- the world of the facts before this place, with the fact at it
+pub world-grown : (facts : List Fact) (i : ℕ) (d : Fact) (world grown : FactSet) → i < length facts → world ≡ set.from_list (take i facts)
+    → grown ≡ set.insert world (get_or facts i d) → grown ≡ set.from_list (take (i + 1) facts)
+world-grown facts i d world grown low before added =
+    added ∙ ap (λ w. set.insert w (get_or facts i d)) before ∙ sym (world-more (take i facts) (get_or facts i d))
+    ∙ ap set.from_list (sym (take_more facts i d low))

@@ -15,7 +15,7 @@ use Rattle.soundness.specs.Verdicts.{mark_found}
 use Rattle.dossier.specs.Fields.{FieldSaid}
 use Rattle.dossier.specs.Checked.{Task, item, nothing, item_line, asked, behind_item}
 use Rattle.dossier.specs.Checked.{awaited_for, behind_task}
-use Rattle.dossier.specs.Reading.{Unread, answer, ReadsOn}
+use Rattle.dossier.specs.Reading.{Unread, answer, IsRefusedSo, ReadsOn}
 use Rattle.dossier.specs.Blocks.{Probed}
 use Rattle.dossier.specs.declared.error.DossierError.{DossierError}
 use Rattle.dossier.specs.declared.error.DossierError.TheVariants.{Memory}
@@ -69,10 +69,9 @@ module _ (schema : DatabaseSchema) (world : FactSet) (name : Text) (user : UserP
       (implied_probes user.method (log user before) query ++ more) []) old
       ≡ answer schema world name user (awaited_for schema world name user before task more verdicts)
       new)
-  ReadsImplied before task query more old new (Err Memory) = ⊤
   ReadsImplied before task query more old new (Err why) =
-      answer schema world name user (awaited_for schema world name user before task
-      (implied_probes user.method (log user before) query ++ more) []) old ≡ Err why
+      IsRefusedSo schema world name user (awaited_for schema world name user before task
+      (implied_probes user.method (log user before) query ++ more) []) old why
 
   -- findings give the mark that verdicts on all probes of a query give
   abbrev pub AreFindingsBy : (before : History) → List Bool → Findings → Type 0
@@ -90,10 +89,9 @@ module _ (schema : DatabaseSchema) (world : FactSet) (name : Text) (user : UserP
       × (answer schema world name user (awaited_for schema world name user before task
       (probes (user_at user before) (log user before) query) []) old
       ≡ answer schema world name user (behind_task schema world name user before task shown) new)
-  ReadsFindings before task query old new (Err Memory) = ⊤
   ReadsFindings before task query old new (Err why) =
-      answer schema world name user (awaited_for schema world name user before task
-      (probes (user_at user before) (log user before) query) []) old ≡ Err why
+      IsRefusedSo schema world name user (awaited_for schema world name user before task
+      (probes (user_at user before) (log user before) query) []) old why
 
   -- the items up to the end were read behind these: now there are those
   abbrev pub ReadsItems : (before : History) → Unread → Unread → (after : History)

@@ -54,14 +54,18 @@ module _ (schema : DatabaseSchema) (world : FactSet) (name : Text) (user : UserP
   answer awaited left =
       checked_from schema world name user awaited (next_line left) (fields_left left)
 
+  -- where this was awaited the text is refused so; of want of memory nothing is said
+  abbrev pub IsRefusedSo : Result Awaited DossierError → Unread → DossierError → Type 0
+  IsRefusedSo awaited old Memory = ⊤
+  IsRefusedSo awaited old why = answer awaited old ≡ Err why
+
   -- From an unread text on where this was awaited something was read: what the text showed is what
   -- the rest of it shows where that is awaited which stands behind what was read; or it was refused
-  -- so. Of want of memory nothing is said.
+  -- so.
   abbrev pub ReadsOn : {X : Type 0} → Result Awaited DossierError → Unread → Unread
       → (X → Result Awaited DossierError) → Result X DossierError → Type 0
   ReadsOn awaited old new then (Ok x) = answer awaited old ≡ answer (then x) new
-  ReadsOn awaited old new then (Err Memory) = ⊤
-  ReadsOn awaited old new then (Err why) = answer awaited old ≡ Err why
+  ReadsOn awaited old new then (Err why) = IsRefusedSo awaited old why
 
   -- The same of the blocks of so many probes: behind them stands what follows on their verdicts, of
   -- which the answer says whether some says yes.
@@ -71,5 +75,4 @@ module _ (schema : DatabaseSchema) (world : FactSet) (name : Text) (user : UserP
       (verdicts : List Bool) × (length verdicts ≡ count)
       × (some ≡ list_any (λ verdict. verdict) verdicts)
       × (answer awaited old ≡ answer (then verdicts) new)
-  ReadsAll awaited old new count then (Err Memory) = ⊤
-  ReadsAll awaited old new count then (Err why) = answer awaited old ≡ Err why
+  ReadsAll awaited old new count then (Err why) = IsRefusedSo awaited old why

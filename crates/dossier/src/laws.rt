@@ -27,8 +27,8 @@ pub fn law_checked_is_sound()
     law_verdicts();
 }
 
-/// The dossier of a legal history of an admitted user, whose name has no line feed, is accepted, and
-/// so is that of the records of a journal that opens his desk.
+/// The dossier of a legal history of an admitted user, whose name has no line feed, is accepted,
+/// and so is that of the records of a journal that opens his desk.
 pub fn law_dossiers_are_accepted()
     ensures accepted { DossiersAreAccepted }
     ensures served { ServedAreAccepted }

@@ -7,8 +7,13 @@ use std::io::{self, ErrorKind, Read, Write};
 use std::net::{Net, OpenStream, Shutdown, TcpStream, ToSocketAddrs};
 use std::time::Duration;
 
+/// The greatest count that a standby answers. No journal has as many records, and eight bytes of a
+/// text, as another server's greeting, are a greater number.
+const GREATEST_COUNT: u64 = 4_294_967_296;
+
 /// A dial to an address, as `127.0.0.1:7008`. Each exchange has a connection of its own, and fails
-/// where the standby isn't reached or doesn't answer in time: see `waits`. It isn't tried again.
+/// where the standby isn't reached, doesn't answer in time (see `waits`), or answers what is no
+/// count of records. It isn't tried again.
 #[derive(Drop)]
 pub struct TcpDial<'r, R> {
     runtime: &'r R,
@@ -71,7 +76,11 @@ fn ask<R: Net>(runtime: &R, address: &str, frame: &[u8]) -> io::Result<u64> {
     stream.shutdown(Shutdown::Write)?;
     let mut answer = [0; 8];
     read_whole(&mut stream, &mut answer)?;
-    Ok(u64::from_be_bytes(answer))
+    let count = u64::from_be_bytes(answer);
+    if count > GREATEST_COUNT {
+        return Err(io::Error::from(ErrorKind::InvalidData));
+    }
+    Ok(count)
 }
 
 // Fills the piece. That the input ends before is a failure.

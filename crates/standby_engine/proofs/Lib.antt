@@ -4,7 +4,7 @@ pub mod Returning
 pub mod Places
 pub mod Parting
 pub mod Mirroring
-pub mod Openings
-pub mod Servings
+pub mod Begun
+pub mod Visits
 pub mod Ending
 pub mod Listening

@@ -24,9 +24,9 @@ returns-clause-ends g c = λ told in_told out_told.
     (copied_journals g.F.Shelf g.F.D.Disk c.args.registry.now.directory.now c.args.shelf.now shelf (dial_faults g.C.Dial.faults mirrors))
     (map named_user c.args.registry.now.users.now) c.run_batch.result (g.S.Source.left c.args.source.now) (g.S.Source.left c.run_batch.new.source)
     (g.K.Sink.written c.args.sink.now) (g.K.Sink.written c.run_batch.new.sink))
-    _ c.run_batch.new.shelf.shelf.now _ c.run_batch.new.shelf.mirrors.now
+    _ c.run_batch.new.shelf.shelf.now c.mirrors-1.given c.run_batch.new.shelf.mirrors.now
     (shelf_back _ c.run_batch.new.shelf.shelf.now _ _ c.run_batch.ensures.lent (search rules))
-    (mirrors_back _ c.run_batch.new.shelf.mirrors.now _ _ c.run_batch.ensures.lent (search rules))
+    (mirrors_back c.mirrors-1.given c.run_batch.new.shelf.mirrors.now _ _ c.run_batch.ensures.lent (search rules))
     (subst (λ journals. batch.EndsBatch c.args.registry.now.schema.now c.args.registry.now.world.now (header_bytes c.args.registry.now.header.now)
     journals
     (map named_user c.args.registry.now.users.now) c.run_batch.result (g.S.Source.left c.args.source.now) (g.S.Source.left c.run_batch.new.source)
@@ -42,9 +42,9 @@ returns-clause-journals g c = λ told.
     lent_two (λ shelf mirrors. batch.LeavesJournals c.args.registry.now.schema.now c.args.registry.now.world.now (header_bytes c.args.registry.now.header.now)
     (copied_journals g.F.Shelf g.F.D.Disk c.args.registry.now.directory.now c.args.shelf.now shelf (dial_faults g.C.Dial.faults mirrors))
     (map named_user c.args.registry.now.users.now) c.run_batch.result)
-    _ c.run_batch.new.shelf.shelf.now _ c.run_batch.new.shelf.mirrors.now
+    _ c.run_batch.new.shelf.shelf.now c.mirrors-1.given c.run_batch.new.shelf.mirrors.now
     (shelf_back _ c.run_batch.new.shelf.shelf.now _ _ c.run_batch.ensures.lent (search rules))
-    (mirrors_back _ c.run_batch.new.shelf.mirrors.now _ _ c.run_batch.ensures.lent (search rules))
+    (mirrors_back c.mirrors-1.given c.run_batch.new.shelf.mirrors.now _ _ c.run_batch.ensures.lent (search rules))
     (subst (λ journals. batch.LeavesJournals c.args.registry.now.schema.now c.args.registry.now.world.now (header_bytes c.args.registry.now.header.now)
     journals
     (map named_user c.args.registry.now.users.now) c.run_batch.result)
@@ -88,9 +88,9 @@ pub returns-clause-counts : goal.returns-clause-counts
 returns-clause-counts g c =
     lent_two (λ shelf mirrors. NoneFell (g.F.Shelf.disk_faults c.args.shelf.now)
     (copied_counts (g.F.Shelf.disk_faults shelf) (dial_faults g.C.Dial.faults mirrors)))
-    _ c.run_batch.new.shelf.shelf.now _ c.run_batch.new.shelf.mirrors.now
+    _ c.run_batch.new.shelf.shelf.now c.mirrors-1.given c.run_batch.new.shelf.mirrors.now
     (shelf_back _ c.run_batch.new.shelf.shelf.now _ _ c.run_batch.ensures.lent (search rules))
-    (mirrors_back _ c.run_batch.new.shelf.mirrors.now _ _ c.run_batch.ensures.lent (search rules))
+    (mirrors_back c.mirrors-1.given c.run_batch.new.shelf.mirrors.now _ _ c.run_batch.ensures.lent (search rules))
     (none_fell_under g.F.Shelf g.F.D.Disk g.C.Dial.faults c.new-mirrored.result.shelf.now c.args.shelf.now c.run_batch.new.shelf.shelf.now
     c.new-mirrored.ensures.shelf
     (slots_of c.new-mirrored.result.mirrors.now) (slots_of c.args.mirrors.now) (slots_of c.run_batch.new.shelf.mirrors.now)
@@ -101,9 +101,9 @@ pub returns-clause-other_counts : goal.returns-clause-other_counts
 returns-clause-other_counts g c =
     lent_two (λ shelf mirrors. SameBeside (registered_journals c.args.registry.now.directory.now c.args.registry.now.users.now)
     (g.F.Shelf.disk_faults c.args.shelf.now) (copied_counts (g.F.Shelf.disk_faults shelf) (dial_faults g.C.Dial.faults mirrors)))
-    _ c.run_batch.new.shelf.shelf.now _ c.run_batch.new.shelf.mirrors.now
+    _ c.run_batch.new.shelf.shelf.now c.mirrors-1.given c.run_batch.new.shelf.mirrors.now
     (shelf_back _ c.run_batch.new.shelf.shelf.now _ _ c.run_batch.ensures.lent (search rules))
-    (mirrors_back _ c.run_batch.new.shelf.mirrors.now _ _ c.run_batch.ensures.lent (search rules))
+    (mirrors_back c.mirrors-1.given c.run_batch.new.shelf.mirrors.now _ _ c.run_batch.ensures.lent (search rules))
     (counts_under g.F.Shelf g.F.D.Disk g.C.Dial.faults c.new-mirrored.result.shelf.now c.args.shelf.now c.run_batch.new.shelf.shelf.now
     c.new-mirrored.ensures.shelf
     (slots_of c.new-mirrored.result.mirrors.now) (slots_of c.args.mirrors.now) (slots_of c.run_batch.new.shelf.mirrors.now)
@@ -114,9 +114,9 @@ pub returns-clause-disk_cause : goal.returns-clause-disk_cause
 returns-clause-disk_cause g c broken =
     lent_two (λ shelf mirrors. SomeRose (g.F.Shelf.disk_faults c.args.shelf.now)
     (copied_counts (g.F.Shelf.disk_faults shelf) (dial_faults g.C.Dial.faults mirrors)))
-    _ c.run_batch.new.shelf.shelf.now _ c.run_batch.new.shelf.mirrors.now
+    _ c.run_batch.new.shelf.shelf.now c.mirrors-1.given c.run_batch.new.shelf.mirrors.now
     (shelf_back _ c.run_batch.new.shelf.shelf.now _ _ c.run_batch.ensures.lent (search rules))
-    (mirrors_back _ c.run_batch.new.shelf.mirrors.now _ _ c.run_batch.ensures.lent (search rules))
+    (mirrors_back c.mirrors-1.given c.run_batch.new.shelf.mirrors.now _ _ c.run_batch.ensures.lent (search rules))
     (some_rose_under g.F.Shelf g.F.D.Disk g.C.Dial.faults c.new-mirrored.result.shelf.now c.args.shelf.now c.run_batch.new.shelf.shelf.now
     c.new-mirrored.ensures.shelf
     (slots_of c.new-mirrored.result.mirrors.now) (slots_of c.args.mirrors.now) (slots_of c.run_batch.new.shelf.mirrors.now)
@@ -144,9 +144,9 @@ returns-clause-unopened g c is =
           (λ name. (λ i. g.F.Shelf.disk (same i).shelf.now name) ∙ ap (λ shelf. g.F.Shelf.disk shelf name) c.new-mirrored.ensures.shelf),
       lent_two (λ shelf mirrors. SameNames (g.F.Shelf.disk_faults c.args.shelf.now)
           (copied_counts (g.F.Shelf.disk_faults shelf) (dial_faults g.C.Dial.faults mirrors)))
-          _ c.run_batch.new.shelf.shelf.now _ c.run_batch.new.shelf.mirrors.now
+          _ c.run_batch.new.shelf.shelf.now c.mirrors-1.given c.run_batch.new.shelf.mirrors.now
           (shelf_back _ c.run_batch.new.shelf.shelf.now _ _ c.run_batch.ensures.lent (search rules))
-          (mirrors_back _ c.run_batch.new.shelf.mirrors.now _ _ c.run_batch.ensures.lent (search rules))
+          (mirrors_back c.mirrors-1.given c.run_batch.new.shelf.mirrors.now _ _ c.run_batch.ensures.lent (search rules))
           (all_counts_under g.F.Shelf g.F.D.Disk g.C.Dial.faults c.new-mirrored.result.shelf.now c.args.shelf.now c.run_batch.new.shelf.shelf.now
           c.new-mirrored.ensures.shelf
           (slots_of c.new-mirrored.result.mirrors.now) (slots_of c.args.mirrors.now) (slots_of c.run_batch.new.shelf.mirrors.now)

@@ -23,9 +23,9 @@ returns-clause-ends g c = λ told links_told.
     (copied_journals g.F.Shelf g.F.D.Disk c.args.registry.now.directory.now c.args.shelf.now shelf (dial_faults g.C.Dial.faults mirrors))
     c.args.registry.now.users.now (g.L.Links.given c.args.links.now) (g.L.Links.given c.run_serve.new.links) (g.L.Links.back c.args.links.now)
     (g.L.Links.back c.run_serve.new.links) c.run_serve.result)
-    _ c.run_serve.new.shelf.shelf.now _ c.run_serve.new.shelf.mirrors.now
+    _ c.run_serve.new.shelf.shelf.now c.mirrors-1.given c.run_serve.new.shelf.mirrors.now
     (shelf_back _ c.run_serve.new.shelf.shelf.now _ _ c.run_serve.ensures.lent (search rules))
-    (mirrors_back _ c.run_serve.new.shelf.mirrors.now _ _ c.run_serve.ensures.lent (search rules))
+    (mirrors_back c.mirrors-1.given c.run_serve.new.shelf.mirrors.now _ _ c.run_serve.ensures.lent (search rules))
     (subst (λ journals. serving.EndsServing c.args.registry.now.schema.now c.args.registry.now.world.now (header_bytes c.args.registry.now.header.now)
     journals
     c.args.registry.now.users.now (g.L.Links.given c.args.links.now) (g.L.Links.given c.run_serve.new.links) (g.L.Links.back c.args.links.now)
@@ -41,9 +41,9 @@ returns-clause-journals g c = λ told.
     lent_two (λ shelf mirrors. serving.LeavesJournals c.args.registry.now.schema.now c.args.registry.now.world.now (header_bytes c.args.registry.now.header.now)
     (copied_journals g.F.Shelf g.F.D.Disk c.args.registry.now.directory.now c.args.shelf.now shelf (dial_faults g.C.Dial.faults mirrors))
     c.args.registry.now.users.now c.run_serve.result)
-    _ c.run_serve.new.shelf.shelf.now _ c.run_serve.new.shelf.mirrors.now
+    _ c.run_serve.new.shelf.shelf.now c.mirrors-1.given c.run_serve.new.shelf.mirrors.now
     (shelf_back _ c.run_serve.new.shelf.shelf.now _ _ c.run_serve.ensures.lent (search rules))
-    (mirrors_back _ c.run_serve.new.shelf.mirrors.now _ _ c.run_serve.ensures.lent (search rules))
+    (mirrors_back c.mirrors-1.given c.run_serve.new.shelf.mirrors.now _ _ c.run_serve.ensures.lent (search rules))
     (subst (λ journals. serving.LeavesJournals c.args.registry.now.schema.now c.args.registry.now.world.now (header_bytes c.args.registry.now.header.now)
     journals
     c.args.registry.now.users.now c.run_serve.result)
@@ -87,9 +87,9 @@ pub returns-clause-counts : goal.returns-clause-counts
 returns-clause-counts g c =
     lent_two (λ shelf mirrors. NoneFell (g.F.Shelf.disk_faults c.args.shelf.now)
     (copied_counts (g.F.Shelf.disk_faults shelf) (dial_faults g.C.Dial.faults mirrors)))
-    _ c.run_serve.new.shelf.shelf.now _ c.run_serve.new.shelf.mirrors.now
+    _ c.run_serve.new.shelf.shelf.now c.mirrors-1.given c.run_serve.new.shelf.mirrors.now
     (shelf_back _ c.run_serve.new.shelf.shelf.now _ _ c.run_serve.ensures.lent (search rules))
-    (mirrors_back _ c.run_serve.new.shelf.mirrors.now _ _ c.run_serve.ensures.lent (search rules))
+    (mirrors_back c.mirrors-1.given c.run_serve.new.shelf.mirrors.now _ _ c.run_serve.ensures.lent (search rules))
     (none_fell_under g.F.Shelf g.F.D.Disk g.C.Dial.faults c.new-mirrored.result.shelf.now c.args.shelf.now c.run_serve.new.shelf.shelf.now
     c.new-mirrored.ensures.shelf
     (slots_of c.new-mirrored.result.mirrors.now) (slots_of c.args.mirrors.now) (slots_of c.run_serve.new.shelf.mirrors.now)
@@ -100,9 +100,9 @@ pub returns-clause-other_counts : goal.returns-clause-other_counts
 returns-clause-other_counts g c =
     lent_two (λ shelf mirrors. SameBeside (registered_journals c.args.registry.now.directory.now c.args.registry.now.users.now)
     (g.F.Shelf.disk_faults c.args.shelf.now) (copied_counts (g.F.Shelf.disk_faults shelf) (dial_faults g.C.Dial.faults mirrors)))
-    _ c.run_serve.new.shelf.shelf.now _ c.run_serve.new.shelf.mirrors.now
+    _ c.run_serve.new.shelf.shelf.now c.mirrors-1.given c.run_serve.new.shelf.mirrors.now
     (shelf_back _ c.run_serve.new.shelf.shelf.now _ _ c.run_serve.ensures.lent (search rules))
-    (mirrors_back _ c.run_serve.new.shelf.mirrors.now _ _ c.run_serve.ensures.lent (search rules))
+    (mirrors_back c.mirrors-1.given c.run_serve.new.shelf.mirrors.now _ _ c.run_serve.ensures.lent (search rules))
     (counts_under g.F.Shelf g.F.D.Disk g.C.Dial.faults c.new-mirrored.result.shelf.now c.args.shelf.now c.run_serve.new.shelf.shelf.now
     c.new-mirrored.ensures.shelf
     (slots_of c.new-mirrored.result.mirrors.now) (slots_of c.args.mirrors.now) (slots_of c.run_serve.new.shelf.mirrors.now)
@@ -113,9 +113,9 @@ pub returns-clause-disk_cause : goal.returns-clause-disk_cause
 returns-clause-disk_cause g c broken =
     lent_two (λ shelf mirrors. SomeRose (g.F.Shelf.disk_faults c.args.shelf.now)
     (copied_counts (g.F.Shelf.disk_faults shelf) (dial_faults g.C.Dial.faults mirrors)))
-    _ c.run_serve.new.shelf.shelf.now _ c.run_serve.new.shelf.mirrors.now
+    _ c.run_serve.new.shelf.shelf.now c.mirrors-1.given c.run_serve.new.shelf.mirrors.now
     (shelf_back _ c.run_serve.new.shelf.shelf.now _ _ c.run_serve.ensures.lent (search rules))
-    (mirrors_back _ c.run_serve.new.shelf.mirrors.now _ _ c.run_serve.ensures.lent (search rules))
+    (mirrors_back c.mirrors-1.given c.run_serve.new.shelf.mirrors.now _ _ c.run_serve.ensures.lent (search rules))
     (some_rose_under g.F.Shelf g.F.D.Disk g.C.Dial.faults c.new-mirrored.result.shelf.now c.args.shelf.now c.run_serve.new.shelf.shelf.now
     c.new-mirrored.ensures.shelf
     (slots_of c.new-mirrored.result.mirrors.now) (slots_of c.args.mirrors.now) (slots_of c.run_serve.new.shelf.mirrors.now)
@@ -143,9 +143,9 @@ returns-clause-unheard g c told still =
           (λ name. (λ i. g.F.Shelf.disk (same i).shelf.now name) ∙ ap (λ shelf. g.F.Shelf.disk shelf name) c.new-mirrored.ensures.shelf),
       lent_two (λ shelf mirrors. SameNames (g.F.Shelf.disk_faults c.args.shelf.now)
           (copied_counts (g.F.Shelf.disk_faults shelf) (dial_faults g.C.Dial.faults mirrors)))
-          _ c.run_serve.new.shelf.shelf.now _ c.run_serve.new.shelf.mirrors.now
+          _ c.run_serve.new.shelf.shelf.now c.mirrors-1.given c.run_serve.new.shelf.mirrors.now
           (shelf_back _ c.run_serve.new.shelf.shelf.now _ _ c.run_serve.ensures.lent (search rules))
-          (mirrors_back _ c.run_serve.new.shelf.mirrors.now _ _ c.run_serve.ensures.lent (search rules))
+          (mirrors_back c.mirrors-1.given c.run_serve.new.shelf.mirrors.now _ _ c.run_serve.ensures.lent (search rules))
           (all_counts_under g.F.Shelf g.F.D.Disk g.C.Dial.faults c.new-mirrored.result.shelf.now c.args.shelf.now c.run_serve.new.shelf.shelf.now
           c.new-mirrored.ensures.shelf
           (slots_of c.new-mirrored.result.mirrors.now) (slots_of c.args.mirrors.now) (slots_of c.run_serve.new.shelf.mirrors.now)

@@ -26,7 +26,7 @@ use Rattle.cqe_top.proofs.Serving.{serve_succeeds, served_out}
 use Rattle.cqe_top.proofs.Users.{batch_names_are}
 use Rattle.cqe_top.proofs.copied.run_copied.Given.{Over}
 use Rattle.cqe_top.proofs.copied.run_copied.Goals as goal
-use Rattle.cqe_top.proofs.copied.run_copied.Goals.{In-Err, In-Err-mirrors_for, After-drop-inputs-in-Batch-4, After-drop-inputs-5}
+use Rattle.cqe_top.proofs.copied.run_copied.Goals.{In-Err, After-drop-inputs-in-Err-mirrors_for-4, After-drop-inputs-in-Batch-4, After-drop-inputs-5}
 
 pub copied_batch-end-requires-clause-names : goal.copied_batch-end-requires-clause-names
 copied_batch-end-requires-clause-names g c κs within =
@@ -63,7 +63,7 @@ returns-in-Err g c = record {
           faults = is.later;
         };
         held = refl;
-        left = λ told bytes ends. ends;
+        left = λ told bytes rest. rest;
         doors = refl;
         input_faults = omega arith;
         output_faults = omega arith;
@@ -74,7 +74,7 @@ returns-in-Err g c = record {
 
 -- ---- mirrors for which memory was wanting
 
-abbrev unmade_scene : (g : Over) → In-Err-mirrors_for g → Scene
+abbrev unmade_scene : (g : Over) → After-drop-inputs-in-Err-mirrors_for-4 g → Scene
 unmade_scene g c =
     scene_of (shelf_of g.F.Shelf g.F.D.Disk c.args.shelf.now c.read_files.new.shelf) (input_of g.S.Source c.args.source.now c.args.source.now)
     (output_of g.K.Sink c.args.sink.now c.args.sink.now) (links_of g.L.Links c.args.links.now c.mirrors_for.new.links)
@@ -100,7 +100,7 @@ returns-in-Err-mirrors_for g c = record {
           faults = is.later;
         };
         held = refl;
-        left = λ told bytes ends. ends;
+        left = λ told bytes rest. rest;
         doors = made.doors.out;
         input_faults = omega arith;
         output_faults = omega arith;
@@ -161,6 +161,7 @@ returns-in-Batch g c = record {
       } in
       let first = made.doors.faults in
       let last = hung.doors.faults in
+      let dialled = c.in-Ok-mirrors_for.ensures.mirror in
       let rises = made.later in
       let more = hung.later in
       let earlier = read.later in
@@ -168,7 +169,7 @@ returns-in-Batch g c = record {
       let does : Does (batch_scene g c) (Some (reading_copied files (copied.Batch c.in-Batch.workers) c.args.standby.now))
       (ends.Batch inputs.policy.users c.copied_batch-end.result) = record {
         exchanges = Some failed;
-        counted = λ name. subst (λ n. RisesAtLeast n (failed name) (g.L.Links.mirror c.hang_up_all.new.links)) made.mirror (hung.mirror name);
+        counted = λ name. subst (λ n. RisesAtLeast n (failed name) (g.L.Links.mirror c.hang_up_all.new.links)) dialled (hung.mirror name);
         command = record {
           ends = runs;
           succeeds = batch_succeeds scene files inputs.policy.users c.copied_batch-end.result runs cause;
@@ -212,14 +213,14 @@ serve_failed g c name = dial_faults g.L.Dial.Dial.faults c.copied_serve-end.new.
 abbrev serve_scene : (g : Over) → After-drop-inputs-5 g → Scene
 serve_scene g c =
     scene_of (shelf_of g.F.Shelf g.F.D.Disk c.args.shelf.now c.copied_serve-end.new.shelf) (input_of g.S.Source c.args.source.now c.args.source.now)
-    (output_of g.K.Sink c.args.sink.now c.args.sink.now) (links_of g.L.Links c.args.links.now c.hang_up_all.new.links)
+    (output_of g.K.Sink c.args.sink.now c.args.sink.now) (links_of g.L.Links c.args.links.now c.hang_up_all-in-Serve.new.links)
 
 pub returns : goal.returns
 returns g c = record {
   does =
       let read = c.in-Ok.ensures in
       let made = c.mirrors_for.ensures in
-      let hung = c.hang_up_all.ensures in
+      let hung = c.hang_up_all-in-Serve.ensures in
       let ran = c.copied_serve-end.ensures in
       let files = names_of_files c.args.files in
       let inputs = c.in-Ok.inputs in
@@ -230,7 +231,7 @@ returns g c = record {
       let mid = c.read_files.new.shelf in
       let new = c.copied_serve-end.new.shelf in
       let links = c.copied_serve-end.new.links in
-      let doors = served_between g.L.Links c.args.links.now c.mirrors_for.new.links links c.hang_up_all.new.links made.doors hung.doors in
+      let doors = served_between g.L.Links c.args.links.now c.mirrors_for.new.links links c.hang_up_all-in-Serve.new.links made.doors hung.doors in
       let cause = serve_cause scene inputs.policy.users c.copied_serve-end.result (λ is. doors.rose (ran.links_cause is))
       (λ is. rose_since (g.F.Shelf.faults old) (g.F.Shelf.faults mid) (g.F.Shelf.faults new) read.later (ran.shelf_cause is))
       (λ is. some_rose_counted g.F.Shelf g.F.D.Disk old mid new read.disks read.counts failed files (ran.disk_cause is)) in
@@ -271,8 +272,8 @@ returns g c = record {
             omega (arith, first, last, few);
         ends = λ told done.
             served_out scene.links listening.workers listening.sessions (doors.ended told listening.workers listening.sessions (ran.ended told done));
-        left = λ told all. doors.left told ran.left all;
-        left_all = λ told all. doors.left_all told ran.left_all all;
+        left = λ told all. doors.left told (ran.left told) all;
+        left_all = λ told all. doors.left_all told (ran.left_all told) all;
         limited = λ told.
             let first = made.doors.given told in
             let last = hung.doors.given told in
@@ -283,6 +284,7 @@ returns g c = record {
       let last = hung.doors.faults in
       let between = ran.links_later in
       let same = ran.mirror in
+      let dialled = c.in-Ok-mirrors_for.ensures.mirror in
       let rises = made.later in
       let more = hung.later in
       let earlier = read.later in
@@ -290,7 +292,7 @@ returns g c = record {
       let does : Does (serve_scene g c) (Some (reading_copied files (copied.Serve listening) c.args.standby.now))
       (ends.Serve inputs.policy.users c.copied_serve-end.result) = record {
         exchanges = Some failed;
-        counted = λ name. subst (λ n. RisesAtLeast n (failed name) (g.L.Links.mirror c.hang_up_all.new.links)) (same ∙ made.mirror) (hung.mirror name);
+        counted = λ name. subst (λ n. RisesAtLeast n (failed name) (g.L.Links.mirror c.hang_up_all-in-Serve.new.links)) (same ∙ dialled) (hung.mirror name);
         command = record {
           ends = runs;
           succeeds = serve_succeeds c.law_openings.ensures.unrefused scene files listening.address.now listening.workers listening.sessions
@@ -307,7 +309,7 @@ returns g c = record {
             faults = omega (arith, earlier, later);
           };
           held = refl;
-          left = λ told bytes ends. ends;
+          left = λ told bytes rest. rest;
           doors = hung.doors.out ∙ ran.out ∙ made.doors.out;
           input_faults = omega arith;
           output_faults = omega arith;

@@ -35,8 +35,8 @@ use Rattle.cqe_top.proofs.Standing.{standby_succeeds}
 use Rattle.cqe_top.proofs.Users.{batch_names_are}
 use Rattle.cqe_top.proofs.over_files.run_over_files.Given.{Over}
 use Rattle.cqe_top.proofs.over_files.run_over_files.Goals as goal
-use Rattle.cqe_top.proofs.over_files.run_over_files.Goals.{After-drop-inputs-4, After-drop-inputs-in-Batch-4}
-use Rattle.cqe_top.proofs.over_files.run_over_files.Goals.{After-drop-inputs-in-Init-3, After-drop-inputs-in-Migrate-4, After-drop-inputs-in-Serve-5}
+use Rattle.cqe_top.proofs.over_files.run_over_files.Goals.{After-drop-inputs-5, After-drop-inputs-in-Batch-4}
+use Rattle.cqe_top.proofs.over_files.run_over_files.Goals.{After-drop-inputs-in-Init-3, After-drop-inputs-in-Migrate-4, After-drop-inputs-in-Serve-4}
 use Rattle.cqe_top.proofs.over_files.run_over_files.Goals.{In-Err}
 
 pub run_batch-end-requires-clause-names : goal.run_batch-end-requires-clause-names
@@ -467,7 +467,7 @@ returns-in-Migrate-clause-command g c =
 
 -- ---- a server
 
-abbrev serve_scene : (g : Over) → After-drop-inputs-in-Serve-5 g → Scene
+abbrev serve_scene : (g : Over) → After-drop-inputs-in-Serve-4 g → Scene
 serve_scene g c =
     scene_of (shelf_of g.F.Shelf g.F.D.Disk c.args.shelf.now c.run_serve-end.new.shelf) (input_of g.S.Source c.args.source.now c.args.source.now)
     (output_of g.K.Sink c.args.sink.now c.args.sink.now) (links_of g.L.Links c.args.links.now c.run_serve-end.new.links)
@@ -535,7 +535,7 @@ returns-in-Serve-clause-command g c =
 
 -- ---- a standby
 
-abbrev standby_scene : (g : Over) → After-drop-inputs-4 g → Scene
+abbrev standby_scene : (g : Over) → After-drop-inputs-5 g → Scene
 standby_scene g c =
     scene_of (shelf_of g.F.Shelf g.F.D.Disk c.args.shelf.now c.run_standby-end.new.shelf) (input_of g.S.Source c.args.source.now c.args.source.now)
     (output_of g.K.Sink c.args.sink.now c.args.sink.now) (links_of g.L.Links c.args.links.now c.run_standby-end.new.links)

@@ -1,8 +1,9 @@
-use Rattle.std.proofs.Common.{true, false, map, sym, ◌∙◌, rules, tests}
+use Rattle.std.proofs.Common.{true, false, Ok, [], map, sym, ◌∙◌, rules, tests}
 use Rattle.std.proofs.lemmas.Result.{err_from_is_err_and}
 use Rattle.cqe_base.specs.History.{profile_of, answered_query_of, log}
 use Rattle.clause_store.specs.PlainLines.{lines_of}
 use Rattle.entailment.specs.Probes.{premise_of, goal_of}
+use Rattle.dossier.specs.Checked.{step}
 use Rattle.dossier.proofs.BlockReads.{confirmed-is, block-missing, block-opens, block-open-refused, block-form, block-may-not, block-refused, block-ended}
 use Rattle.dossier.proofs.blocks.read_block.Goals as goal
 
@@ -14,7 +15,7 @@ returns-in_err-field-clause-reads c world name user showing same of =
 
 pub returns-in_err-read_open-clause-reads : goal.returns-in_err-read_open-clause-reads
 returns-in_err-read_open-clause-reads c world name user showing same of =
-    let p = err_from_is_err_and c.from_residual.result c.from_residual.ensures.1 in
+    let p = err_from_is_err_and c.from_residual-in_err-read_open.result c.from_residual-in_err-read_open.ensures.1 in
     rw (p.1, p.2)
     (block-open-refused c.args.told.schema.now world name user showing c.args.lines.now c.take_line.new.self
     c.in_ok-field.field c.in_ok-field.ensures.takes _ _
@@ -34,7 +35,7 @@ returns-then-not-is_alone-clause-reads c world name user showing same of =
 
 pub returns-in_err-may_follow-clause-reads : goal.returns-in_err-may_follow-clause-reads
 returns-in_err-may_follow-clause-reads c world name user showing same of =
-    let p = err_from_is_err_and c.from_residual.result c.from_residual.ensures.1 in
+    let p = err_from_is_err_and c.from_residual-in_err-may_follow.result c.from_residual-in_err-may_follow.ensures.1 in
     rw (p.1, p.2)
     (block-may-not c.args.told.schema.now world name user showing c.args.lines.now c.take_line.new.self
     c.in_ok-field.field c.in_ok-field.ensures.takes
@@ -42,11 +43,12 @@ returns-in_err-may_follow-clause-reads c world name user showing same of =
 
 pub returns-in_err-read-clause-reads : goal.returns-in_err-read-clause-reads
 returns-in_err-read-clause-reads c world name user showing same of =
-    let p = err_from_is_err_and c.from_residual.result c.from_residual.ensures.1 in
+    let p = err_from_is_err_and c.from_residual-in_err-read.result c.from_residual-in_err-read.ensures.1 in
     rw (p.1, p.2)
     (block-refused c.args.told.schema.now world name user showing c.args.lines.now c.take_line.new.self
     c.in_ok-field.field c.in_ok-field.ensures.takes
-    c.args.reason of (search (rules, tests)) (search (rules, tests)) c.read_refutation.new.lines _ _ c.in_ok-may_follow.ensures
+    c.args.reason of (search (rules, tests)) (search (rules, tests)) {X = Unit {0}} c.read_refutation.new.lines (λ _. Ok (step showing [])) _
+    c.in_ok-may_follow.ensures
     (c.in_err-read.ensures.reads c.args.told.schema.now world name user showing))
 
 -- the refutation was confirmed, or wasn't
@@ -61,8 +63,8 @@ returns-then-branch-clause-reads c world name user showing same of =
     (premise_of c.args.probe.now) (goal_of c.args.probe.now) showing.probe (lines_of c.in_ok-read.read.0) _ c.requires.view.0 c.requires.view.1 same
     c.in_ok-confirm.ensures.right)
 
-pub returns-else-branch-clause-reads : goal.returns-else-branch-clause-reads
-returns-else-branch-clause-reads c world name user showing same of =
+pub returns-clause-reads : goal.returns-clause-reads
+returns-clause-reads c world name user showing same of =
     block-ended c.args.told.schema.now world name user showing c.args.lines.now c.take_line.new.self
     c.in_ok-field.field c.in_ok-field.ensures.takes
     c.args.reason of (search (rules, tests)) (search (rules, tests)) c.read_refutation.new.lines c.in_ok-read.read.1 (lines_of c.in_ok-read.read.0) false
@@ -76,5 +78,5 @@ returns-else-branch-clause-reads c world name user showing same of =
 
 pub returns-in_err-confirm-clause-reads : goal.returns-in_err-confirm-clause-reads
 returns-in_err-confirm-clause-reads c world name user showing same of =
-    let p = err_from_is_err_and c.from_residual.result c.from_residual.ensures.1 in
+    let p = err_from_is_err_and c.from_residual-in_err-confirm.result c.from_residual-in_err-confirm.ensures.1 in
     rw (p.1, p.2) tt

@@ -1,4 +1,4 @@
-use Rattle.std.proofs.Common.{◌≤◌, ◌++◌, map, refl, sym, subst, ◌∙◌, arith}
+use Rattle.std.proofs.Common.{◌≡◌, ◌≤◌, ◌||◌, ◌++◌, length, map, refl, sym, ap, subst, ◌∙◌, arith}
 use Rattle.std.specs.Prelude.{nat_le}
 use Rattle.std.proofs.lemmas.Bool.{leb-true}
 use Rattle.std.proofs.lemmas.List.Elements.{All-get_or}
@@ -8,8 +8,10 @@ use Rattle.cqe_base.specs.History.{profile_of, answered_query_of, log}
 use Rattle.entailment.specs.GroundSentences.{sentence_of, IsGroundOver}
 use Rattle.entailment.specs.Probes.{premise_list}
 use Rattle.entailment.specs.Views.{IsViewOf}
+use Rattle.dossier.specs.Checked.{awaited_for}
 use Rattle.dossier.proofs.Each.{none-read, one-more, one-refused, all-read, showing_at, passes-at}
 use Rattle.dossier.proofs.blocks.read_each.Goals as goal
+use Rattle.dossier.proofs.blocks.read_each.Goals.{then-some, else-some}
 
 pub loop-goal-init : goal.loop-goal-init
 loop-goal-init c = record {
@@ -56,7 +58,8 @@ returns-in_err-follows-clause-reads c world name user entries task more shown of
     let premises = log (profile_of c.args.told.user.now) (map answered_query_of c.args.told.entries.now) ++ premise_list c.args.premise in
     rw (p.1, p.2)
     (one-refused schema world name user entries task premises more shown sentence_of c.args.goals.now c.loop-goal.goal-index c.goal-item.result
-    c.goal-item.is c.loop-goal-test.true c.loop-goal.some c.args.lines.now c.loop-goal.lines c.read_block.new.lines _ _ _
+    c.goal-item.is c.loop-goal-test.true c.loop-goal.some c.args.lines.now c.loop-goal.lines c.read_block.new.lines (length c.args.goals.now)
+    (λ verdicts. awaited_for schema world name user entries task more (shown ++ verdicts)) _
     (c.loop-goal.invariant.reads world name user entries task more shown of)
     (λ verdicts. c.in_err-follows.ensures.reads world name user
     (showing_at schema world name user entries task premises more shown sentence_of c.args.goals.now c.loop-goal.goal-index c.goal-item.result verdicts)
@@ -66,14 +69,18 @@ pub loop-goal-preserved : goal.loop-goal-preserved
 loop-goal-preserved c =
     let schema = c.args.told.schema.now in
     let premises = log (profile_of c.args.told.user.now) (map answered_query_of c.args.told.entries.now) ++ premise_list c.args.premise in
+    let either : c.if-some.some ≡ (c.loop-goal.some || c.in_ok-follows.follows) = elim c.if-some.branch [
+      | then-some w ↦ w.some-is ∙ w.if-some.true ∙ sym (ap (λ some. some || c.in_ok-follows.follows) w.if-some.true)
+      | else-some w ↦ w.some-is ∙ sym (ap (λ some. some || c.in_ok-follows.follows) w.if-some.false)
+    ] in
     record {
-      reads = λ world name user entries task more shown of.
+      reads = λ world name user entries task more shown of. rw either (
           one-more schema world name user entries task premises more shown sentence_of c.args.goals.now c.loop-goal.goal-index c.goal-item.result
           c.goal-item.is c.loop-goal-test.true c.loop-goal.some c.in_ok-follows.follows c.args.lines.now c.loop-goal.lines c.read_block.new.lines
           (c.loop-goal.invariant.reads world name user entries task more shown of)
           (λ verdicts. c.in_ok-follows.ensures.reads world name user
           (showing_at schema world name user entries task premises more shown sentence_of c.args.goals.now c.loop-goal.goal-index c.goal-item.result
-          verdicts) refl of);
+          verdicts) refl of));
       less = omega (arith, c.read_block.ensures.less, c.loop-goal.invariant.less);
       same = c.read_block.ensures.same ∙ c.loop-goal.invariant.same;
     }

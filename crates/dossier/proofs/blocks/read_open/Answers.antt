@@ -37,10 +37,10 @@ returns-then-is_countermodel c = λ isnt.
     ap (λ b. if b then Ok tt else Err (refused.Verdict c.args.field.now.line)) (sym c.if-is_countermodel.true)
     ∙ shown (goal.at.returns-then-is_countermodel c).After-is_countermodel
 
-pub returns-else-is_countermodel : goal.returns-else-is_countermodel
-returns-else-is_countermodel c = λ isnt.
+pub returns : goal.returns
+returns c = λ isnt.
     ap (λ b. if b then Ok tt else Err (refused.Verdict c.args.field.now.line)) (sym c.if-is_countermodel.false)
-    ∙ shown (goal.at.returns-else-is_countermodel c).After-is_countermodel
+    ∙ shown (goal.at.returns c).After-is_countermodel
 
 -- ---- want of memory says nothing
 
@@ -51,5 +51,5 @@ returns-in_err-facts c = λ isnt.
 
 pub returns-in_err-world : goal.returns-in_err-world
 returns-in_err-world c = λ isnt.
-    let p = err_from_is_err_and c.from_residual.result c.from_residual.ensures.1 in
+    let p = err_from_is_err_and c.from_residual-in_err-world.result c.from_residual-in_err-world.ensures.1 in
     absurd (isnt (p.1 ∙ ap Err p.2))

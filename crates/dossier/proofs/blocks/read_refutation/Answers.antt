@@ -22,9 +22,9 @@ loop-field-preserved c = record {
   reads = λ schema world name user showing.
       c.loop-field.invariant.reads schema world name user showing
       ∙ step-more schema world name user showing (map line_of c.loop-field.read.items) c.loop-field.lines c.take_field.new.self
-      c.in-Some.field (rw c.in-Some.is at c.take_field.ensures.passes) (Some (line_of c.in-Some-line_in.line)) (search (rules, tests)) (search rules)
+      c.in-Some.field (rw c.in-Some.is at c.take_field.ensures.passes) (Some (line_of c.in-Some-2.line)) (search (rules, tests)) (search rules)
       ∙ ap (λ lines. answer schema world name user (Ok (step showing lines)) c.take_field.new.self)
-      (sym (ap (map line_of) c.in_ok-push.ensures.items ∙ map-append line_of c.loop-field.read.items (c.in-Some-line_in.line ∷ [])));
+      (sym (ap (map line_of) c.in_ok-push.ensures.items ∙ map-append line_of c.loop-field.read.items (c.in-Some-2.line ∷ [])));
   less = omega (arith, c.loop-field.invariant.less);
 }
 
@@ -33,8 +33,8 @@ pub loop-field-smaller : goal.loop-field-smaller
 loop-field-smaller c = let (here, at, next, less) = rw c.in-Some.is at c.take_field.ensures.passes in omega (arith, less)
 
 -- which writes none
-pub returns-in_default-clause-reads : goal.returns-in_default-clause-reads
-returns-in_default-clause-reads c schema world name user showing =
+pub returns-in_default-2-clause-reads : goal.returns-in_default-2-clause-reads
+returns-in_default-2-clause-reads c schema world name user showing =
     c.loop-field.invariant.reads schema world name user showing
     ∙ step-more schema world name user showing (map line_of c.loop-field.read.items) c.loop-field.lines c.take_field.new.self
     c.in-Some.field (rw c.in-Some.is at c.take_field.ensures.passes) None (search (rules, tests)) (search rules)
@@ -70,5 +70,5 @@ returns-in_err-line-clause-reads c schema world name user showing =
 
 pub returns-in_err-push-clause-reads : goal.returns-in_err-push-clause-reads
 returns-in_err-push-clause-reads c schema world name user showing =
-    let p = err_from_is_err_and c.from_residual.result c.from_residual.ensures.1 in
+    let p = err_from_is_err_and c.from_residual-in_err-push.result c.from_residual-in_err-push.ensures.1 in
     rw (p.1, p.2) tt

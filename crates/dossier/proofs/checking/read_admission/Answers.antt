@@ -1,4 +1,4 @@
-use Rattle.std.proofs.Common.{◌≡◌, ◌≤◌, ◌+◌, [], ◌++◌, map, refl, sym, ap, subst, ◌∙◌, arith, rules, tests, length}
+use Rattle.std.proofs.Common.{◌≡◌, ◌≤◌, ◌+◌, [], ◌++◌, map, refl, sym, ap, subst, ◌∙◌, arith, rules, tests, length, Ok}
 use Rattle.std.specs.Prelude.{nat_le}
 use Rattle.std.specs.List.{list_all}
 use Rattle.std.specs.Prelude.{All}
@@ -8,7 +8,7 @@ use Rattle.cqe_base.specs.History.{answered_query_of, log, known, user_at, is_hi
 use Rattle.cqe_base.specs.Censor.{guarded, probes_against}
 use Rattle.entailment.specs.Logs.{log_nodes}
 use Rattle.entailment.specs.GroundSentences.{sentence_of, IsGroundOver}
-use Rattle.dossier.specs.Checked.{admission, admitting}
+use Rattle.dossier.specs.Checked.{admission, admitting, item}
 use Rattle.dossier.specs.Reading.{field_said}
 use Rattle.dossier.specs.Logs.{past_schema, past_user, past_history}
 use Rattle.dossier.proofs.ItemLines.{line-missing, line-says, admission-form, admission-untrue}
@@ -73,8 +73,8 @@ pub returns-in_err-field-clause-reads : goal.returns-in_err-field-clause-reads
 returns-in_err-field-clause-reads c name =
     let p = err_from_is_err_and c.from_residual.result c.from_residual.ensures.1 in
     rw (p.1, p.2)
-    (line-missing (past_schema c.args.past.now) c.args.world.now name (past_user c.args.past.now) admission c.args.lines.now c.take_line.new.self _ _ refl
-    c.in_err-field.ensures.takes)
+    (line-missing (past_schema c.args.past.now) c.args.world.now name (past_user c.args.past.now) {X = Unit {0}} admission c.args.lines.now c.take_line.new.self
+    (λ _. Ok (item [])) _ refl c.in_err-field.ensures.takes)
 
 pub returns-then-not-is_alone-clause-reads : goal.returns-then-not-is_alone-clause-reads
 returns-then-not-is_alone-clause-reads c name =
@@ -93,7 +93,7 @@ returns-then-not-knows_truth_by-clause-reads c name =
 
 pub returns-in_err-read_each-clause-reads : goal.returns-in_err-read_each-clause-reads
 returns-in_err-read_each-clause-reads c name =
-    let p = err_from_is_err_and c.from_residual.result c.from_residual.ensures.1 in
+    let p = err_from_is_err_and c.from_residual-in_err-read_each.result c.from_residual-in_err-read_each.ensures.1 in
     let schema = past_schema c.args.past.now in
     let user = past_user c.args.past.now in
     let told = map answered_query_of c.as_slice.result.now in

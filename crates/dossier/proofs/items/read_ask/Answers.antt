@@ -68,7 +68,7 @@ shown_query-requires-clause-fits c =
 -- its blocks are refused
 pub returns-in_err-query-clause-reads : goal.returns-in_err-query-clause-reads
 returns-in_err-query-clause-reads c name =
-    let p = err_from_is_err_and c.from_residual.result c.from_residual.ensures.1 in
+    let p = err_from_is_err_and c.from_residual-in_err-query.result c.from_residual-in_err-query.ensures.1 in
     let past = c.args.past.now in
     let schema = past_schema past in
     let world = c.args.world.now in
@@ -82,8 +82,9 @@ returns-in_err-query-clause-reads c name =
     c.first_word.result.0.now text c.first_word.ensures.word c.first_word.ensures.rest c.in-Some.mark c.in-Some.ensures
     (grind (arith, nat_tests)) query read) in
     rw (p.1, p.2)
-    (reads-refused schema world name user _ c.args.lines.now c.shown_query.new.lines (λ _. Ok (item (past_history c.shown_query.new.past)))
-    c.args.lines.now (asked schema world name user c.args.field.now.line before c.in-Some.mark (length text) (Some query)) _ _ asks
+    (reads-refused schema world name user {X = Unit {0}} _ c.args.lines.now c.shown_query.new.lines (λ _. Ok (item (past_history c.shown_query.new.past)))
+    {Y = Unit {0}} c.args.lines.now (asked schema world name user c.args.field.now.line before c.in-Some.mark (length text) (Some query))
+    (λ _. Ok (item before)) _ asks
     (c.in_err-query.ensures.reads name (length text)))
 
 -- ---- the item
@@ -160,5 +161,5 @@ returns-in_err-asked-clause-reads c name =
 
 pub returns-in_err-add_answered-clause-reads : goal.returns-in_err-add_answered-clause-reads
 returns-in_err-add_answered-clause-reads c name =
-    let p = err_from_is_err_and c.from_residual.result c.from_residual.ensures.1 in
+    let p = err_from_is_err_and c.from_residual-in_err-add_answered.result c.from_residual-in_err-add_answered.ensures.1 in
     rw (p.1, p.2) tt

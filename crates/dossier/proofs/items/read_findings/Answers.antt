@@ -1,4 +1,4 @@
-use Rattle.std.proofs.Common.{◌≡◌, true, false, [], ◌∷◌, ◌++◌, sym, subst, ◌∙◌}
+use Rattle.std.proofs.Common.{◌≡◌, true, false, [], ◌∷◌, ◌++◌, Ok, Err, sym, subst, ◌∙◌}
 use Rattle.std.proofs.lemmas.Result.{err_from_is_err_and}
 use Rattle.cqe_base.specs.Formula.{is_sentence_of}
 use Rattle.cqe_base.specs.History.{log, user_at}
@@ -55,7 +55,7 @@ returns-in_err-implied-clause-reads c world name task of =
 
 pub returns-in_err-yes_harm-clause-reads : goal.returns-in_err-yes_harm-clause-reads
 returns-in_err-yes_harm-clause-reads c world name task of =
-    let p = err_from_is_err_and c.from_residual.result c.from_residual.ensures.1 in
+    let p = err_from_is_err_and c.from_residual-in_err-yes_harm.result c.from_residual-in_err-yes_harm.ensures.1 in
     let past = c.args.past.now in
     let query = sentence_of c.args.query.now in
     let told = log (past_user past) (past_history past) in
@@ -66,12 +66,12 @@ returns-in_err-yes_harm-clause-reads c world name task of =
     rw (p.1, p.2)
     (second-refused (past_schema past) world name (past_user past) (past_history past) task query c.args.lines.now c.read_implied.new.lines
     c.read_harm.new.lines c.in_ok-implied.implied _ (c.in_ok-implied.ensures.reads world name task (asserted ++ negated) of)
-    (λ shown. harm-at (past_schema past) _ world name (past_user past) _ (past_history past) _ task (query, true) negated shown _ _ _
-    one.0.schema one.0.user one.1 (c.in_err-yes_harm.ensures.reads world name task negated shown of)))
+    (λ shown. harm-at (past_schema past) _ world name (past_user past) _ (past_history past) _ task (query, true) negated shown
+    c.read_implied.new.lines c.read_harm.new.lines (Err _) one.0.schema one.0.user one.1 (c.in_err-yes_harm.ensures.reads world name task negated shown of)))
 
 pub returns-in_err-no_harm-clause-reads : goal.returns-in_err-no_harm-clause-reads
 returns-in_err-no_harm-clause-reads c world name task of =
-    let p = err_from_is_err_and c.from_residual.result c.from_residual.ensures.1 in
+    let p = err_from_is_err_and c.from_residual-in_err-no_harm.result c.from_residual-in_err-no_harm.ensures.1 in
     let past = c.args.past.now in
     let query = sentence_of c.args.query.now in
     let told = log (past_user past) (past_history past) in
@@ -84,9 +84,10 @@ returns-in_err-no_harm-clause-reads c world name task of =
     (third-refused (past_schema past) world name (past_user past) (past_history past) task query c.args.lines.now c.read_implied.new.lines c.read_harm.new.lines
     c.read_harm-2.new.lines c.in_ok-implied.implied c.in_ok-yes_harm.yes_harm _
     (c.in_ok-implied.ensures.reads world name task (asserted ++ negated) of)
-    (λ shown. harm-at (past_schema past) _ world name (past_user past) _ (past_history past) _ task (query, true) negated shown _ _ _
-    one.0.schema one.0.user one.1 (c.in_ok-yes_harm.ensures.reads world name task negated shown of))
-    (λ shown. harm-at (past_schema past) _ world name (past_user past) _ (past_history past) _ task (query, false) [] shown _ _ _
+    (λ shown. harm-at (past_schema past) _ world name (past_user past) _ (past_history past) _ task (query, true) negated shown
+    c.read_implied.new.lines c.read_harm.new.lines (Ok c.in_ok-yes_harm.yes_harm) one.0.schema one.0.user one.1 (c.in_ok-yes_harm.ensures.reads world name task negated shown of))
+    (λ shown. harm-at (past_schema past) _ world name (past_user past) _ (past_history past) _ task (query, false) [] shown
+    c.read_harm.new.lines c.read_harm-2.new.lines (Err _)
     (two.0.schema ∙ one.0.schema) (two.0.user ∙ one.0.user) (two.1 ∙ one.1) (c.in_err-no_harm.ensures.reads world name task [] shown of)))
 
 pub returns-clause-reads : goal.returns-clause-reads
@@ -102,7 +103,8 @@ returns-clause-reads c world name task of =
     findings-read (past_schema past) world name (past_user past) (past_history past) task query c.args.lines.now c.read_implied.new.lines c.read_harm.new.lines
     c.read_harm-2.new.lines c.in_ok-implied.implied c.in_ok-yes_harm.yes_harm c.in_ok-no_harm.no_harm
     (c.in_ok-implied.ensures.reads world name task (asserted ++ negated) of)
-    (λ shown. harm-at (past_schema past) _ world name (past_user past) _ (past_history past) _ task (query, true) negated shown _ _ _
-    one.0.schema one.0.user one.1 (c.in_ok-yes_harm.ensures.reads world name task negated shown of))
-    (λ shown. harm-at (past_schema past) _ world name (past_user past) _ (past_history past) _ task (query, false) [] shown _ _ _
+    (λ shown. harm-at (past_schema past) _ world name (past_user past) _ (past_history past) _ task (query, true) negated shown
+    c.read_implied.new.lines c.read_harm.new.lines (Ok c.in_ok-yes_harm.yes_harm) one.0.schema one.0.user one.1 (c.in_ok-yes_harm.ensures.reads world name task negated shown of))
+    (λ shown. harm-at (past_schema past) _ world name (past_user past) _ (past_history past) _ task (query, false) [] shown
+    c.read_harm.new.lines c.read_harm-2.new.lines (Ok c.in_ok-no_harm.no_harm)
     (two.0.schema ∙ one.0.schema) (two.0.user ∙ one.0.user) (two.1 ∙ one.1) (c.in_ok-no_harm.ensures.reads world name task [] shown of))

@@ -136,7 +136,7 @@ read_block-requires-clause-all_nodes c =
 -- it is refused
 pub returns-in_err-read_block-clause-reads : goal.returns-in_err-read_block-clause-reads
 returns-in_err-read_block-clause-reads c world name =
-    let p = err_from_is_err_and c.from_residual.result c.from_residual.ensures.1 in
+    let p = err_from_is_err_and c.from_residual-in_err-read_block.result c.from_residual-in_err-read_block.ensures.1 in
     let past = c.args.past.now in
     let schema = past_schema past in
     let user = past_user past in
@@ -147,9 +147,10 @@ returns-in_err-read_block-clause-reads c world name =
     let asks = ap (λ x. answer schema world name user x c.args.lines.now)
     (protect-read schema world name user before (field_said c.args.field.now) c.requires.protect (grind (arith, nat_tests)) secret read) in
     rw (p.1, p.2)
-    (reads-refused schema world name user _ c.args.lines.now c.read_block.new.lines (λ _. Ok (item before))
-    c.args.lines.now
-    (awaited_for schema world name user before (adding secret (length text)) (addition_probe user before secret ∷ []) []) _ _ asks
+    (reads-refused schema world name user {X = Unit {0}} _ c.args.lines.now c.read_block.new.lines (λ _. Ok (item before))
+    {Y = Unit {0}} c.args.lines.now
+    (awaited_for schema world name user before (adding secret (length text)) (addition_probe user before secret ∷ []) [])
+    (λ _. Ok (item before)) _ asks
     (c.in_err-read_block.ensures.reads world name user
     (record {
       entries = before;
@@ -239,15 +240,15 @@ returns-in_err-secret-clause-reads c world name =
 
 pub returns-in_err-guarded-clause-reads : goal.returns-in_err-guarded-clause-reads
 returns-in_err-guarded-clause-reads c world name =
-    let p = err_from_is_err_and c.from_residual.result c.from_residual.ensures.1 in
+    let p = err_from_is_err_and c.from_residual-in_err-guarded.result c.from_residual-in_err-guarded.ensures.1 in
     rw (p.1, p.2) tt
 
 pub returns-in_err-goal-clause-reads : goal.returns-in_err-goal-clause-reads
 returns-in_err-goal-clause-reads c world name =
-    let p = err_from_is_err_and c.from_residual.result c.from_residual.ensures.1 in
+    let p = err_from_is_err_and c.from_residual-in_err-goal.result c.from_residual-in_err-goal.ensures.1 in
     rw (p.1, p.2) tt
 
 pub returns-in_err-add_secret-clause-reads : goal.returns-in_err-add_secret-clause-reads
 returns-in_err-add_secret-clause-reads c world name =
-    let p = err_from_is_err_and c.from_residual.result c.from_residual.ensures.1 in
+    let p = err_from_is_err_and c.from_residual-in_err-add_secret.result c.from_residual-in_err-add_secret.ensures.1 in
     rw (p.1, p.2) tt

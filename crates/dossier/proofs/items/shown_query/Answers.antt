@@ -1,4 +1,4 @@
-use Rattle.std.proofs.Common.{◌≡◌, ◌≤◌, true, refl, sym, ap, subst, ◌∙◌, arith}
+use Rattle.std.proofs.Common.{◌≡◌, ◌≤◌, true, Err, refl, sym, ap, subst, ◌∙◌, arith}
 use Rattle.std.proofs.lemmas.Result.{err_from_is_err_and}
 use Rattle.std.proofs.lemmas.Bool.{both_ways}
 use Rattle.cqe_base.specs.Formula.{formula_of, nodes, is_sentence_of}
@@ -8,7 +8,8 @@ use Rattle.cqe_base.specs.Limits.{FitsLog}
 use Rattle.dossier.specs.Checked.{asking}
 use Rattle.dossier.specs.Reading.{answer}
 use Rattle.dossier.specs.Logs.{past_schema, past_user, past_history}
-use Rattle.dossier.proofs.Asking.{asked-undecided, shown-refused, shown-mark, other-mark}
+use Rattle.dossier.specs.declared.error.DossierError.TheVariants as refused
+use Rattle.dossier.proofs.Asking.{asked-undecided, shown-refused-at, shown-mark, other-mark}
 use Rattle.dossier.proofs.Sayings.{undecided-is, decided-is}
 use Rattle.dossier.proofs.items.shown_query.Goals as goal
 
@@ -26,8 +27,8 @@ read_findings-requires-clause-fits c =
     let past = c.args.past.now in
     subst (λ s. FitsLog (past_schema past) (past_user past) (past_history past) (formula_of s)) (sym c.in_ok-query.ensures.same) c.requires.fits
 
-pub holds-requires : goal.holds-requires
-holds-requires c =
+pub holds-truth-requires : goal.holds-truth-requires
+holds-truth-requires c =
     subst (λ schema. is_sentence_of schema (formula_of c.in_ok-query.query.sentence) ≡ true) (sym c.read_findings.ensures.same.0.schema)
     (subst (λ s. is_sentence_of (past_schema c.args.past.now) (formula_of s) ≡ true) (sym c.in_ok-query.ensures.same) c.requires.sentence)
 
@@ -43,14 +44,14 @@ returns-then-is_undecided-clause-reads c name size =
 
 pub returns-in_err-findings-clause-reads : goal.returns-in_err-findings-clause-reads
 returns-in_err-findings-clause-reads c name size =
-    let p = err_from_is_err_and c.from_residual.result c.from_residual.ensures.1 in
+    let p = err_from_is_err_and c.from_residual-in_err-findings.result c.from_residual-in_err-findings.ensures.1 in
     let past = c.args.past.now in
     let isnt = decided-is c.args.mark (sym c.is_undecided.ensures ∙ c.if-is_undecided.false) in
     rw (p.1, p.2)
-    (shown-refused (past_schema past) c.args.world.now name (past_user past) (past_history past) c.args.line (formula_of c.args.query) size c.args.mark isnt
-    c.args.lines.now c.read_findings.new.lines _ _
-    (rw c.in_ok-query.ensures.same at
-    (c.in_err-findings.ensures.reads c.args.world.now name (asking c.args.line c.args.mark (formula_of c.args.query) size) refl)))
+    (shown-refused-at (past_schema past) c.args.world.now name (past_user past) (past_history past) c.args.line (formula_of c.args.query) size c.args.mark
+    isnt c.args.lines.now c.read_findings.new.lines {X = Unit {0}} (λ _. Err refused.Memory) _ (formula_of c.in_ok-query.query.sentence)
+    (ap formula_of c.in_ok-query.ensures.same)
+    (c.in_err-findings.ensures.reads c.args.world.now name (asking c.args.line c.args.mark (formula_of c.args.query) size) refl))
 
 -- the mark is another
 pub returns-then-not-is_same-clause-reads : goal.returns-then-not-is_same-clause-reads

@@ -15,8 +15,7 @@ pub fact_text-requires : goal.fact_text-requires
 fact_text-requires c =
     let schema = c.args.schema.now in
     let facts = c.args.facts.now in
-    ap (is_fact_of schema) c.fact-item.is
-    ∙ All-get_or (λ f. is_fact_of schema f ≡ true) facts c.loop-fact.fact-index c.fact-item.result c.loop-fact-test.true
+    All-get_or (λ f. is_fact_of schema f ≡ true) facts c.loop-fact.fact-index _ c.loop-fact-test.true
     (AllPass-from_list_all (is_fact_of schema) facts c.requires)
 
 -- the text of one more fact
@@ -24,13 +23,12 @@ pub loop-fact-preserved : goal.loop-fact-preserved
 loop-fact-preserved c =
     let schema = c.args.schema.now in
     let facts = c.args.facts.now in
-    let fact = c.fact-item.result in
     let so_far = take c.loop-fact.fact-index facts in
     ap (map string_bytes) c.in_ok-push.ensures.items
     ∙ map-append string_bytes c.loop-fact.texts.items (_ ∷ [])
     ∙ (λ i. c.loop-fact.invariant i ++ c.in_ok-fact_text.ensures i ∷ [])
-    ∙ sym (map-append (fact_text schema) so_far (fact ∷ []))
-    ∙ ap (world_said schema) (sym (take_more facts c.loop-fact.fact-index fact c.loop-fact-test.true ∙ ap (λ f. so_far ++ f ∷ []) (sym c.fact-item.is)))
+    ∙ sym (map-append (fact_text schema) so_far (_ ∷ []))
+    ∙ ap (world_said schema) (sym (take_more facts c.loop-fact.fact-index _ c.loop-fact-test.true))
 
 -- all facts are told
 pub returns : goal.returns

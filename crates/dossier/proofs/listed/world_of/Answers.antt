@@ -1,16 +1,13 @@
-use Rattle.std.proofs.Common.{◌++◌, ◌∷◌, [], take, ap, sym, ◌∙◌, arith}
+use Rattle.std.proofs.Common.{ap, ◌∙◌, arith}
 use Rattle.std.specs.FinSet as set
-use Rattle.std.proofs.lemmas.List.{take_more, take_all}
-use Rattle.dossier.proofs.Worlds.{world-more}
+use Rattle.std.proofs.lemmas.List.{take_all}
+use Rattle.dossier.proofs.Worlds.{world-grown}
 use Rattle.dossier.proofs.listed.world_of.Goals as goal
 
 -- the world with one more fact
 pub loop-fact-preserved : goal.loop-fact-preserved
 loop-fact-preserved c =
-    let so_far = take c.loop-fact.fact-index c.args.facts.now in
-    c.in-Ok.ensures.added ∙ ap (λ world. set.insert world _) c.loop-fact.invariant
-    ∙ sym (world-more so_far _)
-    ∙ ap set.from_list (sym (take_more c.args.facts.now c.loop-fact.fact-index _ c.loop-fact-test.true))
+    world-grown c.args.facts.now c.loop-fact.fact-index _ _ _ c.loop-fact-test.true c.loop-fact.invariant c.in-Ok.ensures.added
 
 -- all facts are in it
 pub returns : goal.returns

@@ -12,7 +12,7 @@ pub loop-word-preserved : goal.loop-word-preserved
 loop-word-preserved c =
     c.loop-word.invariant
     ∙ one-read (λ word. word.now) number_of c.args.words.now c.loop-word.word-index _ c.loop-word-test.true
-    c.loop-word.chain.items c.in-Some.number (sym c.number_of.ensures ∙ c.in-Some.is)
+    c.loop-word.chain.items c.in-Some.number (sym c.number_of.ensures.value ∙ c.in-Some.is)
     ∙ ap (λ read. behind read (from (λ word. word.now) number_of c.args.words.now (c.loop-word.word-index + 1))) (sym c.in_ok-push-in-Some.ensures.items)
 
 -- a word that says nothing
@@ -20,7 +20,7 @@ pub returns-in-None : goal.returns-in-None
 returns-in-None c =
     sym (c.loop-word.invariant
     ∙ none-read (λ word. word.now) number_of c.args.words.now c.loop-word.word-index _ c.loop-word-test.true
-    c.loop-word.chain.items (sym c.number_of.ensures ∙ c.in-None.is))
+    c.loop-word.chain.items (sym c.number_of.ensures.value ∙ c.in-None.is))
 
 pub returns : goal.returns
 returns c =

@@ -3,7 +3,7 @@ use Rattle.std.specs.Prelude.{string_bytes}
 use Rattle.cqe_base.specs.Formula.{formula_of, nodes, is_sentence_of}
 use Rattle.cqe_base.specs.History.{log, user_at}
 use Rattle.cqe_base.specs.Outcome.{outcome}
-use Rattle.cqe_base.specs.Censor.{guard_by, admission_budget}
+use Rattle.cqe_base.specs.Censor.{guard_by, safe_with, admission_budget}
 use Rattle.entailment.specs.GroundSentences.{sentence_of}
 use Rattle.dossier.specs.Logs.{past_schema, past_user, past_history}
 use Rattle.dossier.specs.Items.{goal_probe}
@@ -47,6 +47,7 @@ push_goal-requires-clause-all_nodes c =
     omega (arith, c.requires.room)
 
 pub push_goal-requires-clause-unspent : goal.push_goal-requires-clause-unspent
+unfolding outcome safe_with
 push_goal-requires-clause-unspent c =
     let past = c.args.past.now in
     let told = log (past_user past) (past_history past) in

@@ -7,12 +7,12 @@ use Rattle.dossier.specs.Logs.{past_schema, past_user, past_history}
 use Rattle.dossier.proofs.Asks.{some-within, none-within}
 use Rattle.dossier.proofs.writing.read_text.Goals as goal
 
-pub returns-in-Some : goal.returns-in-Some
-returns-in-Some c =
+pub returns : goal.returns
+returns c =
     let past = c.args.past.now in
     let read : Some (formula_of c.in-Some.sentence)
     ≡ sentence_in (past_schema past) (world_of []) (past_user past) (past_history past) c.args.purpose c.args.said.now =
-    rw c.in-Some.is at (c.in_ok-sentence_in.ensures (world_of [])) in
+    rw c.in-Some.is at (c.in_ok-sentence.ensures (world_of [])) in
     (some-within (past_schema past) (world_of []) (past_user past) (past_history past) c.args.purpose c.args.said.now
     (formula_of c.in-Some.sentence) read).1
 
@@ -20,5 +20,5 @@ pub unreachable-requires : goal.unreachable-requires
 unreachable-requires c =
     let past = c.args.past.now in
     let none : None ≡ sentence_in (past_schema past) (world_of []) (past_user past) (past_history past) c.args.purpose c.args.said.now =
-    rw c.in-None.is at (c.in_ok-sentence_in.ensures (world_of [])) in
+    rw c.in-None.is at (c.in_ok-sentence.ensures (world_of [])) in
     none-within (past_schema past) (world_of []) (past_user past) (past_history past) c.args.purpose c.args.said.now c.args.mark c.requires.within none

@@ -1,7 +1,7 @@
 use Rattle.std.proofs.Common.{[], List, map, arith}
 use Rattle.log_journal.specs.Opening.{header_bytes, recorded}
 use Rattle.log_journal.specs.Records.{Recorded}
-use Rattle.standby_engine.proofs.Openings.{lasts_first}
+use Rattle.standby_engine.proofs.Begun.{lasts_first}
 use Rattle.standby_engine.proofs.opening.open_held.Goals as goal
 
 pub returns-in-Ok-clause-opened : goal.returns-in-Ok-clause-opened
@@ -17,7 +17,7 @@ returns-in-Ok-clause-opened g c = λ told.
 
 pub returns-in-Ok-clause-sound : goal.returns-in-Ok-clause-sound
 returns-in-Ok-clause-sound g c =
-    let count = c.len.ensures in
+    let count = c.len-count.ensures in
     let number = c.in-Ok.ensures.number in
     (c.in-Ok.ensures.whole, omega (arith, count, number))
 

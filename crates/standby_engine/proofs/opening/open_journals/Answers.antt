@@ -116,6 +116,10 @@ returns-in-Err-clause-refused g c = λ told.
     let same = (left g at.After-give_back (stays g at.In-Err)).same told in
     (λ name. (same name).0, λ name. (same name).1, λ name. (same name).2)
 
+pub returns-in-Err-clause-files : goal.returns-in-Err-clause-files
+returns-in-Err-clause-files g c name =
+    c.give_back.ensures.files name ∙ c.open_one.ensures.files name ∙ c.loop-user.invariant.files name
+
 pub returns-in-Err-clause-cause : goal.returns-in-Err-clause-cause
 returns-in-Err-clause-cause g c = λ is.
     let same = c.give_back.ensures.faults in

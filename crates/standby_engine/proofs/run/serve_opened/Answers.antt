@@ -16,8 +16,8 @@ use Rattle.standby_engine.specs.Opened.{place_refusal, given_journal, journals_i
 use Rattle.standby_engine.specs.Standing.{LeavesCopies, AreCopied, IsServed, IsSilent, IsBroken}
 use Rattle.standby_engine.specs.declared.opening.Given.{Given as Back}
 use Rattle.standby_engine.proofs.Parting.{each_parted, names_many}
-use Rattle.standby_engine.proofs.Mirroring.{parted, held_disk, firsts_of, counts_of, places_many, first_lasts, first_counted, first_sound, can_distinct}
-use Rattle.standby_engine.proofs.Mirroring.{can_out, all_returned, AreBack, are_back, fell_all, some_failed, rose_of, all_copied}
+use Rattle.standby_engine.proofs.Mirroring.{parted, held_disk, firsts_of, counts_of, places_many, first_lasts, first_counted, first_sound, can_distinct, can_out}
+use Rattle.standby_engine.proofs.Mirroring.{all_returned, AreBack, are_back, fell_all, some_failed, rose_of, all_copied}
 use Rattle.standby_engine.proofs.Ending.{ended_at, failed_at, broken_at, never_silent, leaves_at}
 use Rattle.standby_engine.proofs.run.serve_opened.Given.{Over}
 use Rattle.standby_engine.proofs.run.serve_opened.Goals as goal

@@ -5,7 +5,7 @@ use Rattle.outside.specs.Visits.{visit_of}
 use Rattle.standby_core.specs.Books.{copies_in}
 use Rattle.standby_core.specs.Exchanges.{Serves}
 use Rattle.standby_engine.specs.Served.{IsServedVisit}
-use Rattle.standby_engine.proofs.Servings.{none_served, one_served, written_alone}
+use Rattle.standby_engine.proofs.Visits.{none_served, one_served, written_alone}
 use Rattle.standby_engine.proofs.serving.serve_door.Goals as goal
 
 pub loop-init : goal.loop-init
@@ -22,29 +22,29 @@ loop-init g c = record {
 
 -- both ends go back to the door of which they are
 pub done-requires-clause-last : goal.done-requires-clause-last
-done-requires-clause-last g c = λ told. c.next.ensures.last told ∙ ap Some (sym c.serve_standby.ensures.held)
+done-requires-clause-last g c = λ told. c.next.ensures.last told ∙ ap Some (sym c.serve_standby-end.ensures.held)
 
 pub done-requires-clause-client : goal.done-requires-clause-client
-done-requires-clause-client g c = λ told. c.serve_standby.ensures.answers ∙ c.next.ensures.client told ∙ sym c.serve_standby.ensures.held
+done-requires-clause-client g c = λ told. c.serve_standby-end.ensures.answers ∙ c.next.ensures.client told ∙ sym c.serve_standby-end.ensures.held
 
 pub loop-preserved : goal.loop-preserved
 loop-preserved g c =
     let before = c.loop.invariant in
-    let served = c.serve_standby.ensures in
+    let served = c.serve_standby-end.ensures in
     record {
       served = λ told disk.
           let ends = g.met.O.Door.tells_ends told in
           let all = served.serves ends.0 disk ends.1 in
-          let visit : IsServedVisit c.args.header.now (copies_in g.D.Disk.reads c.loop.book) (copies_in g.D.Disk.reads c.serve_standby.new.book)
-          (visit_of (g.O.Src.Source.held c.serve_standby.new.source) (g.O.Snk.Sink.written c.serve_standby.new.sink)
-          (g.O.Src.Source.faults c.serve_standby.new.source) (g.O.Snk.Sink.faults c.serve_standby.new.sink)) = record {
-            end = c.serve_standby.result;
+          let visit : IsServedVisit c.args.header.now (copies_in g.D.Disk.reads c.loop.book) (copies_in g.D.Disk.reads c.serve_standby-end.new.book)
+          (visit_of (g.O.Src.Source.held c.serve_standby-end.new.source) (g.O.Snk.Sink.written c.serve_standby-end.new.sink)
+          (g.O.Src.Source.faults c.serve_standby-end.new.source) (g.O.Snk.Sink.faults c.serve_standby-end.new.sink)) = record {
+            end = c.serve_standby-end.result;
             served = subst (λ bytes. Serves c.args.header.now bytes (copies_in g.D.Disk.reads c.loop.book)
-                (copies_in g.D.Disk.reads c.serve_standby.new.book) c.serve_standby.result) (c.next.ensures.untaken ends.0 ∙ sym served.held) all.0;
-            answered = written_alone c.serve_standby.result all.0.answers _ _ (c.next.ensures.unwritten ends.1) all.1;
+                (copies_in g.D.Disk.reads c.serve_standby-end.new.book) c.serve_standby-end.result) (c.next.ensures.untaken ends.0 ∙ sym served.held) all.0;
+            answered = written_alone c.serve_standby-end.result all.0.answers _ _ (c.next.ensures.unwritten ends.1) all.1;
           } in
           one_served g.O.Door.given g.O.Door.back c.args.header.now (copies_in g.D.Disk.reads c.args.book.now) (copies_in g.D.Disk.reads c.loop.book)
-          (copies_in g.D.Disk.reads c.serve_standby.new.book) c.args.door.now c.loop.door c.done.new.self _ (before.served told disk) visit
+          (copies_in g.D.Disk.reads c.serve_standby-end.new.book) c.args.door.now c.loop.door c.done.new.self _ (before.served told disk) visit
           (c.done.ensures.given told ∙ c.next.ensures.given told) (c.done.ensures.back told ∙ ap (λ l. l ++ _) (c.next.ensures.back told));
       count = λ told. omega (arith, before.count told, c.done.ensures.given told, c.next.ensures.given told);
       left = λ told. omega (
@@ -62,8 +62,8 @@ loop-preserved g c =
       faults = omega (arith, before.faults, c.done.ensures.faults, c.next.ensures.cause.later);
     }
 
-pub returns-in-None-clause-ended : goal.returns-in-None-clause-ended
-returns-in-None-clause-ended g c = λ is.
+pub returns-in-Ok-None-clause-ended : goal.returns-in-Ok-None-clause-ended
+returns-in-Ok-None-clause-ended g c = λ is.
     subst (λ n. Rose n (g.O.Door.ends c.next.new.self)) c.loop.invariant.ends c.next.ensures.end
 
 pub returns-in-Err-clause-failed : goal.returns-in-Err-clause-failed

@@ -11,7 +11,7 @@ abbrev pub invariant-loop : goal.invariant-loop
 invariant-loop g l = record {
   served : g.O.Door.tells → g.D.Disk.tells
       → IsDoorServed g.O.Door.given g.O.Door.back l.header (copies_in g.D.Disk.reads l.fn.book) (copies_in g.D.Disk.reads l.book) l.fn.door l.door;
-  count : g.O.Door.tells → g.O.Door.given l.door ≡ g.O.Door.given l.fn.door + l.index;
+  count : g.O.Door.tells → g.O.Door.given l.door ≡ g.O.Door.given l.fn.door + l.counter;
   left : g.O.Door.tells → g.O.Door.left l.fn.door + g.O.Door.given l.fn.door ≡ g.O.Door.left l.door + g.O.Door.given l.door;
   lasts : g.D.Disk.tells → (own : List ℕ) (firsts : List (List Recorded)) → AllLast g.D.Disk.reads g.D.Disk.image own firsts (held_in l.fn.book)
       → AllLast g.D.Disk.reads g.D.Disk.image own firsts (held_in l.book);

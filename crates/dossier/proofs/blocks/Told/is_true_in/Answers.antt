@@ -16,5 +16,6 @@ pub returns-else-knows_truth : goal.returns-else-knows_truth
 returns-else-knows_truth c =
     let schema = c.args.self.schema.now in
     let entries = map answered_query_of c.args.self.entries.now in
-    sym (log-holds schema c.args.world.now (profile_of c.args.self.user.now) entries
+    c.if-knows_truth.false
+    ∙ sym (log-holds schema c.args.world.now (profile_of c.args.self.user.now) entries
     ∙ ap (λ b. b && all_hold_in schema c.args.world.now (told entries)) (sym c.knows_truth.ensures ∙ c.if-knows_truth.false))
