@@ -11,9 +11,15 @@ tree, name, flags = os.path.abspath(sys.argv[1]), sys.argv[2], sys.argv[3:]
 import fcntl, time
 if not os.environ.get("LEAD"):
     # one helper's check at a time, and none while the lead has the machine
-    LOCK = open("/work/helpers/M/helper.lock", "w")
-    print("dbg: waiting for the other helper's check to end", flush=True)
-    fcntl.flock(LOCK, fcntl.LOCK_EX)
+    print("dbg: waiting for the other helpers' checks to end", flush=True)
+    LOCKS = [open(f"/work/helpers/M/helper.lock.{i}", "w") for i in range(6)]
+    got = False
+    while not got:
+        for l in LOCKS:
+            try:
+                fcntl.flock(l, fcntl.LOCK_EX | fcntl.LOCK_NB); got = True; break
+            except OSError: pass
+        if not got: time.sleep(2)
     while os.path.exists("/work/helpers/M/quiet"):
         time.sleep(5)
     print("dbg: begins", flush=True)

