@@ -4,18 +4,21 @@
 _cqe_options() {
     case $1 in
         init) echo --policy --facts --journals ;;
-        batch) echo --policy --facts --journals --workers ;;
+        batch) echo --policy --facts --journals --workers --standby ;;
         audit) echo --policy --facts --journals --user --json ;;
         selfrun) echo --seed --users --asks ;;
-        serve) echo --policy --facts --journals --listen --workers --sessions ;;
+        serve) echo --policy --facts --journals --listen --workers --sessions --standby ;;
         migrate) echo --policy --facts --journals --to ;;
+        dossier) echo --policy --facts --journals --user ;;
+        check) echo --policy --facts --user ;;
+        standby) echo --policy --facts --journals --listen --sessions ;;
     esac
 }
 
 # The users of the policy that the words name so far.
 _cqe_users() {
     local place file=
-    for ((place = 2; place < COMP_CWORD; place++)); do
+    for ((place = 1; place < COMP_CWORD; place++)); do
         [[ ${COMP_WORDS[place]} == --policy ]] || continue
         file=${COMP_WORDS[place + 1]}
         [[ $file == = ]] && file=${COMP_WORDS[place + 2]}
@@ -47,7 +50,7 @@ _cqe_value() {
             mapfile -t COMPREPLY < <(compgen -d -- "$2")
             ;;
         --user) mapfile -t COMPREPLY < <(compgen -W "$(_cqe_users)" -- "$2") ;;
-        --listen) mapfile -t COMPREPLY < <(compgen -W 127.0.0.1:7007 -- "$2") ;;
+        --listen | --standby) mapfile -t COMPREPLY < <(compgen -W 127.0.0.1:7007 -- "$2") ;;
         --seed | --users | --asks | --status | --workers | --sessions | --connect-timeout | --reply-timeout) ;;
         *) return 1 ;;
     esac
@@ -104,8 +107,10 @@ _cqe() {
     if [[ ${COMP_WORDS[0]##*/} == cqe-ask ]]; then
         choices="--phrase-file --history --connect-timeout --reply-timeout --tls --ca --cert --key --help"
         [[ $current == -* ]] || return
+    elif [[ ${COMP_WORDS[0]##*/} == cqe-lrat ]]; then
+        choices="--policy --facts --user --to --help"
     elif ((COMP_CWORD == 1)); then
-        choices="case init batch audit selfrun serve migrate"
+        choices="case init batch audit selfrun serve migrate dossier check standby"
     else
         choices=$(_cqe_options "${COMP_WORDS[1]}")
     fi
@@ -113,4 +118,4 @@ _cqe() {
     mapfile -t COMPREPLY < <(compgen -W "$(_cqe_unused $choices)" -- "$current")
 }
 
-complete -F _cqe cqe cqe-ask cqe-check cqe-explain cqe-lab cqe-ready
+complete -F _cqe cqe cqe-ask cqe-check cqe-explain cqe-lab cqe-lrat cqe-ready

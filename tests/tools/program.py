@@ -33,6 +33,17 @@ def with_secrecies(test):
     return unittest.skipUnless(wanted() and knows_secrecies(), "needs a program that knows secrecies")(test)
 
 
+def knows_dossiers():
+    """Whether the program is new enough for the commands `dossier` and `check`: it looks for the files that they name."""
+    nowhere = ["--policy", "nothing here", "--facts", "nothing here", "--user", "u"]
+    return bool(path()) and run("check", *nowhere).returncode == 8
+
+
+def with_dossiers(test):
+    """A decorator as `needed`, for what an older program doesn't know."""
+    return unittest.skipUnless(wanted() and knows_dossiers(), "needs a program that writes dossiers")(test)
+
+
 def needed(test):
     """A decorator of a test or of a class of tests: skipped where the program isn't there or isn't wanted."""
     return unittest.skipUnless(wanted() and path(), "needs the program")(test)

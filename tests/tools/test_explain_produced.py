@@ -53,6 +53,24 @@ class Produced(InDirectory):
         self.assertIn("What to do: ", blocks[0])
 
 
+@program.with_dossiers
+class Dossiers(Produced):
+    def test_14_a_changed_dossier(self):
+        self.init()
+        wrote = program.run("dossier", *self.files, "--user", "eve").stdout.decode()
+        self.files = self.files[:4]  # a check takes no journals
+        self.assertEqual(self.around("check", "--user", "eve", given=wrote)[:2], (0, ["sound 0"]))
+        last = wrote.count("\n")
+        ran = self.around("check", "--user", "eve", given=wrote.replace("done 0", "done 1"))
+        self.assertExplains(ran, 14, [], f"cqe: dossier 1 {last}", f"Line {last}", "done 1")
+
+    def test_6_a_dossier_that_is_not_read(self):
+        self.init()
+        self.files = self.files[:4]
+        ran = self.around("check", "--user", "eve", redirected="< /")
+        self.assertExplains(ran, 6, [], "cqe: read fault", "nothing was checked", "a directory")
+
+
 class Statuses(Produced):
     def test_6_an_input_that_fails(self):
         ran = self.around("batch", redirected="< /")

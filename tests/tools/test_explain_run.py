@@ -31,8 +31,14 @@ WORDS = [
     (["audit", *FILES, "--user", "eve", "--json=yes"], "--json=yes", ["--json", "takes none"]),
     (["serve", *FILES, "--listen"], "--listen", ["--listen", "nothing behind it"]),
     (["serve", *FILES, "--listen", "127.0.0.1:7007", "--workers", "65"], "65", ["'65'", "--workers", "1 to 64"]),
+    (["serve", *FILES, "--listen", "127.0.0.1:7007", "--standby="], "--standby=", ["--standby", "empty"]),
+    (["standby", *FILES], None, ["--listen", "wanting"]),
+    (["standby", *FILES, "--listen", "127.0.0.1:7007", "--workers", "2"], "--workers", ["'--workers'", "batch, serve"]),
     (["migrate", *FILES], None, ["--to", "wanting"]),
     (["migrate", *FILES, "--to=j"], "--to=j", ["both 'j'", "another directory"]),
+    (["dossier", *FILES], None, ["--user", "wanting"]),
+    (["check", *FILES, "--user", "eve"], "--journals", ["'--journals'", "audit", "dossier"]),
+    (["check", "--policy", "p", "--facts", "f", "--user", "eve", "eve.dossier"], "eve.dossier", ["dossier", "< eve.dossier"]),
     (["selfrun", "--seed", "-1", "--users", "1", "--asks", "1"], "--seed", ["--seed", "'-1'"]),
     (["selfrun", "--seed", "1", "--users", "0", "--asks", "1"], "0", ["'0'", "1 to 256"]),
     (["batch", *FILES, "--help"], "--help", ["no help"]),
@@ -58,6 +64,7 @@ class Statuses(InDirectory):
         8: ("missing /nowhere/p", ["'/nowhere/p'", "'/nowhere'"]), 9: ("shelf fault", ["directory", "mkdir"]),
         10: ("journal eve not a journal", ["'eve'", "init"]), 11: ("disk fault", ["sync", "error 40"]),
         12: ("links fault", ["listen", "127.0.0.1:7007"]), 13: ("out of memory", ["memory"]),
+        14: ("dossier 4 4", ["Line 4", "mark"]),
     }
 
     def test_each_complaint_has_a_sentence(self):
@@ -69,6 +76,14 @@ class Statuses(InDirectory):
         for status, (said, _) in self.COMPLAINTS.items():
             with self.subTest(status):
                 self.assertSays(of_status(status), "cqe: " + said.split()[0])
+
+    def test_each_refusal_of_a_dossier_has_a_sentence(self):
+        for said, words in (("1 9", ["Line 9", "missing"]), ("1 0", ["UTF-8"]), ("2 4", ["Line 4", "no sentence"]),
+                            ("3 7", ["Line 7", "refutation", "world"]), ("4 4", ["Line 4", "mark", "blocks"]),
+                            ("5 0", ["67,108,864"]), ("6 1", ["Line 1", "admissible", "cqe audit"]),
+                            ("7 5", ["Line 5", "safe"])):
+            with self.subTest(said):
+                self.assertSays(self.explained_once("cqe: dossier " + said), *words)
 
     def test_the_option_for_a_status(self):
         ran = subprocess.run([EXPLAIN, "--status", "9"], capture_output=True, text=True)

@@ -188,7 +188,8 @@ class Completion(Temporary):
         table = re.findall(r"^\| `(\w+)` \|(.*)\|$", (TOP / "docs/FORMATS.md").read_text().partition("## The words")[2]
                            .partition("## Replies")[0], re.MULTILINE)
         commands = {command: re.findall(r"--\w+", options) for command, options in table}
-        self.assertEqual(set(commands), {"case", "init", "batch", "audit", "selfrun", "serve", "migrate"})
+        self.assertEqual(set(commands), {"case", "init", "batch", "audit", "selfrun", "serve", "migrate", "dossier",
+                                         "check", "standby"})
         self.assertEqual(set(self.completed("cqe", "")), set(commands))
         for command, options in commands.items():
             self.assertEqual(set(self.completed("cqe", command, "")), set(options), command)
@@ -212,6 +213,7 @@ class Completion(Temporary):
         self.assertEqual(self.completed("cqe", "audit", "--policy", "=", "ward.policy", "--user", "=", "n"), ["nurse"])
         self.assertEqual(self.completed("cqe", "serve", "--workers", ""), [])
         self.assertEqual(self.completed("cqe", "batch", "--w"), ["--workers"])
+        self.assertEqual(self.completed("cqe", "batch", "--standby", ""), ["127.0.0.1:7007"])
 
     def test_the_options_of_cqe_ask_are_its_own(self) -> None:
         said = self.run_at(TOP / "clients/python/cqe-ask", "--help").stdout
@@ -233,6 +235,15 @@ class Completion(Temporary):
         self.assertEqual(self.completed("cqe-check", "--"), ["--help"])
         self.assertEqual(self.completed("cqe-ready", ""), ["127.0.0.1:7007"])
         self.assertEqual(self.completed("cqe-ready", "127.0.0.1:7007", ""), [])
+
+    def test_the_words_of_cqe_lrat(self) -> None:
+        (self.place / "a.policy").write_text('[[users]]\nname = "nurse"\n')
+        (self.place / "pairs").mkdir()
+        said = self.run_at(TOP / "tools/cqe-lrat", "--help").stdout.partition("options:")[2]
+        self.assertEqual(set(self.completed("cqe-lrat", "--")), set(re.findall(r"--[a-z]+", said)))
+        self.assertEqual(self.completed("cqe-lrat", "--policy", "a.p"), ["a.policy"])
+        self.assertEqual(self.completed("cqe-lrat", "--policy", "a.policy", "--user", ""), ["nurse"])
+        self.assertEqual(self.completed("cqe-lrat", "--to", "p"), ["pairs"])
 
     def test_the_words_of_cqe_explain(self) -> None:
         said = self.run_at(TOP / "tools/cqe-explain", "--help").stdout.partition("options:")[2]

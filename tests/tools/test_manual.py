@@ -75,7 +75,7 @@ class Codes(unittest.TestCase):
             for word in re.findall(r"`([a-z]+(?: \d+)?)", reply):
                 self.assertRegex(page, rf"\n\.BR? .*\b{word}\b", word)
         statuses = self.rows("## Status and complaints")
-        self.assertEqual(len(statuses), 13)
+        self.assertEqual(len(statuses), 14)
         for status, complaint in zip(statuses, self.rows("## Status and complaints", 2), strict=True):
             said = re.match(r"`(cqe: [a-z ]*[a-z])", complaint)
             self.assertRegex(page, rf'\n\.BR? {status}(\n| ", " "{re.escape(said[1])})' if said else r"\n\.B 0\n")

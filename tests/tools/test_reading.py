@@ -8,7 +8,7 @@ import program
 from told import POLICY  # makes the tools' modules found, too
 
 from cqe_tools.schemas import Schema
-from cqe_tools.sentences import Refused, nodes_of
+from cqe_tools.sentences import Refused, nodes_of, sentence_of
 from cqe_tools.toml_places import plain, tree_of
 
 SCHEMA = Schema([("person", ["ann", "bob"]), ("ward", ["w1", "w2", "w3"])],
@@ -53,6 +53,24 @@ def read(text):
         return f"error 20 {refused.kind} {refused.place}"
 
 
+def printed(sentence, depth=1):
+    """The canonical form of a sentence within so many quantifiers and 1."""
+    terms = [term if isinstance(term, str) else f"v{term + 1}" for term in sentence.parts if isinstance(term, (str, int))]
+    parts = [printed(part, depth + (sentence.sort in ("forall", "exists"))) for part in sentence.parts if not terms]
+    match sentence.sort:
+        case "true" | "false":
+            return sentence.sort
+        case "atom":
+            return f"{sentence.name}({', '.join(terms)})"
+        case "=" | "!=":
+            return f" {sentence.sort} ".join(terms)
+        case "not":
+            return f"not {parts[0]}"
+        case "forall" | "exists":
+            return f"({sentence.sort} v{depth}: {sentence.name} . {parts[0]})"
+    return f"({parts[0]} {sentence.sort} {parts[1]})"
+
+
 class Sentences(unittest.TestCase):
     def test_nodes(self):
         # A quantifier counts its sentence once for each constant, and 1.
@@ -61,6 +79,23 @@ class Sentences(unittest.TestCase):
         for text, nodes in cases.items():
             with self.subTest(text):
                 self.assertEqual(nodes_of(SCHEMA, text.encode()), nodes)
+
+    def test_what_they_say(self):
+        """Beside the canonical form, which has parentheses around each connective and each quantifier."""
+        cases = {
+            "true": "true", "z()": "z()", "hiv( ann )": "hiv(ann)", "w1 != w2": "w1 != w2", "not not z()": "not not z()",
+            "z() or false and z() or true": "((z() or (false and z())) or true)",
+            "z() -> true -> false": "(z() -> (true -> false))", "z() -> true <-> z() or z()":
+            "((z() -> true) <-> (z() or z()))", "not z() and z()": "(not z() and z())",
+            "exists x: person . forall y: ward . lies(x, y) and x = bob -> hiv(x)":
+            "(exists v1: person . (forall v2: ward . ((lies(v1, v2) and v1 = bob) -> hiv(v1))))",
+            "forall x: person . hiv(x) and (exists x: ward . lies(ann, x) and (forall ann: person . hiv(ann)))":
+            "(forall v1: person . (hiv(v1) and (exists v2: ward . (lies(ann, v2) and (forall v3: person . hiv(v3))))))",
+        }
+        for text, canonical in cases.items():
+            with self.subTest(text):
+                self.assertEqual(printed(sentence_of(SCHEMA, text.encode())), canonical)
+                self.assertEqual(sentence_of(SCHEMA, canonical.encode()), sentence_of(SCHEMA, text.encode()))
 
     @program.needed
     def test_they_are_read_as_the_program_reads_them(self):

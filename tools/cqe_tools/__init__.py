@@ -1,1 +1,1 @@
-"""What cqe-explain and cqe-check share: they read the files of cqe as docs/FORMATS.md says, and explain its codes."""
+"""What the tools share: they read the files of cqe as docs/FORMATS.md says, and explain its codes."""

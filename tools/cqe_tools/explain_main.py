@@ -111,7 +111,7 @@ class Wrapped:
 
     def __init__(self, command, read):
         self.lines = []
-        self.read = read  # whether the command reads a script from standard input
+        self.read = read  # whether the command reads standard input
         self.unwritten = None  # why a reply couldn't be handed on
         given, self.kept = self.source()
         self.child = subprocess.Popen(command, stdin=given, stdout=subprocess.PIPE, stderr=subprocess.PIPE)
@@ -197,18 +197,20 @@ def wrap(given, command):
     spoken = words_of(command)
     read = words.Words(spoken)
     try:
-        run = Wrapped(command, read.command in ("case", "batch"))
+        run = Wrapped(command, read.command in ("case", "batch", "check"))
     except OSError as error:
         print(f"cqe-explain: {command[0]} can't be started: {error.strerror}", file=sys.stderr)
         return NOT_STARTED
     status = run.run()
-    script = given.script
-    if script is None and run.kept is not None:
+    script, dossier = given.script, None
+    if run.kept is not None and read.command == "check":
+        dossier = Text("standard input", bytes(run.kept))
+    elif script is None and run.kept is not None:
         script = Text("standard input", bytes(run.kept))
     values = read.values
     context = Context(given.policy or values.get("policy"), given.facts or values.get("facts"), script,
                       given.journals or values.get("journals"), given.listen or values.get("listen"), spoken,
-                      read.command if read.command in ("case", "batch") else None, values.get("to"))
+                      read.command if read.command in ("case", "batch") else None, values.get("to"), dossier)
     explainer = Explainer(context, complete=True)
     for line in run.lines:
         explainer.take(line)

@@ -3,19 +3,19 @@
 import re
 from functools import cached_property
 
-from . import facts, journals, policies, replies, scripts, surroundings, words
+from . import facts, journals, policies, refused_dossiers, replies, scripts, surroundings, words
 from .places import Finding, Text, quoted
 from .policies import PolicyFile
 
 COMPLAINT = "cqe: "
 MOST_SHOWN = 200
-PARTS = re.compile(r"(policy|facts|script|missing|journal) (.*)", re.S)
+PARTS = re.compile(r"(policy|facts|script|missing|journal|dossier) (.*)", re.S)
 
 STATUSES = {
     0: "All is done, and each ask was answered.",
     1: "This isn't a status of the program itself: ./cqe ends so where it can't be built, and cqe-check where a user "
     "is closed.",
-    2: "The words have no reading, or audit names a user whom the policy hasn't (cqe: usage).",
+    2: "The words have no reading, or --user names a user whom the policy hasn't (cqe: usage).",
     3: "The policy is refused (cqe: policy KIND PLACE); nothing was opened.",
     4: "The facts are refused (cqe: facts KIND LINE); nothing was opened.",
     5: "The script is refused (cqe: script KIND LINE); no ask was answered.",
@@ -24,10 +24,11 @@ STATUSES = {
     8: "The policy file or the facts file isn't there (cqe: missing NAME).",
     9: "A file or the directory of the journals couldn't be opened (cqe: shelf fault).",
     10: "A user's journal was refused (cqe: journal NAME CAUSE), or isn't empty where one would be moved to; batch and "
-    "serve served the others.",
-    11: "A write or a sync of a journal failed (cqe: disk fault).",
-    12: "The server couldn't listen at its address, or take in a client (cqe: links fault).",
+    "serve served the others, and standby copied them.",
+    11: "A write or a sync of a journal failed, or a standby didn't answer for a record (cqe: disk fault).",
+    12: "The server or the standby couldn't listen at its address, or take in a client (cqe: links fault).",
     13: "Memory was wanting (cqe: out of memory).",
+    14: "The dossier is refused (cqe: dossier KIND LINE): it doesn't show what it says.",
 }
 STATUS_ADVICE = "the line on standard error says more: give it to cqe-explain, with --policy, --facts and --script"
 
@@ -36,13 +37,14 @@ class Context:
     """The files and words of a run, as far as they are known."""
 
     def __init__(self, policy=None, facts=None, script=None, journals=None, listen=None, words=None, sort=None,
-                 to=None):
+                 to=None, dossier=None):
         self.policy_name = policy
         self.facts_name = facts
         self.journals = journals
         self.to = to
         self.listen = listen
         self.words = words
+        self.dossier = dossier
         self.policy = PolicyFile.of_file(policy)
         self.facts = Text.of_file(facts) if facts is not None else None
         self.script = script if isinstance(script, Text) or script is None else Text.of_file(script)
@@ -91,6 +93,8 @@ def of_parts(line, what, rest, context):
         return None
     if what == "facts":
         return facts.explain(line, int(kind), int(place), context.policy, context.facts)
+    if what == "dossier":
+        return refused_dossiers.explain(line, int(kind), int(place), context.dossier)
     return scripts.explain(line, int(kind), int(place), context.sort, context.script)
 
 
@@ -115,7 +119,7 @@ def place_of_value(spoken, value):
 def of_status(status):
     """The explanation of a bare status."""
     if status in STATUSES:
-        return Finding(f"status {status}", STATUSES[status], None, STATUS_ADVICE if 2 <= status <= 13 else None)
+        return Finding(f"status {status}", STATUSES[status], None, STATUS_ADVICE if 2 <= status <= 14 else None)
     if status > 128:
         return Finding(f"status {status}", f"A signal stopped the program: number {status - 128}.", None,
                        "what was answered by then is in the journals")

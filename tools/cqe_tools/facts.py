@@ -226,3 +226,16 @@ def count(text):
     """How many different facts the lines of a file that was accepted state."""
     lines = (line for line in Text.lines(text) if not is_silent(line.rstrip(b"\r\n")))
     return len({re.sub(rb"[ \t\r\n]", b"", line) for line in lines})
+
+
+def read(schema, text):
+    """The facts that the lines of a file state, each as its names; NoFact at the first line that is none."""
+    stated = set()
+    for number, line in enumerate(text.lines(), 1):
+        bare = line.removesuffix(b"\n").removesuffix(b"\r") if line.endswith(b"\n") else line
+        if not is_silent(bare):
+            try:
+                stated.add(atom(schema, bare))
+            except NoFact as fault:
+                raise NoFact(f"line {number}: {fault.meaning}", fault.start, fault.end, fault.advice) from fault
+    return stated

@@ -117,8 +117,9 @@ def other_policy(said, name, journal, number, context, match):
 def disk_fault(said, name, journal, number, context, match):
     return Finding(said, f"The journal of user {quoted(name)}, {place(journal, name, context)}, couldn't be read, or a "
                    f"call of its file failed earlier in this "
-                   f"run.", None, "look at the disk (dmesg, df, ls -l), then start again: a file that failed isn't "
-                   "opened again before that")
+                   f"run, or with --standby the standby didn't answer for its records.", None,
+                   "look at the disk (dmesg, df, ls -l), and whether the standby is reached, then start again: a file "
+                   "that failed isn't opened again before that")
 
 
 def damaged(said, name, journal, number, context, match):

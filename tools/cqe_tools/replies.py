@@ -221,8 +221,8 @@ def unsafe(said, asked):
 def not_appended(said, kind, place, asked, context):
     return Finding(said, f"The answer for {who(asked)} couldn't be written to his journal, in this ask or before, so "
                    f"he isn't told it.", asked.spot(),
-                   "look at the disk (df, dmesg); his asks get error 40 up to a restart or the next start, at which "
-                   "this entry may be found or not")
+                   "look at the disk (df, dmesg), and with --standby whether the standby is reached; his asks get "
+                   "error 40 up to a restart or the next start, at which this entry may be found or not")
 
 
 def sealed(said, kind, place, asked, context):

@@ -1,10 +1,11 @@
-"""Sentences: the first place at which a text is none, and how many nodes one has.
+"""Sentences: what a text says, how many nodes it has, and the first place at which it is none.
 
 The reader goes from left to right and stops at the first token that can't stand where it is.
 """
 
 import re
 from dataclasses import dataclass
+from typing import NamedTuple
 
 from .schemas import KEYWORDS
 
@@ -26,6 +27,25 @@ class Token:
     text: str
     start: int
     end: int
+
+
+class Sentence(NamedTuple):
+    """What a text says. A term is the name of a constant, or the number of a variable: that of its quantifier among
+    those around it, the outermost being 0."""
+
+    sort: str  # true, false, atom, =, !=, not, and, or, ->, <->, forall, exists
+    parts: tuple  # the sentences in it; of an atom, = and != the terms
+    name: str  # the relation of an atom, the domain of a quantifier
+    nodes: int
+
+
+def leaf(sort, terms=(), name=""):
+    return Sentence(sort, tuple(terms), name, 1)
+
+
+def joined(sort, *parts):
+    """A sentence made of others by `not` or a connective."""
+    return Sentence(sort, parts, "", 1 + sum(part.nodes for part in parts))
 
 
 class Refused(Exception):
@@ -65,7 +85,7 @@ def length_of_character(text, start):
 
 
 class Reader:
-    """A text that is read as a sentence. Each part answers its nodes."""
+    """A text that is read as a sentence. Each part answers what it says."""
 
     def __init__(self, schema, text):
         self.schema = schema
@@ -99,31 +119,31 @@ class Reader:
             raise Refused(TOO_DEEP, token, "", "constructs")
         self.take(token)
         self.open += 1
-        nodes = part()
+        found = part()
         self.open -= 1
-        return nodes
+        return found
 
     def whole(self):
-        nodes = self.sentence()
+        found = self.sentence()
         token = self.peek()
         if token.sort != "end":
             raise self.unexpected(token, f"{CONNECTIVES}, or the end")
-        return nodes
+        return found
 
     def sentence(self):
-        nodes = self.implied()
+        found = self.implied()
         token = self.peek()
         if token.text == "<->":
             self.take(token)
-            nodes += 1 + self.implied()
-        return nodes
+            found = joined("<->", found, self.implied())
+        return found
 
     def implied(self):
-        nodes = self.either()
+        found = self.either()
         token = self.peek()
         if token.text == "->":
-            nodes += 1 + self.enclose(token, self.implied)
-        return nodes
+            found = joined("->", found, self.enclose(token, self.implied))
+        return found
 
     def either(self):
         return self.chain("or", self.both)
@@ -132,16 +152,16 @@ class Reader:
         return self.chain("and", self.unary)
 
     def chain(self, word, part):
-        nodes = part()
+        found = part()
         while (token := self.peek()).text == word:
             self.take(token)
-            nodes += 1 + part()
-        return nodes
+            found = joined(word, found, part())
+        return found
 
     def unary(self):
         token = self.peek()
         if token.text == "not":
-            return 1 + self.enclose(token, self.unary)
+            return joined("not", self.enclose(token, self.unary))
         if token.text in ("forall", "exists"):
             return self.quantified(token)
         return self.primary(token)
@@ -149,14 +169,14 @@ class Reader:
     def quantified(self, token):
         if len(self.variables) == QUANTIFIERS:
             raise Refused(TOO_DEEP, token, "", "quantifiers")
-        nodes = self.enclose(token, lambda: self.bound(token.text))
+        found = self.enclose(token, lambda: self.bound(token.text))
         behind = self.peek()
         if behind.sort != "end" and behind.text != ")":
             raise self.unexpected(behind, "')' or the end behind a quantified sentence")
-        return nodes
+        return found
 
     def bound(self, quantifier):
-        """A quantifier's variable, domain and body."""
+        """A quantifier's variable, domain and body; what all of it says."""
         form = f"'{quantifier} x: domain . sentence'"
         variable = self.peek()
         if variable.sort != "name":
@@ -171,14 +191,14 @@ class Reader:
         self.take(domain)
         self.sign(".", f"'.' behind the domain, as in {form}")
         self.variables.append((variable.text, domain.text))
-        nodes = self.sentence()
+        body = self.sentence()
         self.variables.pop()
-        return 1 + self.schema.size(domain.text) * nodes
+        return Sentence(quantifier, (body,), domain.text, 1 + self.schema.size(domain.text) * body.nodes)
 
     def primary(self, token):
         if token.text in ("true", "false"):
             self.take(token)
-            return 1
+            return leaf(token.text)
         if token.text == "(":
             return self.enclose(token, self.bracketed)
         if token.sort != "name":
@@ -188,36 +208,37 @@ class Reader:
         return self.equation(token)
 
     def bracketed(self):
-        nodes = self.sentence()
+        found = self.sentence()
         self.sign(")", f"{CONNECTIVES}, or ')'")
-        return nodes
+        return found
 
     def equation(self, token):
-        domain = self.domain_of_term(token)
+        term, domain = self.term_and_domain(token)
         self.take(token)
         sign = self.peek()
         if sign.text not in ("=", "!="):
             raise self.unexpected(sign, "'=' or '!=' behind a constant or a variable")
         self.take(sign)
-        self.term(domain, "a constant or a variable")
-        return 1
+        return leaf(sign.text, (term, self.term(domain, "a constant or a variable")))
 
-    def domain_of_term(self, token):
-        for name, domain in reversed(self.variables):
+    def term_and_domain(self, token):
+        for number in reversed(range(len(self.variables))):
+            name, domain = self.variables[number]
             if name == token.text:
-                return domain
+                return number, domain
         if token.text in self.schema.domain_of:
-            return self.schema.domain_of[token.text]
+            return token.text, self.schema.domain_of[token.text]
         raise Refused(UNKNOWN_NAME, token, "", "term")
 
     def term(self, domain, wanted):
         token = self.peek()
         if token.sort != "name":
             raise self.unexpected(token, wanted)
-        found = self.domain_of_term(token)
+        term, found = self.term_and_domain(token)
         if found != domain:
             raise Refused(WRONG_DOMAIN, token, "", (found, domain))
         self.take(token)
+        return term
 
     def atom(self, relation):
         if relation.text not in self.schema.relations:
@@ -225,10 +246,9 @@ class Reader:
         columns = self.schema.relations[relation.text]
         self.take(relation)
         self.take(self.peek())  # the parenthesis
-        for number, domain in enumerate(columns):
-            self.column(relation.text, columns, number, domain)
+        terms = [self.column(relation.text, columns, number, domain) for number, domain in enumerate(columns)]
         self.closing(relation.text, columns)
-        return 1
+        return leaf("atom", terms, relation.text)
 
     def column(self, relation, columns, number, domain):
         token = self.peek()
@@ -238,7 +258,7 @@ class Reader:
             self.sign(",", "',' and the next column")
         elif token.text == ")":
             raise Refused(WRONG_COLUMNS, token, "", (relation, len(columns), 0))
-        self.term(domain, "a constant or a variable")
+        return self.term(domain, "a constant or a variable")
 
     def closing(self, relation, columns):
         token = self.peek()
@@ -281,6 +301,11 @@ def openings(text):
 
 def nodes_of(schema, text):
     """The nodes of a sentence; Refused where the text is none."""
+    return sentence_of(schema, text).nodes
+
+
+def sentence_of(schema, text):
+    """What a text says; Refused where it is no sentence."""
     return Reader(schema, text).whole()
 
 

@@ -11,6 +11,7 @@ import socket
 import stat
 
 from .places import Finding, quoted
+from .words import Words
 
 UNWRITTEN = ("look for a full disk (df) or a reader that ended (a pipe to head); asking again is safe, and the same "
              "questions get the same history's replies")
@@ -132,7 +133,7 @@ def holders():
 
 def links(said, address):
     """The meaning of `cqe: links fault`."""
-    meaning = "The server couldn't listen at its address, or it couldn't take in a client."
+    meaning = "The server or the standby couldn't listen at its address, or it couldn't take in a client."
     general = ("an address is HOST:PORT, as 127.0.0.1:7007; see what listens there (ss -ltnp); for clients, how many "
                "files may be open (ulimit -n)")
     if address is None:
@@ -197,6 +198,10 @@ def bind_fault(address, port, error):
 
 
 def read_fault(said, context):
+    if context.words and context.words[0] == "check":
+        return Finding(said, "Standard input couldn't be read; nothing was checked.", None,
+                       "give the dossier as a file, as  cqe check .. < DOSSIER : a directory or a closed input can't be "
+                       "read")
     return Finding(said, "Standard input couldn't be read; nothing was answered.", None,
                    "give the script as a file, as  cqe batch .. < SCRIPT : a directory or a closed input can't be read")
 
@@ -220,8 +225,19 @@ def disk_fault(said, context):
         advice += "; remove the journal that init couldn't make, which has no record, and call init again"
     if context.words and context.words[0] == "migrate":
         advice += "; call migrate again with another directory behind --to, and leave that of this call alone"
-    return Finding(said, "A write or a sync of a journal failed: in batch and serve its user got error 40 from then "
-                   "on, and init and migrate stopped there.", None, advice)
+    meaning = ("A write or a sync of a journal failed: in batch and serve its user got error 40 from then on, and init "
+               "and migrate stopped there.")
+    standby = standby_of(context.words)
+    if standby is not None:
+        meaning += f" Or the standby at {standby} didn't answer for a record in time, which its user wasn't told."
+        advice = (f"see whether the standby runs and is reached at {standby}, and then start this program again; "
+                  f"{advice}")
+    return Finding(said, meaning, None, advice)
+
+
+def standby_of(words):
+    """The address of the standby that words name; None where they name none."""
+    return Words(words).values.get("standby") if words and words[0] in ("batch", "serve") else None
 
 
 def memory(said, context):

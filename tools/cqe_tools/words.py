@@ -9,16 +9,20 @@ from .schemas import similar
 FILES = {"policy": None, "facts": None, "journals": None}
 NUMBER = "a number of one to ten decimal digits"
 WORKERS = (1, 64)
+SESSIONS = (1, 1_000_000)
 
 # Of each command: the options that have to be there and those that may be left out, each with the range of its number.
 COMMANDS = {
     "case": ({}, {}),
     "init": (FILES, {}),
-    "batch": (FILES, {"workers": WORKERS}),
+    "batch": (FILES, {"workers": WORKERS, "standby": None}),
     "audit": ({**FILES, "user": None}, {"json": None}),
     "selfrun": ({"seed": (0, 4_294_967_295), "users": (1, 256), "asks": (1, 10_000)}, {}),
-    "serve": ({**FILES, "listen": None}, {"workers": WORKERS, "sessions": (1, 1_000_000)}),
+    "serve": ({**FILES, "listen": None}, {"workers": WORKERS, "sessions": SESSIONS, "standby": None}),
     "migrate": ({**FILES, "to": None}, {}),
+    "dossier": ({**FILES, "user": None}, {}),
+    "check": ({"policy": None, "facts": None, "user": None}, {}),
+    "standby": ({**FILES, "listen": None}, {"sessions": SESSIONS}),
 }
 
 
@@ -111,8 +115,9 @@ class Words:
                 ", ".join("--" + option for option in self.options()) or "no options")
             only = f"; it belongs to {', '.join(elsewhere)}" if elsewhere else ""
             return f"'{self.command}' has no option {quoted('--' + name)}{only}", advice
-        if self.command in ("case", "batch") and not word.startswith("-"):
-            return (f"{quoted(word)} is a word too many", f"the script is read from standard input: cqe {self.command} "
+        read = {"case": "script", "batch": "script", "check": "dossier"}.get(self.command)
+        if read and not word.startswith("-"):
+            return (f"{quoted(word)} is a word too many", f"the {read} is read from standard input: cqe {self.command} "
                     f".. < {word}")
         return (f"{quoted(word)} is no option, and each word behind the command is one",
                 "options are written --name value or --name=value, in whole words")
@@ -120,7 +125,7 @@ class Words:
 
 def explain(said, words):
     """The meaning of `cqe: usage`; the words may be None."""
-    meaning = "The words have no reading, or audit names a user whom the policy hasn't."
+    meaning = "The words have no reading, or --user names a user whom the policy hasn't."
     if words is None:
         return Finding(said, meaning, None, "compare the words with man cqe: one command, then each of its options "
                        "once, in whole words; call it as  cqe-explain -- cqe ..  and the word is shown here")

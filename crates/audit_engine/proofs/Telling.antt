@@ -23,7 +23,7 @@ use Rattle.audit_engine.specs.declared.end.AuditEnd.TheVariants as ends
 module _ (schema : DatabaseSchema) (world : FactSet) (header : Header) (name : Text) (user : UserProfile) (bytes : List ℕ) (before now : ℕ)
     (decided : OpensOrNot) (unrefused : OpensUnrefused) where
   -- a journal that is refused though its bytes open a desk had a fault of its disk
-  rose : (entries : History) (why : DeskError) → IsSealedBy schema world user (Unit {0}) (header_bytes header) bytes before now why
+  pub rose : (entries : History) (why : DeskError) → IsSealedBy schema world user (Unit {0}) (header_bytes header) bytes before now why
       → Opens schema world user (header_bytes header) entries bytes → Rose before now
   rose entries (Journal NotAJournal) refused opens = absurd (unrefused schema world user header bytes entries (Journal NotAJournal) opens (refused tt))
   rose entries (Journal OtherPolicy) refused opens = absurd (unrefused schema world user header bytes entries (Journal OtherPolicy) opens (refused tt))
@@ -40,7 +40,7 @@ module _ (schema : DatabaseSchema) (world : FactSet) (header : Header) (name : T
   rose entries (NotAdmitted admission) refused opens = absurd (unrefused schema world user header bytes entries (NotAdmitted admission) opens (refused tt))
 
   -- where clauses are told of the bytes
-  sealed_by : (told : Type 0) → told → (why : DeskError) → IsSealedBy schema world user told (header_bytes header) bytes before now why
+  pub sealed_by : (told : Type 0) → told → (why : DeskError) → IsSealedBy schema world user told (header_bytes header) bytes before now why
       → IsSealedBy schema world user (Unit {0}) (header_bytes header) bytes before now why
   sealed_by told is (Journal NotAJournal) refused = λ _. refused is
   sealed_by told is (Journal OtherPolicy) refused = λ _. refused is

@@ -15,3 +15,4 @@ mod printing;
 mod report;
 
 pub use printing::{AuditError, audit};
+pub use report::{fact_text, fact_texts, method_word};

@@ -96,7 +96,8 @@ fn refused<'u>(alloc: Global, user: &'u User, standing: &'static str) -> Report<
     }
 }
 
-fn method_word(method: Method) -> &'static str
+/// The word of a method, as in the policy.
+pub fn method_word(method: Method) -> &'static str
     ensures { result.now ≡ method_word method }
 {
     match method {
@@ -226,7 +227,8 @@ fn world_texts(
     }
 }
 
-fn fact_texts(alloc: Global, schema: &Schema, world: &World) -> Result<Vec<String>, AllocError>
+/// The texts of a world's facts, in their order.
+pub fn fact_texts(alloc: Global, schema: &Schema, world: &World) -> Result<Vec<String>, AllocError>
     requires { IsWorldOf schema.now world.now }
     ensures { IfOk result (λ texts. (facts : List Fact) × IsListing (Some facts) (Some world.now)
         × (map string_bytes texts.items ≡ world_said schema.now facts)) }
@@ -239,7 +241,8 @@ fn fact_texts(alloc: Global, schema: &Schema, world: &World) -> Result<Vec<Strin
     Ok(texts)
 }
 
-fn fact_text(alloc: Global, schema: &Schema, fact: &Fact) -> Result<String, AllocError>
+/// The text of a fact.
+pub fn fact_text(alloc: Global, schema: &Schema, fact: &Fact) -> Result<String, AllocError>
     requires { is_fact_of schema.now fact.now ≡ true }
     ensures { IfOk result (λ text. string_bytes text ≡ fact_text schema.now fact.now) }
 {

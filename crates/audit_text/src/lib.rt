@@ -14,4 +14,5 @@ mod json;
 mod lines;
 mod report;
 
+pub use lines::push_facts;
 pub use report::{EntryRow, Report, SecrecyRow, SecretRow, lines_of};

@@ -151,7 +151,8 @@ fn world_text(alloc: Global, world: &Option<Vec<String>>) -> Result<String, Allo
     Ok(text)
 }
 
-fn push_facts(text: &mut String, facts: &[String]) -> Result<(), AllocError>
+/// Appends the texts of a world's facts, with one blank between two, and `-` where there are none.
+pub fn push_facts(text: &mut String, facts: &[String]) -> Result<(), AllocError>
     ensures { OnOk result (string_bytes text.new
         ≡ string_bytes text.old ++ world_text (Some (map string_bytes facts.now))) }
 {

@@ -23,7 +23,7 @@ use Rattle.log_journal.specs.Names.{journal_name}
 use Rattle.batch_engine.specs.BatchLines.{BatchItem}
 use Rattle.desk_crew.specs.Openings.{OpensNone, OpensWith}
 use Rattle.batch_engine.specs.Lives.{RoseBy, is_opened, is_call, failures, IsStretchEnd}
-use Rattle.batch_engine.specs.Batch.{StandsAmid, StandsBehind, ServesUser, AnswersBatch, AreRefusals, AppendsAll, AppendsSome, IsStretch}
+use Rattle.batch_engine.specs.Batch.{StandsAmid, StandsBehind, ServesUser, AnswersBatch, AreRefusals, AppendsAll, AppendsSome, IsStretch, StandsBetween}
 use Rattle.batch_engine.specs.Batch.{line_bytes, unopened, with_opening}
 use Rattle.desk_crew.specs.Crew.{named_user, seat_standing, seat_state, IsLeft}
 use Rattle.cqe_base.specs.Run.{Event}
@@ -383,9 +383,9 @@ module _ (schema : DatabaseSchema) (world : FactSet) (users : List NamedUser) (h
           (clock_of Disk only_now directory disk) (bytes_of Disk.reads directory disk) (count_of directory count)
           (images_of Disk.image directory disk) found opened so_far.events (earlier ++ stretch) (length stretch) lines seats is_broken
           → AreBack S Disk disk' count' seats → new ≡ (old ++ output) ++ take n lines → all ≡ (earlier ++ stretch) ++ back → IsStretch stretch
-          → (some : AppendsSome schema world header
+          → StandsBetween earlier stretch back → (some : AppendsSome schema world header
           (journals_by Disk.reads Disk.image Disk.moment Disk.image_since directory disk disk' count count') policy all old new) × (some.part ≡ n)
-      answered_some earlier stretch back all n old output lines new mid seats was is_broken so_far adds is appended split one =
+      answered_some earlier stretch back all n old output lines new mid seats was is_broken so_far adds is appended split one between =
           let whole = transcript schema world users (with_opening found opened so_far.events) in
           let both = joined schema world users header directory Disk t read_is_image
           (clock_of Disk only_now directory disk) (bytes_of Disk.reads directory disk) (count_of directory count)
@@ -396,6 +396,7 @@ module _ (schema : DatabaseSchema) (world : FactSet) (users : List NamedUser) (h
               back = back;
               split = split;
               one = one;
+              between = between;
               whole = whole;
               last = adds.said;
               each = adds.each;

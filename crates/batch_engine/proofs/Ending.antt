@@ -48,6 +48,7 @@ module _ (schema : DatabaseSchema) (world : FactSet) (header : List ℕ) {D : Ty
         back = some.back;
         split = some.split;
         one = some.one;
+        between = some.between;
         mid = some.mid;
         output = some.output;
         lines = some.lines;
@@ -191,7 +192,7 @@ module _ (schema : DatabaseSchema) (world : FactSet) (header directory : List �
       (adds_all schema world st.named header directory Disk t read_is_image
       (clock_of Disk only_now directory disk) (bytes_of Disk.reads directory disk) (count_of directory count)
       (images_of Disk.image directory disk) st.found st.opened exclusive st.differ some.earlier some.stretch some.output some.lines some.mid new
-      some.was_broken some.says_broken so_far some.last) back part.1 some.split some.one
+      some.was_broken some.says_broken so_far some.last) back part.1 some.split some.one some.between
 
   finish_some : (wrote : Type 0) → wrote → (items : List BatchItem) (new : List (DeskSeat D g h)) (before after : List ℕ)
       → RunsSome schema world header Disk wrote items seats new before after

@@ -1,6 +1,6 @@
 -- The items of a batch, carried out one after the other: what stays of the seats.
 use Rattle.std.proofs.Common.{◌≡◌, ℕ, zero, suc, ◌≤◌, ◌<◌, ◌+◌, Bool, true, false, List, [], ◌∷◌, ◌++◌, length, take, drop, get_or, map, refl, sym, ap}
-use Rattle.std.proofs.Common.{subst, ◌∙◌, append-nil, append_assoc, arith}
+use Rattle.std.proofs.Common.{subst, ◌∙◌, ◌⊎◌, inl, inr, append-nil, append_assoc, arith}
 use Rattle.std.specs.Prelude.{Option, ◌||◌, if◌then◌else◌}
 use Rattle.std.specs.List.{AllByRecursion}
 use Rattle.outside.specs.declared.disk.Disk.{Ghosts as DiskGhosts}
@@ -19,7 +19,7 @@ use Rattle.cqe_base.proofs.Lists.{or_assoc, all_at}
 use Rattle.std.proofs.Common.{All}
 use Rattle.std.proofs.lemmas.List.Elements.{recursion_from_All}
 use Rattle.batch_engine.specs.BatchLines.{BatchItem, asked, restarted}
-use Rattle.batch_engine.specs.Batch.{IsStretch}
+use Rattle.batch_engine.specs.Batch.{IsStretch, EndsStretch, IsBehindStretch, StandsBetween}
 use Rattle.batch_engine.specs.Batches.{stretch_in, stretches_in, items_in}
 use Rattle.batch_engine.specs.declared.batch.BatchAsk.{BatchAsk}
 use Rattle.batch_engine.proofs.Batches.{stretches-append}
@@ -37,6 +37,30 @@ pub before_restart : (items done asks others : List BatchItem) → items ≡ (do
     → items ≡ (done ++ asks) ++ restarted ∷ others
 before_restart items done asks others split =
     split ∙ ap (λ l. l ++ others) (sym (append_assoc done asks (restarted ∷ []))) ∙ append_assoc (done ++ asks) (restarted ∷ []) others
+
+-- stretches that a restart ended each end so
+pub stretches_end : (ended : List (Vec BatchAsk Global)) → EndsStretch (stretches_in ended)
+stretches_end [] = inl refl
+stretches_end (asks ∷ ended) = by (stretches_end ended)
+  where
+    by : EndsStretch (stretches_in ended) → EndsStretch (stretch_in asks.items ++ restarted ∷ stretches_in ended)
+    by (inl none) = inr (stretch_in asks.items, ap (λ l. stretch_in asks.items ++ restarted ∷ l) none)
+    by (inr (before, is)) = inr (
+      stretch_in asks.items ++ restarted ∷ before,
+      ap (λ l. stretch_in asks.items ++ restarted ∷ l) is ∙ sym (append_assoc (stretch_in asks.items) (restarted ∷ before) (restarted ∷ [])),
+    )
+
+-- a stretch with its restart, or up to it
+with_restart : (done asks others : List BatchItem) → EndsStretch done → StandsBetween done (asks ++ restarted ∷ []) others
+with_restart done asks others ended =
+    record { begins = inr ended; ends = inl (inr (done ++ asks, sym (append_assoc done asks (restarted ∷ [])))) }
+
+up_to_restart : (done asks others : List BatchItem) → EndsStretch done → StandsBetween done asks (restarted ∷ others)
+up_to_restart done asks others ended = record { begins = inr ended; ends = inr tt }
+
+-- the last stretch
+pub with_script : (done asks : List BatchItem) → EndsStretch done → StandsBetween done asks []
+with_script done asks ended = record { begins = inr ended; ends = inr tt }
 
 module _ (schema : DatabaseSchema) (world : FactSet) (header : List ℕ) {D : Type 0} {g h : _} (Disk : DiskGhosts D) where
   abbrev pub Limits : List (DeskSeat D g h) → Type 0
@@ -170,16 +194,17 @@ module _ (schema : DatabaseSchema) (world : FactSet) (header : List ℕ) {D : Ty
 
   -- of the lines of a stretch a part was written
   pub some_cut : (wrote : Type 0) (items earlier stretch back : List BatchItem) (old mid new : List (DeskSeat D g h)) (was says : Bool)
-      (before after last lines : List ℕ) → items ≡ (earlier ++ stretch) ++ back → IsStretch stretch
+      (before after last lines : List ℕ) → items ≡ (earlier ++ stretch) ++ back → IsStretch stretch → StandsBetween earlier stretch back
       → RunsAll schema world header Disk wrote earlier old mid was before after
       → Runs schema world header Disk stretch mid lines new says → (wrote → (n : ℕ) × (last ≡ after ++ take n lines))
       → RunsSome schema world header Disk wrote items old new before last
-  some_cut wrote items earlier stretch back old mid new was says before after last lines split one so_far runs part = record {
+  some_cut wrote items earlier stretch back old mid new was says before after last lines split one between so_far runs part = record {
     earlier = earlier;
     stretch = stretch;
     back = back;
     split = split;
     one = one;
+    between = between;
     mid = mid;
     output = so_far.output;
     lines = lines;
@@ -193,30 +218,31 @@ module _ (schema : DatabaseSchema) (world : FactSet) (header : List ℕ) {D : Ty
   -- a write failed as a stretch ended, behind its restart or without it
   pub cut_off : (wrote : Type 0) (items done asks others : List BatchItem) (old mid last : List (DeskSeat D g h)) (was says : Bool)
       (before after final lines : List ℕ) → items ≡ (done ++ (asks ++ restarted ∷ [])) ++ others → IsStretch asks → IsStretch (asks ++ restarted ∷ [])
-      → RunsAll schema world header Disk wrote done old mid was before after → Runs schema world header Disk asks mid lines last says
+      → EndsStretch done → RunsAll schema world header Disk wrote done old mid was before after → Runs schema world header Disk asks mid lines last says
       → (is_again : Bool) (new : List (DeskSeat D g h)) → MaybeReopened schema world header Disk is_again last new
       → (wrote → (n : ℕ) × (final ≡ after ++ take n (lines ++ restart_bytes is_again)))
       → RunsSome schema world header Disk wrote items old new before final
-  cut_off wrote items done asks others old mid last was says before after final lines split one whole so_far runs true new again part =
+  cut_off wrote items done asks others old mid last was says before after final lines split one whole ended so_far runs true new again part =
       some_cut wrote items done (asks ++ restarted ∷ []) others old mid new was (says || false) before after final (lines ++ restart_bytes true) split whole
-      so_far (restarted_more asks mid last new lines says runs again) part
-  cut_off wrote items done asks others old mid last was says before after final lines split one whole so_far runs false new same part =
+      (with_restart done asks others ended) so_far (restarted_more asks mid last new lines says runs again) part
+  cut_off wrote items done asks others old mid last was says before after final lines split one whole ended so_far runs false new same part =
       some_cut wrote items done asks (restarted ∷ others) old mid new was says before after final (lines ++ restart_bytes false)
-      (before_restart items done asks others split) one so_far
+      (before_restart items done asks others split) one (up_to_restart done asks others ended) so_far
       (subst (λ n. Runs schema world header Disk asks mid (lines ++ []) n says) (sym same)
       (subst (λ o. Runs schema world header Disk asks mid o last says) (sym (append-nil lines)) runs)) part
 
   -- memory was wanting where a stretch began
   pub to_here : (wrote : Type 0) (items front back : List BatchItem) (old new : List (DeskSeat D g h)) (is_broken : Bool) (before after : List ℕ)
-      → items ≡ front ++ back → RunsAll schema world header Disk wrote front old new is_broken before after
+      → items ≡ front ++ back → EndsStretch front ⊎ IsBehindStretch back → RunsAll schema world header Disk wrote front old new is_broken before after
       → RunsTo schema world header Disk wrote items old new before after
-  to_here wrote items front back old new is_broken before after split so_far = (
+  to_here wrote items front back old new is_broken before after split ends so_far = (
     record {
       earlier = front;
       stretch = [];
       back = back;
       split = split ∙ ap (λ l. l ++ back) (sym (append-nil front));
       one = tt;
+      between = record { begins = inl refl; ends = subst (λ l. EndsStretch l ⊎ IsBehindStretch back) (sym (append-nil front)) ends };
       mid = new;
       output = so_far.output;
       lines = [];
@@ -231,17 +257,18 @@ module _ (schema : DatabaseSchema) (world : FactSet) (header : List ℕ) {D : Ty
 
   -- a stretch was carried out, and none of its lines written
   pub to_unwritten : (wrote : Type 0) (items earlier stretch back : List BatchItem) (old mid new : List (DeskSeat D g h)) (was says : Bool)
-      (before after final lines : List ℕ) → items ≡ (earlier ++ stretch) ++ back → IsStretch stretch
+      (before after final lines : List ℕ) → items ≡ (earlier ++ stretch) ++ back → IsStretch stretch → StandsBetween earlier stretch back
       → RunsAll schema world header Disk wrote earlier old mid was before after
       → Runs schema world header Disk stretch mid lines new says → (wrote → final ≡ after)
       → RunsTo schema world header Disk wrote items old new before final
-  to_unwritten wrote items earlier stretch back old mid new was says before after final lines split one so_far runs same = (
+  to_unwritten wrote items earlier stretch back old mid new was says before after final lines split one between so_far runs same = (
     record {
       earlier = earlier;
       stretch = stretch;
       back = back;
       split = split;
       one = one;
+      between = between;
       mid = mid;
       output = so_far.output;
       lines = lines;
@@ -257,20 +284,21 @@ module _ (schema : DatabaseSchema) (world : FactSet) (header : List ℕ) {D : Ty
   -- memory was wanting as a stretch ended
   pub no_memory : (wrote : Type 0) (items done asks others : List BatchItem) (old mid last : List (DeskSeat D g h)) (was says : Bool)
       (before after final lines : List ℕ) → items ≡ (done ++ (asks ++ restarted ∷ [])) ++ others → IsStretch asks → IsStretch (asks ++ restarted ∷ [])
-      → RunsAll schema world header Disk wrote done old mid was before after → Runs schema world header Disk asks mid lines last says
+      → EndsStretch done → RunsAll schema world header Disk wrote done old mid was before after → Runs schema world header Disk asks mid lines last says
       → (is_again : Bool) (new : List (DeskSeat D g h)) → MaybeReopened schema world header Disk is_again last new → (is_written : Bool)
       → (wrote → final ≡ after ++ (if is_written then lines else [])) → (is_written ≡ true → is_again ≡ false)
       → RunsTo schema world header Disk wrote items old new before final
-  no_memory wrote items done asks others old mid last was says before after final lines split one whole so_far runs true new again false written only =
+  no_memory wrote items done asks others old mid last was says before after final lines split one whole ended so_far runs true new again false written only =
       to_unwritten wrote items done (asks ++ restarted ∷ []) others old mid new was (says || false) before after final (lines ++ restart_bytes true) split
-      whole so_far (restarted_more asks mid last new lines says runs again) (λ w. written w ∙ append-nil after)
-  no_memory wrote items done asks others old mid last was says before after final lines split one whole so_far runs true new again true written only =
+      whole (with_restart done asks others ended) so_far (restarted_more asks mid last new lines says runs again) (λ w. written w ∙ append-nil after)
+  no_memory wrote items done asks others old mid last was says before after final lines split one whole ended so_far runs true new again true written only =
       let clash : true ≡ false = only refl in absurd cc
-  no_memory wrote items done asks others old mid last was says before after final lines split one whole so_far runs false new same false written only =
+  no_memory wrote items done asks others old mid last was says before after final lines split one whole ended so_far runs false new same false written only =
       to_unwritten wrote items done asks (restarted ∷ others) old mid new was says before after final lines (before_restart items done asks others split) one
-      so_far (subst (λ n. Runs schema world header Disk asks mid lines n says) (sym same) runs) (λ w. written w ∙ append-nil after)
-  no_memory wrote items done asks others old mid last was says before after final lines split one whole so_far runs false new same true written only =
-      to_here wrote items (done ++ asks) (restarted ∷ others) old new (was || says) before final (before_restart items done asks others split)
+      (up_to_restart done asks others ended) so_far (subst (λ n. Runs schema world header Disk asks mid lines n says) (sym same) runs)
+      (λ w. written w ∙ append-nil after)
+  no_memory wrote items done asks others old mid last was says before after final lines split one whole ended so_far runs false new same true written only =
+      to_here wrote items (done ++ asks) (restarted ∷ others) old new (was || says) before final (before_restart items done asks others split) (inr tt)
       (all_more wrote done asks old mid new was says (was || says) before after final lines refl so_far
       (subst (λ n. Runs schema world header Disk asks mid lines n says) (sym same) runs) written)
 

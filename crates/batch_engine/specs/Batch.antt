@@ -54,6 +54,23 @@ IsStretch [] = Unit {0}
 IsStretch (asked ask ∷ items) = IsStretch items
 IsStretch (restarted ∷ items) = items ≡ []
 
+-- these are all items up to the end of a stretch: none, or a restart is the last of them
+abbrev pub EndsStretch : List BatchItem → Type 0
+EndsStretch items = (items ≡ []) ⊎ ((before : List BatchItem) × (items ≡ before ++ restarted ∷ []))
+
+-- the calls of a stretch end in front of these items: there are none, or the first is its restart
+abbrev pub IsBehindStretch : List BatchItem → Type 0
+IsBehindStretch [] = Unit {0}
+IsBehindStretch (asked ask ∷ items) = ⊥
+IsBehindStretch (restarted ∷ items) = Unit {0}
+
+-- A stretch stands between what is in front of it and what is behind it: all calls between two
+-- restarts are its own. It begins with the script or behind a restart, unless it has no item, and
+-- ends with its restart, before it or with the script.
+pub record StandsBetween (front stretch back : List BatchItem) : Type 0 where
+  pub begins : (stretch ≡ []) ⊎ EndsStretch front
+  pub ends : EndsStretch (front ++ stretch) ⊎ IsBehindStretch back
+
 -- the bytes of lines, each with its line feed
 abbrev pub line_bytes : List Line → List ℕ
 line_bytes lines = flat_map (λ line. line_text line ++ 10 ∷ []) lines
@@ -181,13 +198,14 @@ module _ (schema : DatabaseSchema) (world : FactSet) (header : List ℕ) (journa
 
     -- What was appended are the lines that answer some first stretches of these items: those of all
     -- of them but the last, and of those of the last maybe only a part. So no item was answered
-    -- behind a stretch of which a line wasn't written.
+    -- behind a stretch of which a line wasn't written, and of no stretch only some calls were.
     pub record AppendsSome (items : List BatchItem) (old new : List ℕ) : Type 0 where
       pub earlier : List BatchItem
       pub stretch : List BatchItem
       pub back : List BatchItem
       pub split : items ≡ (earlier ++ stretch) ++ back
       pub one : IsStretch stretch
+      pub between : StandsBetween earlier stretch back
       pub whole : List Line
       pub last : List Line
       pub each : length last ≡ length stretch

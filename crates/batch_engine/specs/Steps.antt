@@ -10,7 +10,7 @@ use Rattle.cqe_base.specs.Transcript.{purpose_of, reply_line, restart_line, line
 use Rattle.batch_engine.specs.BatchLines.{BatchItem, asked, restarted}
 use Rattle.desk_crew.specs.Crew.{Tells, AreReopened}
 use Rattle.desk_crew.specs.Seats.{DeskSeat}
-use Rattle.batch_engine.specs.Batch.{IsStretch}
+use Rattle.batch_engine.specs.Batch.{IsStretch, StandsBetween}
 use Rattle.batch_engine.specs.DeskEnds.{DeskEnded}
 use Rattle.batch_engine.specs.declared.run.Answered.{Answered}
 use Rattle.batch_engine.specs.declared.run.Answered.TheVariants.{All, Cut, Memory}
@@ -61,6 +61,7 @@ module _ (schema : DatabaseSchema) (world : FactSet) (header : List ℕ) {D : Ty
     pub back : List BatchItem
     pub split : items ≡ (earlier ++ stretch) ++ back
     pub one : IsStretch stretch
+    pub between : StandsBetween earlier stretch back
     pub mid : List (DeskSeat D g h)
     pub output : List ℕ
     pub lines : List ℕ

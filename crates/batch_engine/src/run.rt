@@ -133,6 +133,7 @@ where
     ensures faults { F.faults shelf.new ≡ F.faults shelf.old }
     ensures files { SameNames (F.file shelf.old) (F.file shelf.new) }
     ensures looked { F.looked shelf.new ≡ F.looked shelf.old }
+    ensures lent { F.lent shelf.new ≡ F.lent shelf.old }
     ensures sink_later { K.faults sink.old ≤ K.faults sink.new }
     ensures cause { IsCutOff result → Rose (K.faults sink.old) (K.faults sink.new) }
 {
@@ -199,6 +200,7 @@ where
     ensures faults { F.faults shelf.new ≡ F.faults shelf.old }
     ensures files { SameNames (F.file shelf.old) (F.file shelf.new) }
     ensures looked { F.looked shelf.new ≡ F.looked shelf.old }
+    ensures lent { F.lent shelf.new ≡ F.lent shelf.old }
     ensures sink_later { K.faults sink.old ≤ K.faults sink.new }
     ensures cause { result ≡ Answered.Cut → Rose (K.faults sink.old) (K.faults sink.new) }
 {
@@ -296,6 +298,7 @@ where
     ensures inside { NoneOut (F.is_out shelf.new) }
     ensures files { SameNames (F.file shelf.old) (F.file shelf.new) }
     ensures looked { F.looked shelf.new ≡ F.looked shelf.old }
+    ensures lent { F.lent shelf.new ≡ F.lent shelf.old }
     ensures counts { NoneFell (F.disk_faults shelf.old) (F.disk_faults shelf.new) }
     ensures other_counts { SameBeside
         (registered_journals registry.now.directory.now registry.now.users.now)

@@ -30,4 +30,4 @@ pub use guards::Guards;
 pub use laws::law_undecided_is_cost;
 pub use lent::LentViews;
 pub use marks::decide;
-pub use secrets::disjunction;
+pub use secrets::{disjunction, guard_with};

@@ -30,11 +30,7 @@ pub fn disjunction(alloc: Global, sentences: &[Sentence]) -> Result<Sentence, Al
 
 /// What is guarded from a user for one more secret: for lying the disjunction of his secrets with
 /// it, and else the secret.
-pub(crate) fn guard_with(
-    alloc: Global,
-    user: &User,
-    secret: &Sentence,
-) -> Result<Sentence, AllocError>
+pub fn guard_with(alloc: Global, user: &User, secret: &Sentence) -> Result<Sentence, AllocError>
     ensures { IfOk result (λ made. formula_of made ≡ guard_by user.now.method
         (map formula_of user.now.secrets.items ++ formula_of secret.now ∷ [])
         (formula_of secret.now)) }

@@ -10,8 +10,8 @@ use Rattle.clap.specs.Walk.{with_default}
 use Rattle.command_words.specs.Uses.{OptionRow, Use, is_flag}
 use Rattle.command_words.specs.Numbers.{number_from, number_or}
 use Rattle.command_words.specs.Readings.{CommandRow, audit_row, audit_said, batch_row, batch_said, command_of, commands, files_of, files_said, init_row}
-use Rattle.command_words.specs.Readings.{is_used, migrate_row, migrate_said}
-use Rattle.command_words.specs.Readings.{runs_init, selfrun_row, selfrun_said, serve_row, serve_said, value_of}
+use Rattle.command_words.specs.Readings.{is_used, migrate_row, migrate_said, dossier_row, dossier_said, check_row, check_said}
+use Rattle.command_words.specs.Readings.{runs_init, selfrun_row, selfrun_said, serve_row, serve_said, standby_row, standby_said, value_of}
 use Rattle.command_words.specs.Matched.{command_with, files_in, says_true}
 use Rattle.command_words.proofs.Options.{default_is, finished_rows, rows_of_uses, row_of_use, rule_for, text_of, unused_row}
 use Rattle.command_words.proofs.Walks.{rows_at_end}
@@ -143,6 +143,7 @@ batch_is : (uses : List Use) → IsSaid uses batch_row
 batch_is uses =
     let options = batch_row.options in
     λ i. batch_said (files_are options uses refl refl refl i) (number_or 4 1 64 (value_at options uses (codes "workers") refl i))
+    (value_at options uses (codes "standby") refl i)
 
 audit_is : (uses : List Use) → IsSaid uses audit_row
 audit_is uses =
@@ -162,11 +163,29 @@ serve_is uses =
     λ i. serve_said (files_are options uses refl refl refl i) (value_at options uses (codes "listen") refl i)
     (number_or 4 1 64 (value_at options uses (codes "workers") refl i))
     (number_or 1073741824 1 1000000 (value_at options uses (codes "sessions") refl i))
+    (value_at options uses (codes "standby") refl i)
+
+standby_is : (uses : List Use) → IsSaid uses standby_row
+standby_is uses =
+    let options = standby_row.options in
+    λ i. standby_said (files_are options uses refl refl refl i) (value_at options uses (codes "listen") refl i)
+    (number_or 1073741824 1 1000000 (value_at options uses (codes "sessions") refl i))
 
 migrate_is : (uses : List Use) → IsSaid uses migrate_row
 migrate_is uses =
     let options = migrate_row.options in
     λ i. migrate_said (files_are options uses refl refl refl i) (value_at options uses (codes "to") refl i)
+
+dossier_is : (uses : List Use) → IsSaid uses dossier_row
+dossier_is uses =
+    let options = dossier_row.options in
+    λ i. dossier_said (files_are options uses refl refl refl i) (value_at options uses (codes "user") refl i)
+
+check_is : (uses : List Use) → IsSaid uses check_row
+check_is uses =
+    let options = check_row.options in
+    λ i. check_said (value_at options uses (codes "policy") refl i) (value_at options uses (codes "facts") refl i)
+    (value_at options uses (codes "user") refl i)
 
 -- what all commands of a table have
 abbrev Each : (CommandRow → Type 0) → List CommandRow → Type 0
@@ -190,6 +209,12 @@ command_reading word row uses known =
       refl,
       (
         ap (option_map runs_init) (files_are init_row.options uses refl refl refl),
-        (batch_is uses, (audit_is uses, (selfrun_is uses, (serve_is uses, (migrate_is uses, tt))))),
+        (
+          batch_is uses,
+          (
+            audit_is uses,
+            (selfrun_is uses, (serve_is uses, (migrate_is uses, (dossier_is uses, (check_is uses, (standby_is uses, tt)))))),
+          ),
+        ),
       ),
     )

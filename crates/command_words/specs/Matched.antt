@@ -9,7 +9,8 @@ use Rattle.clap.specs.declared.builder.value_parser.ValueParser.TheVariants.{Non
 use Rattle.command_words.specs.Numbers.{number_from, number_or}
 use Rattle.command_words.specs.Readings.{FileNames, Reading, runs_case, runs_init}
 use Rattle.command_words.specs.Readings.{files_said, batch_said, audit_said, selfrun_said}
-use Rattle.command_words.specs.Readings.{serve_said, migrate_said}
+use Rattle.command_words.specs.Readings.{serve_said, migrate_said, dossier_said, check_said}
+use Rattle.command_words.specs.Readings.{standby_said}
 
 -- `--`, or a hyphen and a further byte that isn't one: no reading has such a word
 abbrev pub is_short : List ℕ → Bool
@@ -52,7 +53,9 @@ with_settings s = record s {
 
 -- the subcommand `batch`
 abbrev pub batch_command : App
-batch_command = with_rule (file_command (codes "batch")) (optional_rule (codes "workers"))
+batch_command = with_rule
+    (with_rule (file_command (codes "batch")) (optional_rule (codes "workers")))
+    (optional_rule (codes "standby"))
 
 -- the subcommand `audit`
 abbrev pub audit_command : App
@@ -66,25 +69,46 @@ selfrun_command = three_command (codes "selfrun") (codes "seed") (codes "users")
 -- the subcommand `serve`
 abbrev pub serve_command : App
 serve_command = with_rule
+    (with_rule
     (with_rule (with_rule (file_command (codes "serve")) (needed_rule (codes "listen")))
-    (optional_rule (codes "workers"))) (optional_rule (codes "sessions"))
+    (optional_rule (codes "workers"))) (optional_rule (codes "sessions")))
+    (optional_rule (codes "standby"))
 
 -- the subcommand `migrate`
 abbrev pub migrate_command : App
 migrate_command = with_rule (file_command (codes "migrate")) (needed_rule (codes "to"))
 
+-- the subcommand `dossier`
+abbrev pub dossier_command : App
+dossier_command = with_rule (file_command (codes "dossier")) (needed_rule (codes "user"))
+
+-- the subcommand `check`
+abbrev pub check_command : App
+check_command = three_command (codes "check") (codes "policy") (codes "facts") (codes "user")
+
+-- the subcommand `standby`
+abbrev pub standby_command : App
+standby_command = with_rule
+    (with_rule (file_command (codes "standby")) (needed_rule (codes "listen")))
+    (optional_rule (codes "sessions"))
+
 -- a command line with no subcommand yet
 abbrev pub bare : App
 bare = on_top with_settings (new_app (codes "cqe"))
 
+-- a command line with the last three commands too
+abbrev pub with_last : App → App
+with_last app = with_subcommand (with_subcommand (with_subcommand app
+    dossier_command.top) check_command.top) standby_command.top
+
 -- the command line of the program
 abbrev pub program : App
-program = with_subcommand
+program = with_last (with_subcommand
     (with_subcommand (with_subcommand (with_subcommand (with_subcommand (with_subcommand
     (with_subcommand bare
     (new_app (codes "case")).top) (file_command (codes "init")).top)
     batch_command.top) audit_command.top) selfrun_command.top)
-    serve_command.top) migrate_command.top
+    serve_command.top) migrate_command.top)
 
 -- the files that the rows that were matched name
 abbrev pub files_in : List Row → Option FileNames
@@ -100,6 +124,7 @@ says_true (Some text) = bytes_eq text (codes "true")
 abbrev pub batch_in : List Row → Option Reading
 batch_in rows =
     batch_said (files_in rows) (number_or 4 1 64 (first_of (codes "workers") rows))
+    (first_of (codes "standby") rows)
 
 -- the audit that rows say
 abbrev pub audit_in : List Row → Option Reading
@@ -119,10 +144,26 @@ serve_in rows =
     serve_said (files_in rows) (first_of (codes "listen") rows)
     (number_or 4 1 64 (first_of (codes "workers") rows))
     (number_or 1073741824 1 1000000 (first_of (codes "sessions") rows))
+    (first_of (codes "standby") rows)
+
+-- the standby that rows say
+abbrev pub standby_in : List Row → Option Reading
+standby_in rows =
+    standby_said (files_in rows) (first_of (codes "listen") rows)
+    (number_or 1073741824 1 1000000 (first_of (codes "sessions") rows))
 
 -- the moving of journals that rows say
 abbrev pub migrate_in : List Row → Option Reading
 migrate_in rows = migrate_said (files_in rows) (first_of (codes "to") rows)
+
+-- the dossier that rows say
+abbrev pub dossier_in : List Row → Option Reading
+dossier_in rows = dossier_said (files_in rows) (first_of (codes "user") rows)
+
+-- the check of a dossier that rows say
+abbrev pub check_in : List Row → Option Reading
+check_in rows = check_said (first_of (codes "policy") rows) (first_of (codes "facts") rows)
+    (first_of (codes "user") rows)
 
 -- the reading of a command with the rows that were matched
 abbrev pub command_with : List ℕ → List Row → Option Reading
@@ -134,4 +175,7 @@ command_with command rows =
     else if bytes_eq command (codes "selfrun") then selfrun_in rows
     else if bytes_eq command (codes "serve") then serve_in rows
     else if bytes_eq command (codes "migrate") then migrate_in rows
+    else if bytes_eq command (codes "dossier") then dossier_in rows
+    else if bytes_eq command (codes "check") then check_in rows
+    else if bytes_eq command (codes "standby") then standby_in rows
     else None

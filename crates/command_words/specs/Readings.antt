@@ -7,6 +7,7 @@ use Rattle.command_words.specs.Numbers.{number_from, number_or}
 use Rattle.command_words.specs.declared.command.Command.{Command}
 use Rattle.command_words.specs.declared.command.Command.TheVariants.{Case, Init, Batch, Audit}
 use Rattle.command_words.specs.declared.command.Command.TheVariants.{Selfrun, Serve, Migrate}
+use Rattle.command_words.specs.declared.command.Command.TheVariants.{Dossier, Check, Standby}
 use Rattle.command_words.specs.declared.command.Files.{Files}
 
 -- ---- what words say
@@ -33,6 +34,16 @@ pub data Reading : Type 0 where
   runs_serve : FileNames → List ℕ → ℕ → ℕ → Reading
   -- the moving of the journals of these files to a directory
   runs_migrate : FileNames → List ℕ → Reading
+  -- the dossier of the user of this name
+  runs_dossier : FileNames → List ℕ → Reading
+  -- the check of a dossier of the user of this name, over a policy file and a facts file
+  runs_check : List ℕ → List ℕ → List ℕ → Reading
+  -- the same batch, with a standby at this address that copies the journals
+  runs_copied_batch : FileNames → ℕ → List ℕ → Reading
+  -- the same server, with a standby at the last address
+  runs_copied_serve : FileNames → List ℕ → ℕ → ℕ → List ℕ → Reading
+  -- a standby over these files, at this address, for so many connections
+  runs_standby : FileNames → List ℕ → ℕ → Reading
 
 -- ---- the uses of options
 
@@ -63,10 +74,14 @@ files_said (Some policy) (Some facts) (Some journals) =
     Some (record { policy = policy; facts = facts; directory = journals })
 files_said _ _ _ = None
 
--- a batch over these files, with so many workers
-abbrev pub batch_said : Option FileNames → Option ℕ → Option Reading
-batch_said (Some files) (Some workers) = Some (runs_batch files workers)
-batch_said _ _ = None
+-- a batch over these files, with so many workers, and a standby if there is an address
+abbrev pub batch_reading : FileNames → ℕ → Option (List ℕ) → Reading
+batch_reading files workers None = runs_batch files workers
+batch_reading files workers (Some standby) = runs_copied_batch files workers standby
+
+abbrev pub batch_said : Option FileNames → Option ℕ → Option (List ℕ) → Option Reading
+batch_said (Some files) (Some workers) standby = Some (batch_reading files workers standby)
+batch_said _ _ _ = None
 
 -- an audit over these files, of this user
 abbrev pub audit_said : Option FileNames → Option (List ℕ) → Bool → Option Reading
@@ -78,17 +93,40 @@ abbrev pub selfrun_said : Option ℕ → Option ℕ → Option ℕ → Option Re
 selfrun_said (Some seed) (Some users) (Some asks) = Some (runs_selfrun seed users asks)
 selfrun_said _ _ _ = None
 
--- a server over these files, at this address, with these numbers
-abbrev pub serve_said : Option FileNames → Option (List ℕ) → Option ℕ → Option ℕ → Option Reading
-serve_said (Some files) (Some address) (Some workers) (Some sessions) =
-    Some (runs_serve files address workers sessions)
-serve_said _ _ _ _ = None
+-- a server over these files, at this address, with these numbers, and a standby if there is a
+-- further address
+abbrev pub serve_reading : FileNames → List ℕ → ℕ → ℕ → Option (List ℕ) → Reading
+serve_reading files address workers sessions None = runs_serve files address workers sessions
+serve_reading files address workers sessions (Some standby) =
+    runs_copied_serve files address workers sessions standby
+
+abbrev pub serve_said : Option FileNames → Option (List ℕ) → Option ℕ → Option ℕ
+    → Option (List ℕ) → Option Reading
+serve_said (Some files) (Some address) (Some workers) (Some sessions) standby =
+    Some (serve_reading files address workers sessions standby)
+serve_said _ _ _ _ _ = None
+
+-- a standby over these files, at this address, for so many connections
+abbrev pub standby_said : Option FileNames → Option (List ℕ) → Option ℕ → Option Reading
+standby_said (Some files) (Some address) (Some sessions) =
+    Some (runs_standby files address sessions)
+standby_said _ _ _ = None
 
 -- the moving of the journals of these files to a directory, which is another word
 abbrev pub migrate_said : Option FileNames → Option (List ℕ) → Option Reading
 migrate_said (Some files) (Some to) =
     if bytes_eq files.directory to then None else Some (runs_migrate files to)
 migrate_said _ _ = None
+
+-- the dossier over these files, of this user
+abbrev pub dossier_said : Option FileNames → Option (List ℕ) → Option Reading
+dossier_said (Some files) (Some user) = Some (runs_dossier files user)
+dossier_said _ _ = None
+
+-- the check over these two files, of a dossier of this user
+abbrev pub check_said : Option (List ℕ) → Option (List ℕ) → Option (List ℕ) → Option Reading
+check_said (Some policy) (Some facts) (Some user) = Some (runs_check policy facts user)
+check_said _ _ _ = None
 
 -- the files that uses name
 abbrev pub files_of : List Use → Option FileNames
@@ -99,6 +137,7 @@ files_of uses = files_said (value_of uses (codes "policy")) (value_of uses (code
 abbrev pub batch_of : List Use → Option Reading
 batch_of uses =
     batch_said (files_of uses) (number_or 4 1 64 (value_of uses (codes "workers")))
+    (value_of uses (codes "standby"))
 
 -- the audit that uses say: as JSON where `--json` is used
 abbrev pub audit_of : List Use → Option Reading
@@ -119,10 +158,27 @@ serve_of uses =
     serve_said (files_of uses) (value_of uses (codes "listen"))
     (number_or 4 1 64 (value_of uses (codes "workers")))
     (number_or 1073741824 1 1000000 (value_of uses (codes "sessions")))
+    (value_of uses (codes "standby"))
+
+-- the standby that uses say: 1 to 1,000,000 connections, else 2^30
+abbrev pub standby_of : List Use → Option Reading
+standby_of uses =
+    standby_said (files_of uses) (value_of uses (codes "listen"))
+    (number_or 1073741824 1 1000000 (value_of uses (codes "sessions")))
 
 -- the moving of journals that uses say
 abbrev pub migrate_of : List Use → Option Reading
 migrate_of uses = migrate_said (files_of uses) (value_of uses (codes "to"))
+
+-- the dossier that uses say
+abbrev pub dossier_of : List Use → Option Reading
+dossier_of uses = dossier_said (files_of uses) (value_of uses (codes "user"))
+
+-- the check of a dossier that uses say
+abbrev pub check_of : List Use → Option Reading
+check_of uses =
+    check_said (value_of uses (codes "policy")) (value_of uses (codes "facts"))
+    (value_of uses (codes "user"))
 
 -- ---- the table
 
@@ -162,12 +218,12 @@ init_row = record {
       λ uses. option_map runs_init (files_of uses);
 }
 
--- `batch --policy P --facts F --journals DIR [--workers N]`
+-- `batch --policy P --facts F --journals DIR [--workers N] [--standby ADDRESS]`
 abbrev pub batch_row : CommandRow
 batch_row = record {
   name = codes "batch";
   options =
-      file_options (optional (codes "workers") ∷ []);
+      file_options (optional (codes "workers") ∷ optional (codes "standby") ∷ []);
   says = batch_of;
 }
 
@@ -189,13 +245,14 @@ selfrun_row = record {
   says = selfrun_of;
 }
 
--- `serve --policy P --facts F --journals DIR --listen ADDRESS [--workers N] [--sessions N]`
+-- `serve --policy P --facts F --journals DIR --listen ADDRESS [--workers N] [--sessions N]
+-- [--standby ADDRESS]`
 abbrev pub serve_row : CommandRow
 serve_row = record {
   name = codes "serve";
   options =
       file_options (needed (codes "listen") ∷ optional (codes "workers")
-      ∷ optional (codes "sessions")
+      ∷ optional (codes "sessions") ∷ optional (codes "standby")
       ∷ []);
   says = serve_of;
 }
@@ -209,9 +266,37 @@ migrate_row = record {
   says = migrate_of;
 }
 
+-- `dossier --policy P --facts F --journals DIR --user NAME`
+abbrev pub dossier_row : CommandRow
+dossier_row = record {
+  name = codes "dossier";
+  options =
+      file_options (needed (codes "user") ∷ []);
+  says = dossier_of;
+}
+
+-- `check --policy P --facts F --user NAME`
+abbrev pub check_row : CommandRow
+check_row = record {
+  name = codes "check";
+  options =
+      needed (codes "policy") ∷ needed (codes "facts") ∷ needed (codes "user") ∷ [];
+  says = check_of;
+}
+
+-- `standby --policy P --facts F --journals DIR --listen ADDRESS [--sessions N]`
+abbrev pub standby_row : CommandRow
+standby_row = record {
+  name = codes "standby";
+  options =
+      file_options (needed (codes "listen") ∷ optional (codes "sessions") ∷ []);
+  says = standby_of;
+}
+
 -- all commands
 abbrev pub commands : List CommandRow
-commands = case_row ∷ init_row ∷ batch_row ∷ audit_row ∷ selfrun_row ∷ serve_row ∷ migrate_row ∷ []
+commands = case_row ∷ init_row ∷ batch_row ∷ audit_row ∷ selfrun_row ∷ serve_row ∷ migrate_row
+    ∷ dossier_row ∷ check_row ∷ standby_row ∷ []
 
 -- the command of this name
 abbrev pub command_of : List ℕ → Option CommandRow
@@ -246,9 +331,15 @@ names_of_files files =
 abbrev pub reading_in : Command → Reading
 reading_in Case = runs_case
 reading_in (Init files) = runs_init (names_of_files files)
-reading_in (Batch words) = runs_batch (names_of_files words.files) words.workers
+reading_in (Batch words) =
+    batch_reading (names_of_files words.files) words.workers (option_map (λ s. s.now) words.standby)
 reading_in (Audit words) = runs_audit (names_of_files words.files) words.user.now words.json
 reading_in (Selfrun words) = runs_selfrun words.seed words.users words.asks
 reading_in (Serve words) =
-    runs_serve (names_of_files words.files) words.listen.now words.workers words.sessions
+    serve_reading (names_of_files words.files) words.listen.now words.workers words.sessions
+    (option_map (λ s. s.now) words.standby)
 reading_in (Migrate words) = runs_migrate (names_of_files words.files) words.to.now
+reading_in (Dossier words) = runs_dossier (names_of_files words.files) words.user.now
+reading_in (Check words) = runs_check words.policy.now words.facts.now words.user.now
+reading_in (Standby words) =
+    runs_standby (names_of_files words.files) words.listen.now words.sessions

@@ -5,9 +5,11 @@ ghost use Rattle.std.specs.List.{list_any};
 ghost use Rattle.clap.specs.Words.{found_of, kind_of, rows_of, subcommand_rows_of};
 ghost use Rattle.command_words.specs.Readings.{reading_of, reading_in, names_of_files, files_said};
 ghost use Rattle.command_words.specs.Readings.{batch_said, audit_said, selfrun_said, serve_said};
-ghost use Rattle.command_words.specs.Readings.{migrate_said};
+ghost use Rattle.command_words.specs.Readings.{migrate_said, dossier_said, check_said};
+ghost use Rattle.command_words.specs.Readings.{standby_said};
 ghost use Rattle.command_words.specs.Matched.{is_short, says_true, files_in, batch_in, audit_in};
-ghost use Rattle.command_words.specs.Matched.{selfrun_in, serve_in, migrate_in, command_with};
+ghost use Rattle.command_words.specs.Matched.{selfrun_in, serve_in, migrate_in, dossier_in};
+ghost use Rattle.command_words.specs.Matched.{check_in, standby_in, command_with};
 
 use crate::number::{number_from, number_or, small_number_from, small_number_or};
 use crate::program::program;
@@ -33,6 +35,8 @@ pub struct BatchWords<'a> {
     pub files: Files<'a>,
     /// how many workers answer, 1 to 64, and 4 without the option
     pub workers: u32,
+    /// the address of the standby that copies the journals, if there is one
+    pub standby: Option<&'a str>,
 }
 
 /// What an audit is of.
@@ -68,6 +72,19 @@ pub struct ServeWords<'a> {
     pub workers: u32,
     /// how many connections they serve together, 1 to 1,000,000, and 2^30 without the option
     pub sessions: u64,
+    /// the address of the standby that copies the journals, if there is one
+    pub standby: Option<&'a str>,
+}
+
+/// What a standby is to do.
+#[derive(Clone, Copy, Debug, PartialEq, Eq)]
+pub struct StandbyWords<'a> {
+    /// the files, with the directory of its own journals
+    pub files: Files<'a>,
+    /// the address at which it listens
+    pub listen: &'a str,
+    /// how many connections it takes, 1 to 1,000,000, and 2^30 without the option
+    pub sessions: u64,
 }
 
 /// Which journals are moved.
@@ -77,6 +94,26 @@ pub struct MigrateWords<'a> {
     pub files: Files<'a>,
     /// the directory of the new ones, which is another word
     pub to: &'a str,
+}
+
+/// Whose dossier is written.
+#[derive(Clone, Copy, Debug, PartialEq, Eq)]
+pub struct DossierWords<'a> {
+    /// the files
+    pub files: Files<'a>,
+    /// the name of the user
+    pub user: &'a str,
+}
+
+/// Whose dossier is checked. It takes no journal.
+#[derive(Clone, Copy, Debug, PartialEq, Eq)]
+pub struct CheckWords<'a> {
+    /// the policy file
+    pub policy: &'a str,
+    /// the facts file
+    pub facts: &'a str,
+    /// the name of the user
+    pub user: &'a str,
 }
 
 /// What the program is to do. The texts are those of the words.
@@ -96,16 +133,22 @@ pub enum Command<'a> {
     Serve(ServeWords<'a>),
     /// `migrate`: the old journals of one directory, moved to another.
     Migrate(MigrateWords<'a>),
+    /// `dossier`: the history of one user with what shows each reply.
+    Dossier(DossierWords<'a>),
+    /// `check`: the dossier of one user, without a search.
+    Check(CheckWords<'a>),
+    /// `standby`: a copy of each journal of another program.
+    Standby(StandbyWords<'a>),
 }
 
 /// Reads the words behind the program's name.
 ///
 /// The first word is the command. Its options come behind it in any order, each at most once, as
-/// `--name value` or `--name=value`; only `--json`, `--workers` and `--sessions` may be left out,
-/// and `--json` has no value. Words that begin with a hyphen, but for `-` alone, are values only in
-/// the second form, and no value is empty. Numbers are one to ten decimal digits, within their
-/// limits. There is no help among the words and no short form of a name. An error is want of
-/// memory.
+/// `--name value` or `--name=value`; only `--json`, `--workers`, `--sessions` and `--standby` may
+/// be left out, and `--json` has no value. Words that begin with a hyphen, but for `-` alone, are
+/// values only in the second form, and no value is empty. Numbers are one to ten decimal digits,
+/// within their limits. There is no help among the words and no short form of a name. An error is
+/// want of memory.
 pub fn read_words<'a>(alloc: Global, words: &'a [String]) -> Result<Option<Command<'a>>, AllocError>
     ensures { IfOk result (λ read. option_map reading_in read
         ≡ reading_of (map string_bytes words.now)) }
@@ -175,6 +218,9 @@ fn command_with<'a>(name: &str, given: &ArgMatches<'a>) -> Option<Command<'a>>
         "selfrun" => selfrun_in(given),
         "serve" => serve_in(given),
         "migrate" => migrate_in(given),
+        "dossier" => dossier_in(given),
+        "check" => check_in(given),
+        "standby" => standby_in(given),
         _ => None,
     }
 }
@@ -216,15 +262,25 @@ fn batch_in<'a>(given: &ArgMatches<'a>) -> Option<Command<'a>>
     batch_with(
         files_in(given),
         small_number_or(4, 1, 64, given.get_str("workers")),
+        given.get_str("standby"),
     )
 }
 
-fn batch_with<'a>(files: Option<Files<'a>>, workers: Option<u32>) -> Option<Command<'a>>
+fn batch_with<'a>(
+    files: Option<Files<'a>>,
+    workers: Option<u32>,
+    standby: Option<&'a str>,
+) -> Option<Command<'a>>
     ensures { option_map reading_in result
-        ≡ batch_said (option_map names_of_files files.entry) workers }
+        ≡ batch_said (option_map names_of_files files.entry) workers
+        (option_map (λ s. s.now) standby.entry) }
 {
     match (files, workers) {
-        (Some(files), Some(workers)) => Some(Command::Batch(BatchWords { files, workers })),
+        (Some(files), Some(workers)) => Some(Command::Batch(BatchWords {
+            files,
+            workers,
+            standby,
+        })),
         _ => None,
     }
 }
@@ -296,6 +352,7 @@ fn serve_in<'a>(given: &ArgMatches<'a>) -> Option<Command<'a>>
         given.get_str("listen"),
         small_number_or(4, 1, 64, given.get_str("workers")),
         number_or(1_073_741_824, 1, 1_000_000, given.get_str("sessions")),
+        given.get_str("standby"),
     )
 }
 
@@ -304,10 +361,12 @@ fn serve_with<'a>(
     listen: Option<&'a str>,
     workers: Option<u32>,
     sessions: Option<u64>,
+    standby: Option<&'a str>,
 ) -> Option<Command<'a>>
     ensures { option_map reading_in result
         ≡ serve_said (option_map names_of_files files.entry)
-        (option_map (λ s. s.now) listen.entry) workers sessions }
+        (option_map (λ s. s.now) listen.entry) workers sessions
+        (option_map (λ s. s.now) standby.entry) }
 {
     match (files, listen, workers, sessions) {
         (Some(files), Some(listen), Some(workers), Some(sessions)) => {
@@ -316,6 +375,7 @@ fn serve_with<'a>(
                 listen,
                 workers,
                 sessions,
+                standby,
             }))
         }
         _ => None,
@@ -342,6 +402,84 @@ fn migrate_with<'a>(files: Option<Files<'a>>, to: Option<&'a str>) -> Option<Com
                 Some(Command::Migrate(MigrateWords { files, to }))
             }
         }
+        _ => None,
+    }
+}
+
+// The dossier that was matched.
+fn dossier_in<'a>(given: &ArgMatches<'a>) -> Option<Command<'a>>
+    ensures { option_map reading_in result ≡ dossier_in (rows_of (found_of given.now)) }
+{
+    dossier_with(files_in(given), given.get_str("user"))
+}
+
+fn dossier_with<'a>(files: Option<Files<'a>>, user: Option<&'a str>) -> Option<Command<'a>>
+    ensures { option_map reading_in result
+        ≡ dossier_said (option_map names_of_files files.entry)
+        (option_map (λ s. s.now) user.entry) }
+{
+    match (files, user) {
+        (Some(files), Some(user)) => Some(Command::Dossier(DossierWords { files, user })),
+        _ => None,
+    }
+}
+
+// The check of a dossier that was matched.
+fn check_in<'a>(given: &ArgMatches<'a>) -> Option<Command<'a>>
+    ensures { option_map reading_in result ≡ check_in (rows_of (found_of given.now)) }
+{
+    check_with(
+        given.get_str("policy"),
+        given.get_str("facts"),
+        given.get_str("user"),
+    )
+}
+
+fn check_with<'a>(
+    policy: Option<&'a str>,
+    facts: Option<&'a str>,
+    user: Option<&'a str>,
+) -> Option<Command<'a>>
+    ensures { option_map reading_in result
+        ≡ check_said (option_map (λ s. s.now) policy.entry) (option_map (λ s. s.now) facts.entry)
+        (option_map (λ s. s.now) user.entry) }
+{
+    match (policy, facts, user) {
+        (Some(policy), Some(facts), Some(user)) => Some(Command::Check(CheckWords {
+            policy,
+            facts,
+            user,
+        })),
+        _ => None,
+    }
+}
+
+// The standby that was matched.
+fn standby_in<'a>(given: &ArgMatches<'a>) -> Option<Command<'a>>
+    ensures { option_map reading_in result ≡ standby_in (rows_of (found_of given.now)) }
+{
+    standby_with(
+        files_in(given),
+        given.get_str("listen"),
+        number_or(1_073_741_824, 1, 1_000_000, given.get_str("sessions")),
+    )
+}
+
+fn standby_with<'a>(
+    files: Option<Files<'a>>,
+    listen: Option<&'a str>,
+    sessions: Option<u64>,
+) -> Option<Command<'a>>
+    ensures { option_map reading_in result
+        ≡ standby_said (option_map names_of_files files.entry)
+        (option_map (λ s. s.now) listen.entry) sessions }
+{
+    match (files, listen, sessions) {
+        (Some(files), Some(listen), Some(sessions)) => Some(Command::Standby(StandbyWords {
+            files,
+            listen,
+            sessions,
+        })),
         _ => None,
     }
 }

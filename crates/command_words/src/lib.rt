@@ -16,5 +16,6 @@ mod number;
 mod program;
 
 pub use command::{
-    AuditWords, BatchWords, Command, Files, MigrateWords, SelfrunWords, ServeWords, read_words,
+    AuditWords, BatchWords, CheckWords, Command, DossierWords, Files, MigrateWords, SelfrunWords,
+    ServeWords, StandbyWords, read_words,
 };

@@ -2,9 +2,10 @@
 ghost use Rattle.std.specs.Prelude.{◌≡◌, false, IfOk};
 ghost use Rattle.clap.specs.Words.{app_of, rule_of};
 ghost use Rattle.clap.specs.declared.builder.command.Command.TheViews.{out-Command};
-ghost use Rattle.command_words.specs.Matched.{audit_command, batch_command, file_command};
-ghost use Rattle.command_words.specs.Matched.{flag_rule, migrate_command, needed_rule};
-ghost use Rattle.command_words.specs.Matched.{optional_rule, program, serve_command, three_command};
+ghost use Rattle.command_words.specs.Matched.{audit_command, batch_command, dossier_command};
+ghost use Rattle.command_words.specs.Matched.{file_command, flag_rule, migrate_command};
+ghost use Rattle.command_words.specs.Matched.{needed_rule, optional_rule, program, serve_command};
+ghost use Rattle.command_words.specs.Matched.{standby_command, three_command, with_last};
 
 use clap::builder::ValueParser;
 use clap::{Arg, ArgAction, Command};
@@ -26,7 +27,7 @@ pub(crate) fn program<'a>(alloc: Global) -> Result<Command<'a>, AllocError>
         .disable_help_flag(true)
         .disable_help_subcommand(true)
         .subcommand_required(true);
-    let program = program
+    let first = program
         .subcommand(case)?
         .subcommand(init)?
         .subcommand(batch)?
@@ -34,11 +35,26 @@ pub(crate) fn program<'a>(alloc: Global) -> Result<Command<'a>, AllocError>
         .subcommand(selfrun)?
         .subcommand(serve)?
         .subcommand(migrate)?;
-    Ok(program)
+    let all = with_last(alloc, first)?;
+    Ok(all)
 }
 
 // What each of these returns has a name first: its goals are then plain equations, and no
 // implications under `IfOk`.
+
+// The command line with its last three commands too.
+fn with_last<'a>(alloc: Global, first: Command<'a>) -> Result<Command<'a>, AllocError>
+    ensures { IfOk result (λ command. app_of command ≡ with_last (app_of first.entry)) }
+{
+    let dossier = dossier(alloc)?;
+    let check = with_three(alloc, "check", "policy", "facts", "user")?;
+    let standby = standby(alloc)?;
+    let all = first
+        .subcommand(dossier)?
+        .subcommand(check)?
+        .subcommand(standby)?;
+    Ok(all)
+}
 
 // The batch.
 fn batch<'a>(alloc: Global) -> Result<Command<'a>, AllocError>
@@ -46,8 +62,9 @@ fn batch<'a>(alloc: Global) -> Result<Command<'a>, AllocError>
     ensures plain { IfOk result (λ command. (out-Command command).has_globals ≡ false) }
 {
     let workers = optional(alloc, "workers");
+    let standby = optional(alloc, "standby");
     let files = with_files(alloc, "batch")?;
-    let command = files.arg(workers)?;
+    let command = files.arg(workers)?.arg(standby)?;
     Ok(command)
 }
 
@@ -71,8 +88,25 @@ fn serve<'a>(alloc: Global) -> Result<Command<'a>, AllocError>
     let listen = needed(alloc, "listen");
     let workers = optional(alloc, "workers");
     let sessions = optional(alloc, "sessions");
+    let standby = optional(alloc, "standby");
     let files = with_files(alloc, "serve")?;
-    let command = files.arg(listen)?.arg(workers)?.arg(sessions)?;
+    let command = files
+        .arg(listen)?
+        .arg(workers)?
+        .arg(sessions)?
+        .arg(standby)?;
+    Ok(command)
+}
+
+// The standby.
+fn standby<'a>(alloc: Global) -> Result<Command<'a>, AllocError>
+    ensures shape { IfOk result (λ command. app_of command ≡ standby_command) }
+    ensures plain { IfOk result (λ command. (out-Command command).has_globals ≡ false) }
+{
+    let listen = needed(alloc, "listen");
+    let sessions = optional(alloc, "sessions");
+    let files = with_files(alloc, "standby")?;
+    let command = files.arg(listen)?.arg(sessions)?;
     Ok(command)
 }
 
@@ -84,6 +118,17 @@ fn migrate<'a>(alloc: Global) -> Result<Command<'a>, AllocError>
     let to = needed(alloc, "to");
     let files = with_files(alloc, "migrate")?;
     let command = files.arg(to)?;
+    Ok(command)
+}
+
+// The dossier of a user.
+fn dossier<'a>(alloc: Global) -> Result<Command<'a>, AllocError>
+    ensures shape { IfOk result (λ command. app_of command ≡ dossier_command) }
+    ensures plain { IfOk result (λ command. (out-Command command).has_globals ≡ false) }
+{
+    let user = needed(alloc, "user");
+    let files = with_files(alloc, "dossier")?;
+    let command = files.arg(user)?;
     Ok(command)
 }
 

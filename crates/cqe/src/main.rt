@@ -10,8 +10,9 @@
 //! wanting for the words themselves, it ends as `top` does for want of memory.
 //!
 //! A standard stream that was closed before the start stays closed, and no journal gets its
-//! descriptor. An audit reads journals that a server may have open, and writes to none; every other
-//! command works on them alone.
+//! descriptor. An audit and a dossier read journals that a server may have open, and write to none;
+//! a check takes none; every other command works on them alone. A standby waits less time for a
+//! client who has fallen silent.
 //!
 //! Read `top` first, then `main` here.
 #![tactic(auto)]
@@ -38,14 +39,18 @@ fn main(rt: HostRuntime) -> ExitCode {
         let _given = write_all(&mut complaints, b"cqe: out of memory\n");
         return ExitCode::from(OUT_OF_MEMORY);
     };
-    let mut shelf = if is_audit(&words) {
+    let mut shelf = if only_reads(&words) {
         FileShelf::for_reading(rt.alloc(), &rt)
     } else {
         FileShelf::new(rt.alloc(), &rt)
     };
     let mut source = StreamSource::new(rt.stdin());
     let mut sink = StreamSink::new(rt.stdout());
-    let mut links = TcpLinks::new(&rt);
+    let mut links = if is_standby(&words) {
+        TcpLinks::for_standby(&rt)
+    } else {
+        TcpLinks::new(&rt)
+    };
     let status = top(
         &rt,
         rt.alloc(),
@@ -81,10 +86,18 @@ fn hold_below(rt: &HostRuntime, how: &OpenOptions, limit: i32) -> io::Result<Opt
     }
 }
 
-// Whether the first word is the command that writes to no journal.
-fn is_audit(words: &[String]) -> bool {
+// Whether the first word is a command that writes to no journal.
+fn only_reads(words: &[String]) -> bool {
     match words.first() {
-        Some(word) => word.as_str() == "audit",
+        Some(word) => matches!(word.as_str(), "audit" | "dossier" | "check"),
+        None => false,
+    }
+}
+
+// Whether the first word is the command that takes frames of a primary.
+fn is_standby(words: &[String]) -> bool {
+    match words.first() {
+        Some(word) => word.as_str() == "standby",
         None => false,
     }
 }

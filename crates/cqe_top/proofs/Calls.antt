@@ -316,8 +316,8 @@ module _ (policy : PolicyValue) (world : FactSet) (header : List ℕ) (user : Po
           run = calls_join policy.schema world user.profile header all.begun opened all.calls (begins all.begun all.began) all.over;
         }
 
-module _ {F D S K E L Door In Out : Type 0} (Shelf : ShelfGhosts F D) (Disk : DiskGhosts D) (Source : SourceGhosts S) (Sink : SinkGhosts K)
-    (Complaints : SinkGhosts E) (Links : LinksGhosts L Door In Out) (files : FileNames) (policy : PolicyValue) (world : FactSet) (header : List ℕ) where
+module _ {F D S K E L Door Dial In Out : Type 0} (Shelf : ShelfGhosts F D) (Disk : DiskGhosts D) (Source : SourceGhosts S) (Sink : SinkGhosts K)
+    (Complaints : SinkGhosts E) (Links : LinksGhosts L Door Dial In Out) (files : FileNames) (policy : PolicyValue) (world : FactSet) (header : List ℕ) where
   -- its journals, of a call of which `top` promised
   abbrev its : Promised Shelf Disk Source Sink Complaints Links files policy world header → Journals
   its call = journals_at Shelf Disk Source Sink Complaints Links files policy world header call

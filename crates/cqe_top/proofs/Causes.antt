@@ -1,6 +1,6 @@
 -- A fault that is told has its cause: for each end, from the clauses of its engine.
 use Rattle.std.proofs.Common.{◌≡◌, ℕ, List, Bool, true, false, refl, sym, subst}
-use Rattle.std.specs.Prelude.{Vec, Option, if◌then◌else◌}
+use Rattle.std.specs.Prelude.{Vec, Option, None, if◌then◌else◌}
 use Rattle.std.specs.declared.alloc.Global.{Global}
 use Rattle.std.specs.Borrow.{Bor}
 use Rattle.cqe_base.specs.declared.user.User.{User}
@@ -12,6 +12,10 @@ use Rattle.batch_engine.specs.declared.run.BatchEnd.{BatchEnd}
 use Rattle.batch_engine.specs.declared.run.BatchEnd.TheVariants as batch_end
 use Rattle.case_engine.specs.declared.case.CaseEnd.{CaseEnd}
 use Rattle.case_engine.specs.declared.case.CaseEnd.TheVariants as case_end
+use Rattle.dossier_engine.specs.declared.end.CheckEnd.{CheckEnd}
+use Rattle.dossier_engine.specs.declared.end.CheckEnd.TheVariants as check_end
+use Rattle.dossier_engine.specs.declared.end.DossierEnd.{DossierEnd}
+use Rattle.dossier_engine.specs.declared.end.DossierEnd.TheVariants as dossier_end
 use Rattle.outside.specs.Shelf.{SomeRose}
 use Rattle.init_engine.specs.declared.end.InitEnd.{InitEnd}
 use Rattle.init_engine.specs.declared.end.InitEnd.TheVariants as init_end
@@ -22,12 +26,17 @@ use Rattle.selfrun_engine.specs.declared.end.SelfrunEnd.TheVariants as selfrun_e
 use Rattle.serve_engine.specs.Serving as serving
 use Rattle.serve_engine.specs.declared.run.ServeEnd.{ServeEnd}
 use Rattle.serve_engine.specs.declared.run.ServeEnd.TheVariants as serve_end
+use Rattle.standby_engine.specs.Standing as standing
+use Rattle.standby_engine.specs.declared.run.CopyEnd.{CopyEnd}
+use Rattle.standby_engine.specs.declared.run.CopyEnd.TheVariants as copy_end
+use Rattle.command_words.specs.Readings.{Reading}
 use Rattle.cqe_top.specs.declared.end.CommandEnd.{CommandEnd}
 use Rattle.cqe_top.specs.declared.end.CommandEnd.TheVariants as ends
 use Rattle.cqe_top.specs.declared.end.FilesEnd.{FilesEnd}
 use Rattle.cqe_top.specs.declared.end.FilesEnd.TheVariants as files_end
 use Rattle.cqe_top.specs.declared.report.Report.{Report}
 use Rattle.cqe_top.specs.declared.report.Report.TheVariants as report
+use Rattle.cqe_top.specs.Promise.{OfReading, Does, Always}
 use Rattle.cqe_top.specs.Reports.{report_of, answers_report, has_refusal, FaultsHaveCauses}
 use Rattle.cqe_top.specs.Scene.{Scene, HasRisen}
 use Rattle.cqe_top.specs.Steps.{IsShelfFault}
@@ -112,6 +121,23 @@ module _ (s : Scene) where
   audit_cause name audit_end.ShelfFault write shelf = has_cause _ (shelf refl)
   audit_cause name audit_end.Memory write shelf = has_cause _ tt
 
+  pub dossier_cause : (name : Bor (List ℕ)) (end : DossierEnd) → (end ≡ dossier_end.WriteFault → HasRisen s.output.faults)
+      → (end ≡ dossier_end.ShelfFault → HasRisen s.shelf.faults)
+      → FaultsHaveCauses s (ends.Dossier name end)
+  dossier_cause name dossier_end.Done write shelf = has_cause _ tt
+  dossier_cause name (dossier_end.Refused why) write shelf = has_cause _ tt
+  dossier_cause name dossier_end.WriteFault write shelf = has_cause _ (write refl)
+  dossier_cause name dossier_end.ShelfFault write shelf = has_cause _ (shelf refl)
+  dossier_cause name dossier_end.Memory write shelf = has_cause _ tt
+
+  pub check_cause : (end : CheckEnd) → (end ≡ check_end.ReadFault → HasRisen s.input.faults)
+      → (end ≡ check_end.WriteFault → HasRisen s.output.faults) → FaultsHaveCauses s (ends.Check end)
+  check_cause check_end.Done read write = has_cause _ tt
+  check_cause (check_end.Refused why) read write = has_cause _ tt
+  check_cause check_end.ReadFault read write = has_cause _ (read refl)
+  check_cause check_end.WriteFault read write = has_cause _ (write refl)
+  check_cause check_end.Memory read write = has_cause _ tt
+
   pub selfrun_cause : (end : SelfrunEnd) → (end ≡ selfrun_end.WriteFault → HasRisen s.output.faults) → FaultsHaveCauses s (ends.Selfrun end)
   selfrun_cause selfrun_end.Done write = has_cause _ tt
   selfrun_cause selfrun_end.WriteFault write = has_cause _ (write refl)
@@ -125,3 +151,16 @@ module _ (s : Scene) where
   serve_cause users serve_end.LinksFault links shelf disk = has_cause _ (links refl)
   serve_cause users serve_end.ShelfFault links shelf disk = has_cause _ (shelf refl)
   serve_cause users serve_end.Memory links shelf disk = has_cause _ tt
+
+  pub standby_cause : (users : Vec User Global) (end : CopyEnd) → (end ≡ copy_end.LinksFault → HasRisen s.links.faults)
+      → (end ≡ copy_end.ShelfFault → HasRisen s.shelf.faults)
+      → (standing.IsBroken end → SomeRose s.shelf.disk_faults s.shelf.disk_faults') → FaultsHaveCauses s (ends.Standby users end)
+  standby_cause users (copy_end.Done refusals is_broken) links shelf disk =
+      has_cause _ (answers_cause users refusals (has_refusal refusals.items) is_broken refl disk)
+  standby_cause users copy_end.LinksFault links shelf disk = has_cause _ (links refl)
+  standby_cause users copy_end.ShelfFault links shelf disk = has_cause _ (shelf refl)
+  standby_cause users copy_end.Memory links shelf disk = has_cause _ tt
+
+  -- where no exchanges are counted, it was done so
+  pub plainly : (reading : Option Reading) (end : CommandEnd) → OfReading s reading end → FaultsHaveCauses s end → Always s → Does s reading end
+  plainly reading end of cause always = record { exchanges = None; counted = tt; command = of; cause = cause; always = always }

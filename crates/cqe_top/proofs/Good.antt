@@ -6,6 +6,7 @@ use Rattle.std.specs.Borrow.{Bor}
 use Rattle.std.specs.declared.alloc.Global.{Global}
 use Rattle.outside.specs.Faults.{Rose}
 use Rattle.outside.specs.Shelf.{bytes_on}
+use Rattle.outside.specs.declared.links.Links.{Ghosts as LinksGhosts}
 use Rattle.cqe_base.specs.Schema.{Text}
 use Rattle.cqe_base.specs.Facts.{FactSet}
 use Rattle.cqe_base.specs.Transcript.{NamedUser}
@@ -19,7 +20,13 @@ use Rattle.case_engine.specs.Script.{script_of}
 use Rattle.case_engine.specs.declared.case.CaseEnd.{CaseEnd}
 use Rattle.case_engine.specs.declared.case.CaseEnd.TheVariants as case_end
 use Rattle.command_words.specs.Readings.{FileNames, Reading, runs_case, runs_init, runs_batch, runs_audit, runs_selfrun, runs_serve, runs_migrate}
+use Rattle.command_words.specs.Readings.{runs_dossier, runs_check, runs_copied_batch, runs_copied_serve, runs_standby}
 use Rattle.desk_crew.specs.Shelved.{Journals}
+use Rattle.dossier_engine.specs.Checks.{checked_bytes}
+use Rattle.dossier_engine.specs.declared.end.CheckEnd.{CheckEnd}
+use Rattle.dossier_engine.specs.declared.end.CheckEnd.TheVariants as check_end
+use Rattle.dossier_engine.specs.declared.end.DossierEnd.{DossierEnd}
+use Rattle.dossier_engine.specs.declared.end.DossierEnd.TheVariants as dossier_end
 use Rattle.init_engine.specs.declared.end.InitEnd.{InitEnd}
 use Rattle.init_engine.specs.declared.end.InitEnd.TheVariants as init_end
 use Rattle.log_journal.specs.Names.{journal_name}
@@ -35,22 +42,30 @@ use Rattle.selfrun_engine.specs.declared.end.SelfrunEnd.TheVariants as selfrun_e
 use Rattle.user_desk.specs.Causes.{Opens}
 use Rattle.user_desk.specs.declared.standing.DeskError.{DeskError}
 use Rattle.cqe_top.specs.declared.end.CommandEnd.TheVariants as ends
+use Rattle.cqe_top.specs.declared.end.FileKind.TheVariants as file_kind
 use Rattle.cqe_top.specs.declared.end.FilesEnd.{FilesEnd}
 use Rattle.cqe_top.specs.declared.end.FilesEnd.TheVariants as files_end
 use Rattle.cqe_top.specs.declared.report.Report.TheVariants as report
 use Rattle.cqe_top.specs.Audit.{NamesNobody, CanBeAudited, AuditsOverFiles, RunsAudit, FindsNobody, AuditSucceeds}
 use Rattle.cqe_top.specs.Batch.{AnswersOverFiles, RunsBatch, BatchSucceeds}
 use Rattle.cqe_top.specs.Case.{RunsCase}
+use Rattle.cqe_top.specs.Check.{two_files, CanBeChecked, ChecksOverFiles, RunsCheck, CheckSucceeds}
+use Rattle.cqe_top.specs.Copied.{KeepsDoors}
+use Rattle.cqe_top.specs.Dossier.{ShowsOverFiles, RunsDossier, DossierSucceeds}
 use Rattle.cqe_top.specs.Files.{Said, both, SayOn, IsUnread, IsWhyUnread, journals_of, new_user}
 use Rattle.cqe_top.specs.Init.{Makes, RunsInit, InitSucceeds}
 use Rattle.cqe_top.specs.Migrate.{MovesJournals, RunsMigrate, MigrateSucceeds}
 use Rattle.cqe_top.specs.Promise.{OfReading}
-use Rattle.cqe_top.specs.Ready.{CanBeMade, CanBeMoved, CanBeOpened}
+use Rattle.cqe_top.specs.Ready.{CanBeMade, CanBeMoved, CanBeOpened, CanBeCopied}
 use Rattle.cqe_top.specs.Reports.{answers_report, has_refusal, IsDoneUnlessMemory, FaultsHaveCauses}
-use Rattle.cqe_top.specs.Scene.{Scene, ShelfScene, IsUntouched, HasRisen, SameInput, SameOutput, SameLinks}
-use Rattle.cqe_top.specs.Steps.{reading_over}
+use Rattle.cqe_top.specs.Scene.{Scene, ShelfScene, IsUntouched, HasRisen, SameInput, SameOutput, SameLinks, links_of}
+use Rattle.cqe_top.specs.Steps.{reading_over, reading_copied}
+use Rattle.cqe_top.specs.declared.copied.CopiedTask.{CopiedTask}
+use Rattle.cqe_top.specs.declared.copied.CopiedTask.TheVariants as copied
 use Rattle.cqe_top.specs.declared.over_files.Task.{Task}
 use Rattle.cqe_top.specs.declared.over_files.Task.TheVariants as task
+use Rattle.cqe_top.specs.declared.over_files.UserTask.{UserTask}
+use Rattle.cqe_top.specs.declared.over_files.UserTask.TheVariants as user_task
 use Rattle.cqe_top.proofs.Failing.{CanOpen, none_refused, none_broken}
 
 -- ---- what the files say
@@ -302,13 +317,103 @@ module _ (s : Scene) (files : FileNames) (user : Text) (json : Bool) where
   audit_succeeds name audit_end.Memory ran cause told out_told says shelf write = inr refl
 
   -- nor is anybody audited who isn't there
-  pub nobody_succeeds : FindsNobody s.shelf s.output files user json → AuditSucceeds s.shelf s.output files user json ends.Nobody
+  pub nobody_succeeds : FindsNobody s.shelf s.output files user → AuditSucceeds s.shelf s.output files user json ends.Nobody
   nobody_succeeds ran told out_told says shelf write =
       by (agree (NamesNobody user) (CanBeAudited (journals_of s.shelf files) user) s.shelf files (ran.over_files told) says)
     where
       by : SayOn s.shelf files (λ policy world header. NamesNobody user policy world header × CanBeAudited (journals_of s.shelf files) user policy world header)
           → IsDoneUnlessMemory ends.Nobody
       by (policy, world, header, said, (nobody, (one, found, ready))) = let clash : None ≡ Some one = sym nobody ∙ found in absurd cc
+
+-- ---- a dossier
+
+module _ (s : Scene) (files : FileNames) (user : Text) where
+  pub dossier_succeeds : (name : Bor (List ℕ)) (end : DossierEnd) → RunsDossier s.shelf s.output files user name.now end
+      → FaultsHaveCauses s (ends.Dossier name end)
+      → DossierSucceeds s.shelf s.output files user (ends.Dossier name end)
+  dossier_succeeds name dossier_end.Done ran cause told out_told says shelf write = inl refl
+  dossier_succeeds name (dossier_end.Refused why) ran cause told out_told says shelf write =
+      by (agree (ShowsOverFiles s.shelf s.output files user (dossier_end.Refused why)) (CanBeAudited (journals_of s.shelf files) user)
+      s.shelf files (ran.over_files told) says)
+    where
+      by : SayOn s.shelf files (λ policy world header. ShowsOverFiles s.shelf s.output files user (dossier_end.Refused why) policy world header
+          × CanBeAudited (journals_of s.shelf files) user policy world header) → IsDoneUnlessMemory (ends.Dossier name (dossier_end.Refused why))
+      by (policy, world, header, said, ((one, found, ended, accepted), (other, found', ready))) =
+          let journals = journals_of s.shelf files in
+          let same : other ≡ one = same_one (sym found' ∙ found) in
+          absurd (neither (ended out_told).1.opening_is
+          (λ opens. subst (λ (u : PolicyUser). Rose (journals.before u.name) (journals.now u.name) → ⊥) same ready.1 ((ended out_told).1.standing_is.1 opens))
+          (λ none. none ready.0.0 (subst (λ (u : PolicyUser). Opens policy.schema world u.profile header ready.0.0 (journals.bytes u.name)) same ready.0.1)))
+  dossier_succeeds name dossier_end.WriteFault ran cause told out_told says shelf write = absurd (write (cause.write refl))
+  dossier_succeeds name dossier_end.ShelfFault ran cause told out_told says shelf write = absurd (shelf (cause.shelf refl))
+  dossier_succeeds name dossier_end.Memory ran cause told out_told says shelf write = inr refl
+
+  pub no_dossier : FindsNobody s.shelf s.output files user → DossierSucceeds s.shelf s.output files user ends.Nobody
+  no_dossier ran told out_told says shelf write =
+      by (agree (NamesNobody user) (CanBeAudited (journals_of s.shelf files) user) s.shelf files (ran.over_files told) says)
+    where
+      by : SayOn s.shelf files (λ policy world header. NamesNobody user policy world header × CanBeAudited (journals_of s.shelf files) user policy world header)
+          → IsDoneUnlessMemory ends.Nobody
+      by (policy, world, header, said, (nobody, (one, found, ready))) = let clash : None ≡ Some one = sym nobody ∙ found in absurd cc
+
+  -- ---- the check of one
+
+  pub check_succeeds : (end : CheckEnd) → RunsCheck s.shelf s.input s.output files user end → FaultsHaveCauses s (ends.Check end)
+      → CheckSucceeds s.shelf s.input s.output files user (ends.Check end)
+  check_succeeds check_end.Done ran cause told in_told out_told says shelf read write = inl refl
+  check_succeeds (check_end.Refused why) ran cause told in_told out_told says shelf read write =
+      by (agree (ChecksOverFiles s.shelf s.input s.output files user (check_end.Refused why)) (CanBeChecked s.input.left user)
+      s.shelf files (ran.over_files told) says)
+    where
+      by : SayOn s.shelf files (λ policy world header. ChecksOverFiles s.shelf s.input s.output files user (check_end.Refused why) policy world header
+          × CanBeChecked s.input.left user policy world header) → IsDoneUnlessMemory (ends.Check (check_end.Refused why))
+      by (policy, world, header, said, ((one, found, ended), (other, found', ready))) =
+          let same : other ≡ one = same_one (sym found' ∙ found) in
+          let good = subst (λ (u : PolicyUser). IsOk (checked_bytes policy.schema world u.name u.profile s.input.left)) same ready in
+          let clash : false ≡ true = subst IsOk (ended in_told out_told).0 good in
+          absurd cc
+  check_succeeds check_end.ReadFault ran cause told in_told out_told says shelf read write = absurd (read (cause.read refl))
+  check_succeeds check_end.WriteFault ran cause told in_told out_told says shelf read write = absurd (write (cause.write refl))
+  check_succeeds check_end.Memory ran cause told in_told out_told says shelf read write = inr refl
+
+  pub no_check : FindsNobody s.shelf s.output files user → CheckSucceeds s.shelf s.input s.output files user ends.Nobody
+  no_check ran told in_told out_told says shelf read write =
+      by (agree (NamesNobody user) (CanBeChecked s.input.left user) s.shelf files (ran.over_files told) says)
+    where
+      by : SayOn s.shelf files (λ policy world header. NamesNobody user policy world header × CanBeChecked s.input.left user policy world header)
+          → IsDoneUnlessMemory ends.Nobody
+      by (policy, world, header, said, (nobody, (one, found, ready))) = let clash : None ≡ Some one = sym nobody ∙ found in absurd cc
+
+-- ---- two files without a directory of journals
+
+nobody_of : (s : Scene) (files : FileNames) (user : Text) → FindsNobody s.shelf s.output files user
+    → FindsNobody s.shelf s.output (two_files files.policy files.facts) user
+nobody_of s files user finds = record { over_files = finds.over_files; looks = finds.looks; disks = finds.disks; writes_nothing = finds.writes_nothing }
+
+why_of : (s : Scene) (files : FileNames) (end : FilesEnd) → IsWhyUnread s.shelf files end → IsWhyUnread s.shelf (two_files files.policy files.facts) end
+why_of s files (files_end.Missing name) why = why
+why_of s files (files_end.ShelfFault file_kind.Policy) why = why
+why_of s files (files_end.ShelfFault file_kind.Facts) why = why
+why_of s files (files_end.Policy refusal) why = why
+why_of s files (files_end.Facts refusal) why = why
+why_of s files files_end.Memory why = why
+
+unread_of : (s : Scene) (files : FileNames) (end : FilesEnd) → IsUnread s.shelf files end → IsUnread s.shelf (two_files files.policy files.facts) end
+unread_of s files end is = record { refused = λ told. why_of s files end (is.refused told); looks = is.looks; disks = is.disks }
+
+-- ---- a user who isn't there
+
+-- whatever was to be done for him
+pub nobody_there : (s : Scene) (files : FileNames) (user : Bor (List ℕ)) (what : UserTask) → FindsNobody s.shelf s.output files user.now
+    → SameInput s.input → SameLinks s.links
+    → OfReading s (Some (reading_over files (task.OfUser user what))) ends.Nobody
+nobody_there s files user (user_task.Audit json) finds input links =
+    record { ends = finds; succeeds = nobody_succeeds s files user.now json finds; reads_nothing = input; listens_nowhere = links }
+nobody_there s files user user_task.Dossier finds input links =
+    record { ends = finds; succeeds = no_dossier s files user.now finds; reads_nothing = input; listens_nowhere = links }
+nobody_there s files user user_task.Check finds input links =
+    let found = nobody_of s files user.now finds in
+    record { ends = (found, input); succeeds = no_check s (two_files files.policy files.facts) user.now found; listens_nowhere = links }
 
 -- ---- files that weren't read
 
@@ -330,12 +435,27 @@ unread s files (task.Batch workers) end is cause input output links = record {
       read_succeeds s files (CanBeOpened (journals_of s.shelf files)) end (is.refused told) cause says shelf;
   listens_nowhere = links;
 }
-unread s files (task.Audit name json) end is cause input output links = record {
+unread s files (task.OfUser name (user_task.Audit json)) end is cause input output links = record {
   ends = (is, output);
   succeeds = λ told out_told says shelf write. read_succeeds s files (CanBeAudited (journals_of s.shelf files) name.now) end (is.refused told) cause says shelf;
   reads_nothing = input;
   listens_nowhere = links;
 }
+unread s files (task.OfUser name user_task.Dossier) end is cause input output links = record {
+  ends = (is, output);
+  succeeds = λ told out_told says shelf write. read_succeeds s files (CanBeAudited (journals_of s.shelf files) name.now) end (is.refused told) cause says shelf;
+  reads_nothing = input;
+  listens_nowhere = links;
+}
+unread s files (task.OfUser name user_task.Check) end is cause input output links =
+    let two = two_files files.policy files.facts in
+    let unread_two = unread_of s files end is in
+    record {
+      ends = (unread_two, input, output);
+      succeeds = λ told in_told out_told says shelf read write.
+          read_succeeds s two (CanBeChecked s.input.left name.now) end (unread_two.refused told) cause says shelf;
+      listens_nowhere = links;
+    }
 unread s files (task.Migrate to) end is cause input output links = record {
   ends = is;
   succeeds = λ told says shelf. read_succeeds s files (CanMove s files to.now) end (is.refused told) cause says shelf;
@@ -348,6 +468,42 @@ unread s files (task.Serve listening) end is cause input output links = record {
   succeeds = λ told links_told says shelf links. read_succeeds s files (CanBeOpened (journals_of s.shelf files)) end (is.refused told) cause says shelf;
   reads_nothing = input;
   writes_nothing = output;
+}
+unread s files (task.Standby copying) end is cause input output links = record {
+  ends = (is, links);
+  succeeds = λ told links_told says shelf links. read_succeeds s files (CanBeCopied (journals_of s.shelf files)) end (is.refused told) cause says shelf;
+  reads_nothing = input;
+  writes_nothing = output;
+}
+
+-- so it is where they were to be done with a standby, whatever became of the links' second count
+pub unread_copied : (s : Scene) (files : FileNames) (task : CopiedTask) (standby : Text) (end : FilesEnd) → IsUnread s.shelf files end
+    → FaultsHaveCauses s (ends.Files end) → SameInput s.input → SameOutput s.output → KeepsDoors s.links
+    → OfReading s (Some (reading_copied files task standby)) (ends.Files end)
+unread_copied s files (copied.Batch workers) standby end is cause input output links = record {
+  ends = (is, input, output);
+  succeeds = λ told in_told out_told script says shelf read write.
+      read_succeeds s files (CanBeOpened (journals_of s.shelf files)) end (is.refused told) cause says shelf;
+  listens_nowhere = inr links;
+}
+unread_copied s files (copied.Serve listening) standby end is cause input output links = record {
+  ends = (is, links);
+  succeeds = λ told links_told says shelf links. read_succeeds s files (CanBeOpened (journals_of s.shelf files)) end (is.refused told) cause says shelf;
+  reads_nothing = input;
+  writes_nothing = output;
+}
+
+-- the links of a scene that are what they were keep their doors
+pub doors_same : {L Door Dial In Out : Type 0} (Links : LinksGhosts L Door Dial In Out) (links : L) → KeepsDoors (links_of Links links links)
+doors_same Links links = record {
+  faults = refl;
+  out = refl;
+  ended = refl;
+  given = λ told. refl;
+  left = λ told. refl;
+  at_hand = λ told. refl;
+  back = λ told. refl;
+  listened = λ told. refl;
 }
 
 -- ---- memory that is wanting for the words
@@ -364,6 +520,15 @@ nothing_begun s same (Some (runs_batch files workers)) = record {
 }
 nothing_begun s same (Some (runs_audit files user json)) =
     record { ends = (same.shelf, same.output); succeeds = λ told out_told says shelf write. inr refl; reads_nothing = same.input; listens_nowhere = same.links }
+nothing_begun s same (Some (runs_dossier files user)) =
+    record { ends = (same.shelf, same.output); succeeds = λ told out_told says shelf write. inr refl; reads_nothing = same.input; listens_nowhere = same.links }
+nothing_begun s same (Some (runs_check policy facts user)) =
+    record {
+      ends =
+          (same.shelf, same.input, same.output);
+      succeeds = λ told in_told out_told says shelf read write. inr refl;
+      listens_nowhere = same.links;
+    }
 nothing_begun s same (Some (runs_selfrun seed users asks)) = record { ends = same; succeeds = λ write. inr refl }
 nothing_begun s same (Some (runs_serve files address workers sessions)) =
     record {
@@ -375,3 +540,24 @@ nothing_begun s same (Some (runs_serve files address workers sessions)) =
     }
 nothing_begun s same (Some (runs_migrate files to)) =
     record { ends = same.shelf; succeeds = λ told says shelf. inr refl; reads_nothing = same.input; writes_nothing = same.output; listens_nowhere = same.links }
+nothing_begun s same (Some (runs_copied_batch files workers standby)) = record {
+  ends = (same.shelf, same.input, same.output);
+  succeeds = λ told in_told out_told script says shelf read write. inr refl;
+  listens_nowhere = inl same.links;
+}
+nothing_begun s same (Some (runs_copied_serve files address workers sessions standby)) =
+    record {
+      ends =
+          (same.shelf, same.links);
+      succeeds = λ told links_told says shelf links. inr refl;
+      reads_nothing = same.input;
+      writes_nothing = same.output;
+    }
+nothing_begun s same (Some (runs_standby files address sessions)) =
+    record {
+      ends =
+          (same.shelf, same.links);
+      succeeds = λ told links_told says shelf links. inr refl;
+      reads_nothing = same.input;
+      writes_nothing = same.output;
+    }

@@ -7,5 +7,7 @@ mod Over
 mod Failing
 mod Good
 mod Serving
+mod Standing
+mod Copying
 mod Lives
 mod Calls

@@ -22,7 +22,7 @@ use Rattle.batch_engine.specs.declared.run.BatchEnd.{BatchEnd}
 use Rattle.batch_engine.specs.declared.run.BatchEnd.TheVariants as batch_end
 use Rattle.batch_engine.proofs.Joining.{batches_are_spans, cut_batches_are_calls, batches_join, cut_batches_join, late_batches_join}
 use Rattle.command_words.specs.Readings.{Reading, FileNames, reading_of, runs_case, runs_init, runs_batch, runs_audit, runs_selfrun, runs_serve}
-use Rattle.command_words.specs.Readings.{runs_migrate}
+use Rattle.command_words.specs.Readings.{runs_migrate, runs_dossier, runs_check, runs_copied_batch, runs_copied_serve, runs_standby}
 use Rattle.desk_crew.proofs.Lasting.{keeps_same, keeps_all}
 use Rattle.policy_files.specs.Memory.{policy_user_of}
 use Rattle.policy_files.specs.Policies.{PolicyUser, PolicyValue}
@@ -37,9 +37,11 @@ use Rattle.cqe_top.specs.declared.end.CommandEnd.{CommandEnd}
 use Rattle.cqe_top.specs.declared.end.CommandEnd.TheVariants as end
 use Rattle.cqe_top.specs.Audit.{AuditEnds, OfAudit}
 use Rattle.cqe_top.specs.Batch.{BatchEnds, RunsBatch, OfBatch, AnswersOverFiles}
+use Rattle.cqe_top.specs.Dossier.{DossierEnds, OfDossier}
 use Rattle.cqe_top.specs.Files.{both, said_on, SayOn, journals_of, new_user, new_users}
 use Rattle.cqe_top.specs.Lives.{TellsAll, IsEndOf, BatchCallsJoin, IsLeft, LeavesPart, LeavesParts, UsesJournals, CallsAreParts}
-use Rattle.cqe_top.specs.Promise.{Promise, OfReading}
+use Rattle.cqe_top.specs.Copied.{Counts, counted_with, IsCounted}
+use Rattle.cqe_top.specs.Promise.{Promise, OfReading, Does}
 use Rattle.cqe_top.specs.Scene.{Scene, ShelfScene, Input, Output, LinksScene, SameDisks, shelf_of, scene_of}
 use Rattle.cqe_top.specs.Serve.{ServeEnds, OfServe, ServesOverFiles}
 
@@ -52,6 +54,15 @@ said_once P policy policy' world world' header header' same is =
     let h : header' ≡ header = cc in
     subst (λ q. P q world header) p (subst (λ x. P policy' x header) w (subst (λ k. P policy' world' k) h is))
 
+-- where the words name no standby, what was done is what the reading says
+alone : (s : Scene) (reading : Option Reading) (e : CommandEnd) → ((failed : Text → ℕ) → Counts s.links failed reading → ⊥) → Does s reading e
+    → OfReading s reading e
+alone s reading e none does = by does.exchanges does.counted does.command
+  where
+    by : (exchanges : Option (Text → ℕ)) → IsCounted s reading exchanges → OfReading (counted_with s exchanges) reading e → OfReading s reading e
+    by None counted of = of
+    by (Some failed) counted of = absurd (none failed counted)
+
 -- ---- two batches
 
 answered_over : (words : List Text) (s : Scene) (complaints : Output) (status : ℕ) (files : FileNames) (users : Vec User Global) (engine_end : BatchEnd)
@@ -59,7 +70,8 @@ answered_over : (words : List Text) (s : Scene) (complaints : Output) (status : 
     → one.end ≡ end.Batch users engine_end → TellsAll s
     → SayOn s.shelf files (λ policy world header. IsEndOf s files policy world header engine_end)
 answered_over words s complaints status files users engine_end workers one read ends tells =
-    let of_batch : OfBatch s files one.end = subst (λ r. OfReading s r one.end) read one.command in
+    let of_batch : OfBatch s files one.end =
+    alone s (Some (runs_batch files workers)) one.end (λ failed counted. counted) (subst (λ r. Does s r one.end) read one.does) in
     let runs : RunsBatch s.shelf s.input s.output files users engine_end =
     subst (λ (e : CommandEnd). BatchEnds s.shelf s.input s.output files e) ends of_batch.ends in
     let over = runs.over_files tells.0 in
@@ -265,6 +277,9 @@ module _ {F D : Type 0} (Shelf : ShelfGhosts F D) (Disk : DiskGhosts D) (old new
     of_batch (end.Selfrun run) runs = absurd runs
     of_batch (end.Serve users served) runs = absurd runs
     of_batch (end.Migrate users moved) runs = absurd runs
+    of_batch (end.Dossier name shown) runs = absurd runs
+    of_batch (end.Check checked) runs = absurd runs
+    of_batch (end.Standby users copied) runs = absurd runs
 
     of_audit : (user : Text) (json : Bool) (e : CommandEnd) → AuditEnds shelf output files user json e → Parts
     of_audit user json (end.Audit name engine_end) runs =
@@ -280,6 +295,27 @@ module _ {F D : Type 0} (Shelf : ShelfGhosts F D) (Disk : DiskGhosts D) (old new
     of_audit user json (end.Selfrun run) runs = absurd runs
     of_audit user json (end.Serve users served) runs = absurd runs
     of_audit user json (end.Migrate users moved) runs = absurd runs
+    of_audit user json (end.Dossier name shown) runs = absurd runs
+    of_audit user json (end.Check checked) runs = absurd runs
+    of_audit user json (end.Standby users copied) runs = absurd runs
+
+    of_dossier : (user : Text) (e : CommandEnd) → DossierEnds shelf output files user e → Parts
+    of_dossier user (end.Dossier name engine_end) runs =
+        inl (keeps_all Disk files.directory (Shelf.disk old) (Shelf.disk new) (Shelf.disk_faults old) (Shelf.disk_faults new) (runs.bytes tells)
+        (runs.images tells) (runs.moments tells))
+    of_dossier user end.Nobody finds = inl (kept_disks finds.disks)
+    of_dossier user (end.Files why) runs = inl (kept_disks runs.0.disks)
+    of_dossier user end.Memory runs = inl (kept_disks (same_disks runs.0))
+    of_dossier user end.Usage runs = absurd runs
+    of_dossier user (end.Case case) runs = absurd runs
+    of_dossier user (end.Init users init) runs = absurd runs
+    of_dossier user (end.Batch users batched) runs = absurd runs
+    of_dossier user (end.Audit name audit) runs = absurd runs
+    of_dossier user (end.Selfrun run) runs = absurd runs
+    of_dossier user (end.Serve users served) runs = absurd runs
+    of_dossier user (end.Migrate users moved) runs = absurd runs
+    of_dossier user (end.Check checked) runs = absurd runs
+    of_dossier user (end.Standby users copied) runs = absurd runs
 
     of_serve : (address : Text) (workers limit : ℕ) (e : CommandEnd) → ServeEnds shelf links files address workers limit e → Parts
     of_serve address workers limit (end.Serve users engine_end) runs =
@@ -298,22 +334,35 @@ module _ {F D : Type 0} (Shelf : ShelfGhosts F D) (Disk : DiskGhosts D) (old new
     of_serve address workers limit (end.Audit name audit) runs = absurd runs
     of_serve address workers limit (end.Selfrun run) runs = absurd runs
     of_serve address workers limit (end.Migrate users moved) runs = absurd runs
+    of_serve address workers limit (end.Dossier name shown) runs = absurd runs
+    of_serve address workers limit (end.Check checked) runs = absurd runs
+    of_serve address workers limit (end.Standby users copied) runs = absurd runs
 
-    of_reading : (r : Option Reading) (e : CommandEnd) → OfReading (scene_of shelf input output links) r e → UsesJournals files r → Parts
-    of_reading (Some (runs_batch its workers)) e of same =
+    of_reading : (r : Option Reading) (e : CommandEnd) → Does (scene_of shelf input output links) r e → UsesJournals files r → Parts
+    of_reading (Some (runs_batch its workers)) e does same =
+        let of = alone (scene_of shelf input output links) (Some (runs_batch its workers)) e (λ failed counted. counted) does in
         of_batch e (subst (λ (f : FileNames). OfBatch (scene_of shelf input output links) f e) same of).ends
-    of_reading (Some (runs_audit its user json)) e of same =
+    of_reading (Some (runs_audit its user json)) e does same =
+        let of = alone (scene_of shelf input output links) (Some (runs_audit its user json)) e (λ failed counted. counted) does in
         of_audit user json e (subst (λ (f : FileNames). OfAudit (scene_of shelf input output links) f user json e) same of).ends
-    of_reading (Some (runs_serve its address workers limit)) e of same =
+    of_reading (Some (runs_serve its address workers limit)) e does same =
+        let of = alone (scene_of shelf input output links) (Some (runs_serve its address workers limit)) e (λ failed counted. counted) does in
         of_serve address workers limit e (subst (λ (f : FileNames). OfServe (scene_of shelf input output links) f address workers limit e) same of).ends
-    of_reading None e of uses = absurd uses
-    of_reading (Some runs_case) e of uses = absurd uses
-    of_reading (Some (runs_init its)) e of uses = absurd uses
-    of_reading (Some (runs_selfrun seed users asks)) e of uses = absurd uses
-    of_reading (Some (runs_migrate its to)) e of uses = absurd uses
+    of_reading (Some (runs_dossier its user)) e does same =
+        let of = alone (scene_of shelf input output links) (Some (runs_dossier its user)) e (λ failed counted. counted) does in
+        of_dossier user e (subst (λ (f : FileNames). OfDossier (scene_of shelf input output links) f user e) same of).ends
+    of_reading None e does uses = absurd uses
+    of_reading (Some runs_case) e does uses = absurd uses
+    of_reading (Some (runs_init its)) e does uses = absurd uses
+    of_reading (Some (runs_selfrun seed users asks)) e does uses = absurd uses
+    of_reading (Some (runs_migrate its to)) e does uses = absurd uses
+    of_reading (Some (runs_check policy_file facts user)) e does uses = absurd uses
+    of_reading (Some (runs_copied_batch its workers standby)) e does uses = absurd uses
+    of_reading (Some (runs_copied_serve its address workers limit standby)) e does uses = absurd uses
+    of_reading (Some (runs_standby its address limit)) e does uses = absurd uses
 
 pub calls_are_parts : {F D : Type 0} (Shelf : ShelfGhosts F D) (Disk : DiskGhosts D) (old new : F) (input : Input) (output : Output) (links : LinksScene)
     (complaints : Output) → ((d : D) (c : List ℕ) → Disk.image_since d (Disk.moment d) c → Disk.image d c)
     → CallsAreParts (scene_of (shelf_of Shelf Disk old new) input output links) complaints
 calls_are_parts Shelf Disk old new input output links complaints only_now words status files policy world header one uses tells said =
-    of_reading Shelf Disk old new input output links only_now files policy world header tells said (reading_of words) one.end one.command uses
+    of_reading Shelf Disk old new input output links only_now files policy world header tells said (reading_of words) one.end one.does uses

@@ -15,6 +15,9 @@ use Rattle.cqe_base.specs.declared.user.User.{User}
 use Rattle.audit_engine.specs.Ends.{IsSilent}
 use Rattle.audit_engine.specs.declared.end.AuditEnd.{AuditEnd}
 use Rattle.audit_engine.specs.declared.end.AuditEnd.TheVariants as audit_end
+use Rattle.dossier_engine.specs.Ends as dossier
+use Rattle.dossier_engine.specs.declared.end.DossierEnd.{DossierEnd}
+use Rattle.dossier_engine.specs.declared.end.DossierEnd.TheVariants as dossier_end
 use Rattle.batch_engine.specs.Batch as batch
 use Rattle.batch_engine.specs.declared.run.BatchEnd.{BatchEnd}
 use Rattle.command_words.specs.Readings.{FileNames}
@@ -25,6 +28,7 @@ use Rattle.init_engine.specs.Ends.{Change, EndsInit}
 use Rattle.init_engine.specs.declared.end.InitEnd.{InitEnd}
 use Rattle.init_engine.specs.declared.end.InitEnd.TheVariants as init_end
 use Rattle.log_journal.specs.Names.{journal_name}
+use Rattle.log_journal.specs.declared.header.Header.{Header}
 use Rattle.migrate_engine.specs.Ends.{EndsMigrate}
 use Rattle.migrate_engine.specs.declared.end.MigrateEnd.{MigrateEnd}
 use Rattle.migrate_engine.specs.declared.end.MigrateEnd.TheVariants as migrate_end
@@ -33,6 +37,8 @@ use Rattle.policy_files.specs.Users.{names_of}
 use Rattle.policy_files.specs.declared.policy.Policy.{Policy}
 use Rattle.serve_engine.specs.Serving as serving
 use Rattle.serve_engine.specs.declared.run.ServeEnd.{ServeEnd}
+use Rattle.standby_engine.specs.Standing as standing
+use Rattle.standby_engine.specs.declared.run.CopyEnd.{CopyEnd}
 use Rattle.cqe_top.specs.Files.{TouchesOnlyJournals, CountsOnlyJournals, journals_of, new_users}
 use Rattle.cqe_top.specs.Init.{change_on, NamesOneOf}
 use Rattle.cqe_top.specs.Migrate.{CountsOnlyBoth, IsAtOneOf}
@@ -195,6 +201,14 @@ silent_end audit_end.WriteFault fault wanted silent = absurd silent
 silent_end audit_end.ShelfFault fault wanted silent = fault refl
 silent_end audit_end.Memory fault wanted silent = wanted refl
 
+-- so it is with dossiers
+pub silent_dossier : {S : Type 0} (end : DossierEnd) → (end ≡ dossier_end.ShelfFault → S) → (end ≡ dossier_end.Memory → S) → dossier.IsSilent end → S
+silent_dossier dossier_end.Done fault wanted silent = absurd silent
+silent_dossier (dossier_end.Refused why) fault wanted silent = absurd silent
+silent_dossier dossier_end.WriteFault fault wanted silent = absurd silent
+silent_dossier dossier_end.ShelfFault fault wanted silent = fault refl
+silent_dossier dossier_end.Memory fault wanted silent = wanted refl
+
 -- the end of a batch over other journals that are the same, and over the users of the policy
 pub batch_over : (policy : Policy) (world : FactSet) (header : List ℕ) (users : List User) (journals journals' : Journals) (end : BatchEnd)
     (before after old new : List ℕ)
@@ -228,6 +242,22 @@ pub serve_left : (policy : Policy) (world : FactSet) (header : List ℕ) (users 
 serve_left policy world header users journals journals' end same are left =
     subst (λ (j : Journals). serving.LeavesJournals policy.schema world header j policy.users.items end) same
     (subst (λ us. serving.LeavesJournals policy.schema world header journals us end) are left)
+
+-- and what a standby leaves
+pub copies_left : (policy : Policy) (header : List ℕ) (users : List User) (journals journals' : Journals) (end : CopyEnd)
+    → journals ≡ journals' → users ≡ policy.users.items → standing.LeavesCopies header journals users end
+    → standing.LeavesCopies header journals' policy.users.items end
+copies_left policy header users journals journals' end same are left =
+    subst (λ (j : Journals). standing.LeavesCopies header j policy.users.items end) same
+    (subst (λ us. standing.LeavesCopies header journals us end) are left)
+
+pub copies_served : (policy : Policy) (header : Header) (users : List User) (journals journals' : Journals) (given given' : ℕ) (back back' : List Visit)
+    (end : CopyEnd)
+    → journals ≡ journals' → users ≡ policy.users.items → standing.EndsCopying header journals users given given' back back' end
+    → standing.EndsCopying header journals' policy.users.items given given' back back' end
+copies_served policy header users journals journals' given given' back back' end same are served =
+    subst (λ (j : Journals). standing.EndsCopying header j policy.users.items given given' back back' end) same
+    (subst (λ us. standing.EndsCopying header journals us given given' back back' end) are served)
 
 -- a user at whom the making of journals stopped is one of them
 is_within : (users : List User) (number : ℕ) (name : Text) → slice_get (init.user_names users) number ≡ Some name → number < length users

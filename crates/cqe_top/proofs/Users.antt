@@ -1,8 +1,9 @@
 -- The users of a policy as they begin a batch.
-use Rattle.std.proofs.Common.{◌≡◌, List, [], ◌∷◌, map, refl, ap, ◌∙◌, true, false}
+use Rattle.std.proofs.Common.{◌≡◌, ◌<◌, ℕ, List, [], ◌∷◌, map, length, get_or, refl, sym, ap, ◌∙◌, true, false, string_bytes}
 use Rattle.std.specs.List.{list_all}
 use Rattle.cqe_base.specs.Schema.{has_duplicate, is_schema_name}
 use Rattle.cqe_base.specs.declared.user.User.{User}
+use Rattle.cqe_base.proofs.Truths.{list_all-map, list_all-true}
 use Rattle.init_engine.specs.Disks as init
 use Rattle.policy_files.specs.Users.{names_of}
 use Rattle.policy_files.specs.Memory.{policy_user_of, policy_value_of}
@@ -28,6 +29,14 @@ names_differ policy kept = ap has_duplicate (names_are policy.users.items) ∙ k
 -- and are proper
 pub names_proper : (policy : Policy) → IsKeptPolicy (policy_value_of policy) → list_all is_schema_name (init.user_names policy.users.items) ≡ true
 names_proper policy kept = ap (list_all is_schema_name) (names_are policy.users.items) ∙ kept.proper
+
+-- so is that of the user at a place
+pub name_proper : (users : List User) (place : ℕ) (user : User) → list_all is_schema_name (init.user_names users) ≡ true → user ≡ get_or users place user
+    → place < length users
+    → is_schema_name (string_bytes user.name) ≡ true
+name_proper users place user proper is low =
+    list_all-true (λ (u : User). is_schema_name (string_bytes u.name)) users
+    (sym (list_all-map is_schema_name (λ (u : User). string_bytes u.name) users) ∙ proper) user (place, low, sym is)
 
 same_users : (users : List User) → map new_user (map policy_user_of users) ≡ map named_user users
 same_users [] = refl

@@ -36,6 +36,14 @@ CanBeAudited journals name policy world header =
     (user : PolicyUser) × (user_named name policy.users ≡ Some user)
     × IsOpenable journals policy world header user
 
+module _ (shelf : ShelfScene) (output : Output) (files : FileNames) (user : Text) where
+  -- the policy has no user of the name, and no disk was touched
+  pub record FindsNobody : Type 0 where
+    pub over_files : shelf.tells → SayOn shelf files (NamesNobody user)
+    pub looks : shelf.tells → LooksAtBoth shelf files
+    pub disks : SameDisks shelf
+    pub writes_nothing : SameOutput output
+
 module _ (shelf : ShelfScene) (output : Output) (files : FileNames) (user : Text) (json : Bool)
   where
     -- the policy has a user of the name, and his audit ended so
@@ -69,17 +77,10 @@ module _ (shelf : ShelfScene) (output : Output) (files : FileNames) (user : Text
           (image_on shelf.Disk.image (shelf.disk' (journal_name files.directory user)))
       pub silent : IsSilent end → SameOutput output
 
-    -- the policy has no user of the name, and no disk was touched
-    pub record FindsNobody : Type 0 where
-      pub over_files : shelf.tells → SayOn shelf files (NamesNobody user)
-      pub looks : shelf.tells → LooksAtBoth shelf files
-      pub disks : SameDisks shelf
-      pub writes_nothing : SameOutput output
-
     -- the ends that it may have
     abbrev pub AuditEnds : CommandEnd → Type 0
     AuditEnds (command_end.Audit name engine_end) = RunsAudit name.now engine_end
-    AuditEnds command_end.Nobody = FindsNobody
+    AuditEnds command_end.Nobody = FindsNobody shelf output files user
     AuditEnds (command_end.Files why) = IsUnread shelf files why × SameOutput output
     AuditEnds command_end.Memory = SameShelf shelf × SameOutput output
     AuditEnds end = ⊥

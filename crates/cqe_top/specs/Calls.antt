@@ -165,13 +165,13 @@ module _ (policy : PolicyValue) (world : FactSet) (header : List ℕ) (user : Po
 
 -- ---- of which `top` promised
 
-module _ {F D S K E L Door In Out : Type 0} (Shelf : ShelfGhosts F D) (Disk : DiskGhosts D)
+module _ {F D S K E L Door Dial In Out : Type 0} (Shelf : ShelfGhosts F D) (Disk : DiskGhosts D)
     (Source : SourceGhosts S) (Sink : SinkGhosts K) (Complaints : SinkGhosts E)
-    (Links : LinksGhosts L Door In Out) (files : FileNames) (policy : PolicyValue) (world : FactSet)
-    (header : List ℕ) where
-  -- A call of `batch`, `serve` or `audit` over these files, which say this policy, these facts and
-  -- this header: its words and its status, its objects before it and behind it, and what `top`
-  -- promised.
+    (Links : LinksGhosts L Door Dial In Out) (files : FileNames) (policy : PolicyValue)
+    (world : FactSet) (header : List ℕ) where
+  -- A call of `batch`, `serve`, `audit` or `dossier` over these files, which say this policy, these
+  -- facts and this header: its words and its status, its objects before it and behind it, and what
+  -- `top` promised.
   pub record Promised : Type 0 where
     pub words : List Text
     pub status : ℕ

@@ -9,6 +9,9 @@ use Rattle.cqe_base.specs.declared.text.TextError.{TextError}
 use Rattle.cqe_base.specs.declared.schema.SchemaError.{SchemaError}
 use Rattle.cqe_base.specs.declared.schema.SchemaError.TheVariants as schema_errors
 use Rattle.cqe_base.specs.Transcript.{mark_text}
+use Rattle.dossier.specs.declared.error.DossierError.TheVariants as dossier_errors
+use Rattle.dossier_engine.specs.declared.end.CheckRefusal.{CheckRefusal}
+use Rattle.dossier_engine.specs.declared.end.CheckRefusal.TheVariants as check_refusals
 use Rattle.cqe_base.specs.declared.user.User.{User}
 use Rattle.log_journal.specs.declared.header.OpenError.{OpenError}
 use Rattle.log_journal.specs.declared.header.OpenError.TheVariants as open_errors
@@ -25,6 +28,7 @@ use Rattle.cqe_top.specs.declared.report.Report.TheVariants.{ReadFault, WriteFau
 use Rattle.cqe_top.specs.declared.report.Report.TheVariants.{Missing, ShelfFault}
 use Rattle.cqe_top.specs.declared.report.Report.TheVariants.{Journal, JournalAt, Journals, TargetAt}
 use Rattle.cqe_top.specs.declared.report.Report.TheVariants.{DiskFault, LinksFault, Memory}
+use Rattle.cqe_top.specs.declared.report.Report.TheVariants.{Dossier}
 
 -- the number of a script's refusal
 abbrev pub kind_number : ScriptKind → ℕ
@@ -112,6 +116,36 @@ facts_complaint why =
     codes "cqe: facts " ++ decimal (facts_number why) ++ codes " " ++ decimal (facts_line why)
     ++ codes "\n"
 
+-- the number of a dossier's refusal
+abbrev pub dossier_number : CheckRefusal → ℕ
+dossier_number check_refusals.TooLong = 5
+dossier_number check_refusals.NotUtf8 = 1
+dossier_number (check_refusals.Line (dossier_errors.Form line)) = 1
+dossier_number (check_refusals.Line (dossier_errors.Text line)) = 2
+dossier_number (check_refusals.Line (dossier_errors.Verdict line)) = 3
+dossier_number (check_refusals.Line (dossier_errors.Mark line)) = 4
+dossier_number (check_refusals.Line (dossier_errors.Admission line)) = 6
+dossier_number (check_refusals.Line (dossier_errors.Unsafe line)) = 7
+dossier_number (check_refusals.Line dossier_errors.Memory) = 8
+
+-- its line; 0 where the whole text is refused
+abbrev pub dossier_line : CheckRefusal → ℕ
+dossier_line check_refusals.TooLong = 0
+dossier_line check_refusals.NotUtf8 = 0
+dossier_line (check_refusals.Line (dossier_errors.Form line)) = line
+dossier_line (check_refusals.Line (dossier_errors.Text line)) = line
+dossier_line (check_refusals.Line (dossier_errors.Verdict line)) = line
+dossier_line (check_refusals.Line (dossier_errors.Mark line)) = line
+dossier_line (check_refusals.Line (dossier_errors.Admission line)) = line
+dossier_line (check_refusals.Line (dossier_errors.Unsafe line)) = line
+dossier_line (check_refusals.Line dossier_errors.Memory) = 0
+
+-- the number and the line of a dossier's refusal
+abbrev pub dossier_complaint : CheckRefusal → Text
+dossier_complaint why =
+    codes "cqe: dossier " ++ decimal (dossier_number why) ++ codes " " ++ decimal (dossier_line why)
+    ++ codes "\n"
+
 -- why a journal isn't opened
 abbrev pub opening_cause : OpenError → Text
 opening_cause open_errors.NotAJournal = codes "not a journal"
@@ -177,3 +211,4 @@ complaint_of (Journals users refusals) = journal_lines users.items refusals.item
 complaint_of DiskFault = codes "cqe: disk fault\n"
 complaint_of LinksFault = codes "cqe: links fault\n"
 complaint_of Memory = codes "cqe: out of memory\n"
+complaint_of (Dossier why) = dossier_complaint why

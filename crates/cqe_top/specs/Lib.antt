@@ -8,8 +8,12 @@ pub mod Init
 pub mod Migrate
 pub mod Batch
 pub mod Audit
+pub mod Dossier
+pub mod Check
 pub mod Selfrun
 pub mod Serve
+pub mod Copied
+pub mod Standby
 pub mod Promise
 pub mod Lives
 pub mod Calls

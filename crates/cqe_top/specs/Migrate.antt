@@ -36,8 +36,10 @@ module _ (shelf : ShelfScene) (files : FileNames) (to : Text) where
       SameBeside (map (journal_name files.directory) names ++ map (journal_name to) names)
       shelf.disk_faults shelf.disk_faults'
 
-  -- With `Done` each new journal of these users of the policy has the records of his old one. Else
-  -- it stopped at the first who can't be served. In each end his old journal has the bytes that it
+  -- With `Done` each new journal of these users of the policy has the records of his old one, and
+  -- nothing lies behind them. Else it stopped at the first who can't be served, whose new disk has
+  -- other bytes than before only where it failed. At no moment since eight shut bytes were synced
+  -- to a new disk did it open with fewer records. In each end an old journal has the bytes that it
   -- had, and no moment of the call left others.
   pub record MovesJournals (users : Vec User Global) (end : MigrateEnd) (policy : PolicyValue)
       (world : FactSet) (header : List ℕ) : Type 0 where

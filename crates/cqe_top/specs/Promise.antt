@@ -5,19 +5,25 @@ use Rattle.outside.specs.Streams.{AppendsUnless}
 use Rattle.cqe_base.specs.Schema.{Text}
 use Rattle.command_words.specs.Readings.{Reading, reading_of, runs_case, runs_init, runs_batch}
 use Rattle.command_words.specs.Readings.{runs_audit, runs_selfrun, runs_serve, runs_migrate}
+use Rattle.command_words.specs.Readings.{runs_dossier, runs_check, runs_copied_batch}
+use Rattle.command_words.specs.Readings.{runs_copied_serve, runs_standby}
 use Rattle.line_protocol.specs.Rests.{IsRest}
 use Rattle.cqe_top.specs.declared.end.CommandEnd.{CommandEnd}
 use Rattle.cqe_top.specs.declared.end.CommandEnd.TheVariants as command_end
 use Rattle.cqe_top.specs.Audit.{OfAudit}
 use Rattle.cqe_top.specs.Batch.{OfBatch}
 use Rattle.cqe_top.specs.Case.{OfCase}
+use Rattle.cqe_top.specs.Check.{OfCheck}
 use Rattle.cqe_top.specs.Complaints.{complaint_of}
+use Rattle.cqe_top.specs.Copied.{OfCopiedBatch, OfCopiedServe, counted_with, IsCounted}
+use Rattle.cqe_top.specs.Dossier.{OfDossier}
 use Rattle.cqe_top.specs.Init.{OfInit}
 use Rattle.cqe_top.specs.Migrate.{OfMigrate}
 use Rattle.cqe_top.specs.Reports.{status_of, report_of, FaultsHaveCauses}
 use Rattle.cqe_top.specs.Scene.{Scene, ShelfScene, Output, HasRisen, HasNotFallen, IsUntouched}
 use Rattle.cqe_top.specs.Selfrun.{OfSelfrun}
 use Rattle.cqe_top.specs.Serve.{OfServe}
+use Rattle.cqe_top.specs.Standby.{OfStandby}
 
 -- words without a reading: nothing is done, as where memory is wanting for them
 abbrev pub OfUsage : Scene → CommandEnd → Type 0
@@ -36,6 +42,12 @@ OfReading s (Some (runs_selfrun seed users asks)) end = OfSelfrun s seed users a
 OfReading s (Some (runs_serve files address workers limit)) end =
     OfServe s files address workers limit end
 OfReading s (Some (runs_migrate files to)) end = OfMigrate s files to end
+OfReading s (Some (runs_dossier files user)) end = OfDossier s files user end
+OfReading s (Some (runs_check policy facts user)) end = OfCheck s policy facts user end
+OfReading s (Some (runs_copied_batch files workers standby)) end = OfCopiedBatch s files end
+OfReading s (Some (runs_copied_serve files address workers limit standby)) end =
+    OfCopiedServe s files address workers limit end
+OfReading s (Some (runs_standby files address limit)) end = OfStandby s files address limit end
 
 -- of a shelf, whatever comes: its files are what they were, no disk is out, and no count of faults
 -- fell, neither that of a disk nor its own
@@ -47,7 +59,7 @@ pub record KeepsShelf (shelf : ShelfScene) : Type 0 where
 
 -- Whatever comes: the shelf is kept so, the input holds what it held, and what is left in it is the
 -- rest of what was left before; as many doors are out as before, and no count of faults fell,
--- neither of the input nor of the output nor of the links.
+-- neither of the input nor of the output nor of the links, nor the links' second count.
 pub record Always (s : Scene) : Type 0 where
   pub shelf : KeepsShelf s.shelf
   pub held : s.input.held' ≡ s.input.held
@@ -56,18 +68,27 @@ pub record Always (s : Scene) : Type 0 where
   pub input_faults : HasNotFallen s.input.faults
   pub output_faults : HasNotFallen s.output.faults
   pub links_faults : HasNotFallen s.links.faults
+  pub mirror_faults : HasNotFallen s.links.mirror
 
--- There is an end, of which all holds that the reading of the words says. The status is that of
--- this end, and so is the complaint: it was written whole, or where the count of the complaints
--- rose a part of it. A fault that is told has its cause. What holds whatever comes does, and the
--- count of the complaints didn't fall either.
+-- So it was done: with exchanges that failed counted as faults of the disks, all holds that the
+-- reading says of this end; a fault that is told has its cause, and what holds whatever comes does.
+pub record Does (s : Scene) (reading : Option Reading) (end : CommandEnd) : Type 0 where
+  pub exchanges : Option (Text → ℕ)
+  pub counted : IsCounted s reading exchanges
+  pub command : OfReading (counted_with s exchanges) reading end
+  pub cause : FaultsHaveCauses (counted_with s exchanges) end
+  pub always : Always (counted_with s exchanges)
+
+-- There is an end, of which all holds that the reading of the words says; where they name a standby
+-- exchanges with it that failed are counted as faults of the users' disks, each of one disk. The
+-- status is that of this end, and so is the complaint: it was written whole, or where the count of
+-- the complaints rose a part of it. A fault that is told has its cause. What holds whatever comes
+-- does, and the count of the complaints didn't fall either.
 pub record Promise (words : List Text) (s : Scene) (complaints : Output) (status : ℕ)
     : Type 0 where
   pub end : CommandEnd
   pub of_status : status ≡ status_of (report_of end)
   pub complaint : complaints.tells → AppendsUnless (complaint_of (report_of end))
       complaints.written complaints.written' (HasRisen complaints.faults)
-  pub command : OfReading s (reading_of words) end
-  pub cause : FaultsHaveCauses s end
-  pub always : Always s
+  pub does : Does s (reading_of words) end
   pub complaints_faults : HasNotFallen complaints.faults

@@ -32,6 +32,13 @@ CanBeMoved old new policy world header = AllByRecursion (λ user.
     × HasNoFault old user)
     × ((new.bytes user.name ≡ []) × HasNoFault new user)) policy.users
 
+-- as the call begins each user's disk shows no reason to refuse it as a journal with this header,
+-- and it has no fault in the call
+abbrev pub CanBeCopied : Journals → PolicyValue → FactSet → List ℕ → Type 0
+CanBeCopied journals policy world header = AllByRecursion (λ user.
+    ((why : OpenError) → Refuses header (journals.bytes user.name) why → ⊥)
+    × HasNoFault journals user) policy.users
+
 -- as the call begins this user's journal stands for a legal history of his within the limits, and
 -- its disk has no fault in the call
 abbrev pub IsOpenable : Journals → PolicyValue → FactSet → List ℕ → PolicyUser → Type 0

@@ -8,16 +8,20 @@ use Rattle.user_desk.specs.declared.standing.DeskError.{DeskError}
 use Rattle.audit_engine.specs.declared.end.AuditEnd.TheVariants as audit_end
 use Rattle.batch_engine.specs.declared.run.BatchEnd.TheVariants as batch_end
 use Rattle.case_engine.specs.declared.case.CaseEnd.TheVariants as case_end
+use Rattle.dossier_engine.specs.declared.end.CheckEnd.TheVariants as check_end
+use Rattle.dossier_engine.specs.declared.end.DossierEnd.TheVariants as dossier_end
 use Rattle.outside.specs.Shelf.{SomeRose}
 use Rattle.init_engine.specs.declared.end.InitEnd.TheVariants as init_end
 use Rattle.migrate_engine.specs.declared.end.MigrateEnd.TheVariants as migrate_end
 use Rattle.selfrun_engine.specs.declared.end.SelfrunEnd.TheVariants as selfrun_end
 use Rattle.serve_engine.specs.declared.run.ServeEnd.TheVariants as serve_end
+use Rattle.standby_engine.specs.declared.run.CopyEnd.TheVariants as copy_end
 use Rattle.cqe_top.specs.declared.end.FilesEnd.TheVariants as files_end
 use Rattle.cqe_top.specs.declared.end.CommandEnd.{CommandEnd}
 use Rattle.cqe_top.specs.declared.end.CommandEnd.TheVariants as command_end
 use Rattle.cqe_top.specs.declared.report.Report.{Report}
 use Rattle.cqe_top.specs.declared.report.Report.TheVariants.{Done, Usage, Policy, Facts, Script}
+use Rattle.cqe_top.specs.declared.report.Report.TheVariants.{Dossier}
 use Rattle.cqe_top.specs.declared.report.Report.TheVariants.{ReadFault, WriteFault}
 use Rattle.cqe_top.specs.declared.report.Report.TheVariants.{Missing, ShelfFault}
 use Rattle.cqe_top.specs.declared.report.Report.TheVariants.{Journal, JournalAt, Journals, TargetAt}
@@ -42,6 +46,7 @@ status_of (Journals users refusals) = 10
 status_of DiskFault = 11
 status_of LinksFault = 12
 status_of Memory = 13
+status_of (Dossier why) = 14
 
 -- ---- what is told of each end
 
@@ -96,12 +101,27 @@ report_of (command_end.Serve users (serve_end.Done refusals broken)) =
 report_of (command_end.Serve users serve_end.LinksFault) = LinksFault
 report_of (command_end.Serve users serve_end.ShelfFault) = ShelfFault
 report_of (command_end.Serve users serve_end.Memory) = Memory
+report_of (command_end.Standby users (copy_end.Done refusals broken)) =
+    answers_report users refusals broken
+report_of (command_end.Standby users copy_end.LinksFault) = LinksFault
+report_of (command_end.Standby users copy_end.ShelfFault) = ShelfFault
+report_of (command_end.Standby users copy_end.Memory) = Memory
 report_of (command_end.Migrate users migrate_end.Done) = Done
 report_of (command_end.Migrate users (migrate_end.Refused user why)) = JournalAt users user why
 report_of (command_end.Migrate users (migrate_end.NotEmpty user)) = TargetAt users user
 report_of (command_end.Migrate users migrate_end.DiskFault) = DiskFault
 report_of (command_end.Migrate users migrate_end.ShelfFault) = ShelfFault
 report_of (command_end.Migrate users migrate_end.Memory) = Memory
+report_of (command_end.Dossier name dossier_end.Done) = Done
+report_of (command_end.Dossier name (dossier_end.Refused why)) = Journal name why
+report_of (command_end.Dossier name dossier_end.WriteFault) = WriteFault
+report_of (command_end.Dossier name dossier_end.ShelfFault) = ShelfFault
+report_of (command_end.Dossier name dossier_end.Memory) = Memory
+report_of (command_end.Check check_end.Done) = Done
+report_of (command_end.Check (check_end.Refused why)) = Dossier why
+report_of (command_end.Check check_end.ReadFault) = ReadFault
+report_of (command_end.Check check_end.WriteFault) = WriteFault
+report_of (command_end.Check check_end.Memory) = Memory
 
 -- what is told is that all was done, or that memory was wanting
 abbrev pub IsDoneUnlessMemory : CommandEnd → Type 0

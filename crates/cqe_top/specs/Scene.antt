@@ -105,6 +105,8 @@ pub record LinksScene : Type 1 where
   pub listened' : List Place
   -- their count of faults
   pub faults : Count
+  -- their second count: exchanges with a standby that failed, by dials that were hung up
+  pub mirror : Count
   -- the links themselves
   pub Object : Type 0
   pub object : Object
@@ -167,7 +169,7 @@ shelf_of {F} {D} Shelf Disk old new = record {
 }
 
 -- of links, with their doors and ends
-abbrev pub links_of : {L D S K : Type 0} → LinksGhosts L D S K → L → L → LinksScene
+abbrev pub links_of : {L D C S K : Type 0} → LinksGhosts L D C S K → L → L → LinksScene
 links_of {L} Links old new = record {
   tells = Links.tells;
   given = Links.given old;
@@ -185,6 +187,7 @@ links_of {L} Links old new = record {
   listened = Links.listened old;
   listened' = Links.listened new;
   faults = record { before = Links.faults old; now = Links.faults new };
+  mirror = record { before = Links.mirror old; now = Links.mirror new };
   Object = L;
   object = old;
   object' = new;

@@ -1,11 +1,16 @@
 -- Steps of the proof: what functions of this crate promise one another. Nothing of the promise
 -- stands here.
-use Rattle.std.specs.Prelude.{◌≡◌, ℕ, ◌^◌, ◌≤◌, false, List, bytes_eq, Option, None, Result, Err}
+use Rattle.std.specs.Prelude.{◌≡◌, ℕ, ◌+◌, ◌^◌, ◌≤◌, false, List, bytes_eq, Option, None}
+use Rattle.std.specs.Prelude.{Result, Err}
 use Rattle.cqe_base.specs.Facts.{FactSet}
 use Rattle.cqe_base.specs.Schema.{Text}
 use Rattle.command_words.specs.Readings.{Reading, FileNames, names_of_files, runs_case, runs_init}
 use Rattle.command_words.specs.Readings.{runs_batch, runs_audit, runs_selfrun, runs_serve}
-use Rattle.command_words.specs.Readings.{runs_migrate}
+use Rattle.command_words.specs.Readings.{runs_migrate, runs_dossier, runs_check}
+use Rattle.command_words.specs.Readings.{runs_copied_batch, runs_copied_serve, runs_standby}
+use Rattle.desk_crew.specs.Shelved.{Journals, journals_by}
+use Rattle.outside.specs.declared.disk.Disk.{Ghosts as DiskGhosts}
+use Rattle.outside.specs.declared.shelf.Shelf.{Ghosts as ShelfGhosts}
 use Rattle.policy_files.specs.declared.error.PolicyError.{PolicyError}
 use Rattle.policy_files.specs.declared.error.FactsError.{FactsError}
 use Rattle.policy_files.specs.Policies.{PolicyValue}
@@ -14,9 +19,13 @@ use Rattle.cqe_top.specs.declared.end.FilesEnd.{FilesEnd}
 use Rattle.cqe_top.specs.declared.end.FilesEnd.TheVariants.{Missing, ShelfFault, Policy}
 use Rattle.cqe_top.specs.declared.end.FilesEnd.TheVariants.{Facts, Memory}
 use Rattle.cqe_top.specs.declared.over_files.Task.{Task}
-use Rattle.cqe_top.specs.declared.over_files.Task.TheVariants.{Init, Batch, Audit, Migrate, Serve}
+use Rattle.cqe_top.specs.declared.copied.CopiedTask.{CopiedTask}
+use Rattle.cqe_top.specs.declared.copied.CopiedTask.TheVariants as copied
+use Rattle.cqe_top.specs.declared.over_files.Task.TheVariants.{Init, Batch, OfUser, Migrate, Serve}
+use Rattle.cqe_top.specs.declared.over_files.Task.TheVariants.{Standby}
+use Rattle.cqe_top.specs.declared.over_files.UserTask.TheVariants.{Audit, Dossier, Check}
 use Rattle.cqe_top.specs.declared.part.Part.{Part}
-use Rattle.cqe_top.specs.declared.part.Part.TheVariants.{Case, Selfrun, OverFiles}
+use Rattle.cqe_top.specs.declared.part.Part.TheVariants.{Case, Selfrun, OverFiles, Copied}
 
 -- ---- why one file wasn't read
 
@@ -50,16 +59,27 @@ IsShelfFault end = ⊥
 abbrev pub reading_over : FileNames → Task → Reading
 reading_over files Init = runs_init files
 reading_over files (Batch workers) = runs_batch files workers
-reading_over files (Audit user json) = runs_audit files user.now json
+reading_over files (OfUser user (Audit json)) = runs_audit files user.now json
+reading_over files (OfUser user Dossier) = runs_dossier files user.now
+reading_over files (OfUser user Check) = runs_check files.policy files.facts user.now
 reading_over files (Migrate to) = runs_migrate files to.now
 reading_over files (Serve listening) =
     runs_serve files listening.address.now listening.workers listening.sessions
+reading_over files (Standby copying) = runs_standby files copying.address.now copying.sessions
+
+-- the reading that a task with a standby at an address stands for
+abbrev pub reading_copied : FileNames → CopiedTask → Text → Reading
+reading_copied files (copied.Batch workers) standby = runs_copied_batch files workers standby
+reading_copied files (copied.Serve listening) standby =
+    runs_copied_serve files listening.address.now listening.workers listening.sessions standby
 
 -- the reading that a part of a command stands for
 abbrev pub reading_of_part : Part → Reading
 reading_of_part Case = runs_case
 reading_of_part (Selfrun words) = runs_selfrun words.seed words.users words.asks
 reading_of_part (OverFiles files task) = reading_over (names_of_files files) task
+reading_of_part (Copied files task standby) =
+    reading_copied (names_of_files files) task standby.now
 
 -- the limits of the workers of a batch
 pub record WorkersBounds (workers : ℕ) : Type 0 where
@@ -78,6 +98,25 @@ pub record ServesBounds (workers sessions : ℕ) : Type 0 where
 abbrev pub KeepsBounds : FileNames → Task → Type 0
 KeepsBounds files Init = Unit {0}
 KeepsBounds files (Batch workers) = WorkersBounds workers
-KeepsBounds files (Audit user json) = Unit {0}
+KeepsBounds files (OfUser user task) = Unit {0}
 KeepsBounds files (Migrate to) = bytes_eq files.directory to.now ≡ false
 KeepsBounds files (Serve listening) = ServesBounds listening.workers listening.sessions
+KeepsBounds files (Standby copying) = copying.sessions ≤ 2 ^ 30
+
+-- so are those of a batch and of a server with a standby
+abbrev pub KeepsCopiedBounds : CopiedTask → Type 0
+KeepsCopiedBounds (copied.Batch workers) = WorkersBounds workers
+KeepsCopiedBounds (copied.Serve listening) = ServesBounds listening.workers listening.sessions
+
+-- ---- journals that a standby copies
+
+-- the counts of faults under names, with those of the dials of these names
+abbrev pub copied_counts : (Text → ℕ) → (Text → ℕ) → Text → ℕ
+copied_counts count failed name = count name + failed name
+
+-- the journals of users in a directory, where so many exchanges with a standby failed for each disk
+abbrev pub copied_journals : {F D : Type 0} → ShelfGhosts F D → DiskGhosts D → Text → F → F
+    → (Text → ℕ) → Journals
+copied_journals Shelf Disk directory old new failed =
+    journals_by Disk.reads Disk.image Disk.moment Disk.image_since directory (Shelf.disk old)
+    (Shelf.disk new) (Shelf.disk_faults old) (copied_counts (Shelf.disk_faults new) failed)

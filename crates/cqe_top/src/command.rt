@@ -3,11 +3,11 @@
 ghost use Rattle.std.specs.Prelude.{◌≡◌, Option, map, string_bytes};
 ghost use Rattle.command_words.specs.Readings.{Reading, reading_of};
 ghost use Rattle.outside.specs.Shelf.{NoneOut};
-ghost use Rattle.cqe_top.specs.Promise.{Promise, OfReading, Always};
-ghost use Rattle.cqe_top.specs.Reports.{FaultsHaveCauses};
+ghost use Rattle.cqe_top.specs.Promise.{Promise, Does};
 ghost use Rattle.cqe_top.specs.Scene.{scene_of, shelf_of, input_of, output_of, links_of};
 
 use crate::complaint::complain;
+use crate::copied::run_copied;
 use crate::end::CommandEnd;
 use crate::over_files::run_over_files;
 use crate::part::{Part, part_of};
@@ -22,7 +22,7 @@ use std::thread::Threads;
 
 /// Does all that the program does, and answers the status with which it ends: 0 done, 2 usage or no
 /// such user, 3 policy, 4 facts, 5 script, 6 read, 7 write, 8 missing file, 9 shelf, 10 journal, 11
-/// disk, 12 links, 13 memory.
+/// disk, 12 links, 13 memory, 14 dossier.
 ///
 /// The command `case` reads a script with one user from the source and writes one line for each ask
 /// to the sink. `init` reads a policy and facts from the shelf and makes an empty journal on the
@@ -35,7 +35,13 @@ use std::thread::Threads;
 /// the same files as `batch` and serves the connections that the links give at an address, side by
 /// side, until the links end or so many connections were served. It may wait, for a client, at the
 /// desks and at the gate. `migrate` reads the same files as `init` and moves the old journal of
-/// each user to a disk in another directory, which has to be empty.
+/// each user to a disk in another directory, which has to be empty. `dossier` reads the same files
+/// as `audit` and writes the history of one of the users with what shows each reply; `check` reads
+/// such a text from the source, over a policy and facts alone, and says whether it is sound.
+/// `standby` reads the same files as `serve` and appends to the users' journals the records that
+/// another program gives it over connections at an address, one after the other. With a standby at
+/// an address `batch` and `serve` tell a mark only once the standby answered that it has its
+/// record.
 /// What can't be done is said to the complaints; where they fail too, nothing else changes.
 ///
 /// No clause speaks of the gate, and none says that users of a batch or connections are served side
@@ -89,15 +95,9 @@ where
     F::D: Send,
     requires inside { NoneOut (F.is_out shelf.old) }
     ensures command { (read : Option Reading) × (reading_of (map string_bytes words.now) ≡ read)
-        × OfReading (scene_of (shelf_of F.Shelf F.D.Disk shelf.old shelf.new)
+        × Does (scene_of (shelf_of F.Shelf F.D.Disk shelf.old shelf.new)
         (input_of S.Source source.old source.new) (output_of K.Sink sink.old sink.new)
         (links_of L.Links links.old links.new)) read result }
-    ensures cause { FaultsHaveCauses (scene_of (shelf_of F.Shelf F.D.Disk shelf.old shelf.new)
-        (input_of S.Source source.old source.new) (output_of K.Sink sink.old sink.new)
-        (links_of L.Links links.old links.new)) result }
-    ensures always { Always (scene_of (shelf_of F.Shelf F.D.Disk shelf.old shelf.new)
-        (input_of S.Source source.old source.new) (output_of K.Sink sink.old sink.new)
-        (links_of L.Links links.old links.new)) }
 {
     let command = match read_words(alloc, words) {
         Ok(Some(command)) => command,
@@ -113,5 +113,8 @@ where
         Part::OverFiles(files, task) => {
             run_over_files(rt, alloc, files, task, shelf, source, sink, links, gate)
         }
+        Part::Copied(files, task, standby) => run_copied(
+            rt, alloc, files, task, standby, shelf, source, sink, links, gate,
+        ),
     }
 }

@@ -9,11 +9,15 @@ ghost use Rattle.cqe_top.specs.Complaints.{script_complaint, policy_complaint, f
 ghost use Rattle.cqe_top.specs.Complaints.{place_complaint, user_text, index_text, cause_text};
 ghost use Rattle.cqe_top.specs.Complaints.{opening_cause, journal_cause, cause_line, journal_line};
 ghost use Rattle.cqe_top.specs.Complaints.{user_line, refusal_line, journal_lines};
+ghost use Rattle.cqe_top.specs.Complaints.{dossier_complaint};
+ghost use Rattle.dossier_engine.specs.declared.end.CheckRefusal.TheVariants as refusals;
 
 use crate::report::Report;
 use cqe_base::schema::SchemaError;
 use cqe_base::text::{ScriptError, ScriptKind, TextError};
 use cqe_base::user::{Mark, User};
+use dossier::DossierError;
+use dossier_engine::CheckRefusal;
 use line_protocol::{LineText, Reply, text_of};
 use log_journal::OpenError;
 use outside::{Failed, Sink, write_all, write_parts};
@@ -67,6 +71,7 @@ fn give<E: Sink>(complaints: &mut E, report: &Report<'_>) -> Result<(), Failed>
         Report::DiskFault => write_all(complaints, b"cqe: disk fault\n"),
         Report::LinksFault => write_all(complaints, b"cqe: links fault\n"),
         Report::Memory => write_all(complaints, b"cqe: out of memory\n"),
+        Report::Dossier(why) => write_all(complaints, dossier_complaint(*why).bytes()),
     }
 }
 
@@ -338,6 +343,30 @@ fn facts_complaint(why: FactsError) -> LineText
         FactsError::Limit(line) => numbers_behind("cqe: facts ", 2, line, "\n"),
         FactsError::NotUtf8 => numbers_behind("cqe: facts ", 3, 0, "\n"),
         FactsError::Memory => numbers_behind("cqe: facts ", 4, 0, "\n"),
+    }
+}
+
+fn dossier_complaint(why: CheckRefusal) -> LineText
+    ensures { result ≡ dossier_complaint why }
+{
+    match why {
+        CheckRefusal::TooLong => numbers_behind("cqe: dossier ", 5, 0, "\n"),
+        CheckRefusal::NotUtf8 => numbers_behind("cqe: dossier ", 1, 0, "\n"),
+        CheckRefusal::Line(why) => line_complaint(why),
+    }
+}
+
+fn line_complaint(why: DossierError) -> LineText
+    ensures { result ≡ dossier_complaint (refusals.Line why) }
+{
+    match why {
+        DossierError::Form(line) => numbers_behind("cqe: dossier ", 1, line, "\n"),
+        DossierError::Text(line) => numbers_behind("cqe: dossier ", 2, line, "\n"),
+        DossierError::Verdict(line) => numbers_behind("cqe: dossier ", 3, line, "\n"),
+        DossierError::Mark(line) => numbers_behind("cqe: dossier ", 4, line, "\n"),
+        DossierError::Admission(line) => numbers_behind("cqe: dossier ", 6, line, "\n"),
+        DossierError::Unsafe(line) => numbers_behind("cqe: dossier ", 7, line, "\n"),
+        DossierError::Memory => numbers_behind("cqe: dossier ", 8, 0, "\n"),
     }
 }
 

@@ -3,11 +3,13 @@ use audit_engine::AuditEnd;
 use batch_engine::BatchEnd;
 use case_engine::CaseEnd;
 use cqe_base::user::User;
+use dossier_engine::{CheckEnd, DossierEnd};
 use init_engine::InitEnd;
 use migrate_engine::MigrateEnd;
 use policy_files::{FactsError, PolicyError};
 use selfrun_engine::SelfrunEnd;
 use serve_engine::ServeEnd;
+use standby_engine::CopyEnd;
 
 /// How a command ends: by the end of its engine with what names its cause, or before that.
 #[derive(Drop)]
@@ -24,7 +26,8 @@ pub enum CommandEnd<'w> {
     Init(Vec<User>, InitEnd),
     /// A batch over these users' journals did.
     Batch(Vec<User>, BatchEnd),
-    /// The policy has no user of the name that is to be audited. Nothing was written.
+    /// The policy has no user of the name among the words. Nothing was read or written but the
+    /// files.
     Nobody,
     /// The audit of the user of this name came to this end.
     Audit(&'w str, AuditEnd),
@@ -34,6 +37,12 @@ pub enum CommandEnd<'w> {
     Serve(Vec<User>, ServeEnd),
     /// The moving of these users' journals did.
     Migrate(Vec<User>, MigrateEnd),
+    /// The dossier of the user of this name did.
+    Dossier(&'w str, DossierEnd),
+    /// The check of a dossier did.
+    Check(CheckEnd),
+    /// A standby with copies of these users' journals did.
+    Standby(Vec<User>, CopyEnd),
 }
 
 /// Why a policy file and a facts file weren't read: by the first of them of which that is so.

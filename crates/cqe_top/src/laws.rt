@@ -46,10 +46,10 @@ pub fn law_calls_join<F: Shelf, S: Source, K: Sink, E: Sink, L: Links>(
         (output_of E.Sink second.now.complaints.now second.now.complaints_behind.now) }
 {}
 
-/// A call of `batch`, `serve` or `audit` is to each user a part of his one history, by what `top`
-/// promises of it, whatever its end and whatever a crash leaves of his journal as it ends or at a
-/// moment of it; or it leaves nothing new. Any number of such calls are parts of one history by
-/// `law_any_calls_join`.
+/// A call of `batch`, `serve`, `audit` or `dossier` is to each user a part of his one history, by
+/// what `top` promises of it, whatever its end and whatever a crash leaves of his journal as it
+/// ends or at a moment of it; or it leaves nothing new. Any number of such calls are parts of one
+/// history by `law_any_calls_join`.
 pub fn law_calls_are_parts<F: Shelf, S: Source, K: Sink, E: Sink, L: Links>(
     call: &Seen<'_, F, S, K, E, L>,
 )
@@ -61,11 +61,11 @@ pub fn law_calls_are_parts<F: Shelf, S: Source, K: Sink, E: Sink, L: Links>(
         (output_of E.Sink call.now.complaints.now call.now.complaints_behind.now) }
 {}
 
-/// Any number of calls of `batch`, `serve` and `audit` over the same files, of which each follows
-/// on the one before, leave a user one history, by what `top` promises of each: whatever their
-/// ends, and whatever a crash leaves of his journal as the last ends or at a moment of it. It goes
-/// on from the history with which the first began, it is legal and hides, and the entries of all
-/// that a call had told him by the time when the next began stand in it.
+/// Any number of calls of `batch`, `serve`, `audit` and `dossier` over the same files, of which
+/// each follows on the one before, leave a user one history, by what `top` promises of each:
+/// whatever their ends, and whatever a crash leaves of his journal as the last ends or at a moment
+/// of it. It goes on from the history with which the first began, it is legal and hides, and the
+/// entries of all that a call had told him by the time when the next began stand in it.
 ///
 /// Premises about the world: that each call follows on the one before (`FollowsOn`), so that nobody
 /// else writes his journal between two calls; that the two files say the same in each; and that all

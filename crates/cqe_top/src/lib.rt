@@ -13,6 +13,7 @@
 
 mod command;
 mod complaint;
+mod copied;
 mod end;
 mod files;
 pub mod laws;

@@ -15,10 +15,12 @@ use batch_engine::run_batch;
 use command_words::Files;
 use cqe_base::user::User;
 use desk_crew::Registry;
+use dossier_engine::{law_written_are_accepted, run_check, run_dossier};
 use init_engine::run_init;
 use migrate_engine::run_migrate;
 use outside::{Gate, Links, Shelf, Sink, Source};
 use serve_engine::{Listening, run_serve};
+use standby_engine::{Copying, run_standby};
 use std::alloc::Global;
 use std::sync::Wait;
 use std::thread::Threads;
@@ -31,12 +33,25 @@ pub(crate) enum Task<'w> {
     Init,
     /// A batch is answered by so many workers, 1 to 64.
     Batch(u32),
-    /// The user of this name is audited, as JSON or as lines.
-    Audit(&'w str, bool),
+    /// Something is done for the user of this name.
+    OfUser(&'w str, UserTask),
     /// The old journals of all users are moved to this directory, which is another.
     Migrate(&'w str),
     /// Connections are served.
     Serve(Listening<'w>),
+    /// The journals of another program are copied.
+    Standby(Copying<'w>),
+}
+
+/// What is done for one user.
+#[derive(Clone, Copy)]
+pub(crate) enum UserTask {
+    /// He is audited, as JSON or as lines.
+    Audit(bool),
+    /// His dossier is written.
+    Dossier,
+    /// One is checked.
+    Check,
 }
 
 /// Reads the files of these names, and does what is to be done over them.
@@ -100,12 +115,26 @@ where
             let end = run_batch(rt, alloc, &registry, workers, shelf, source, sink, gate);
             CommandEnd::Batch(inputs.policy.users, end)
         }
-        Task::Audit(name, json) => {
+        Task::OfUser(name, task) => {
             let Some(place) = place_of(registry.users, name) else {
                 return CommandEnd::Nobody;
             };
             let user = &inputs.policy.users[place];
-            CommandEnd::Audit(name, run_audit(alloc, &registry, user, json, shelf, sink))
+            match task {
+                UserTask::Audit(json) => {
+                    CommandEnd::Audit(name, run_audit(alloc, &registry, user, json, shelf, sink))
+                }
+                UserTask::Dossier => {
+                    registry.schema.known();
+                    law_written_are_accepted();
+                    CommandEnd::Dossier(name, run_dossier(alloc, &registry, user, shelf, sink))
+                }
+                UserTask::Check => {
+                    let schema = registry.schema;
+                    let world = registry.world;
+                    CommandEnd::Check(run_check(alloc, schema, world, user, source, sink))
+                }
+            }
         }
         Task::Migrate(to) => {
             let end = run_migrate(
@@ -122,6 +151,19 @@ where
             law_openings();
             let end = run_serve(rt, alloc, &registry, shelf, links, listening, gate);
             CommandEnd::Serve(inputs.policy.users, end)
+        }
+        Task::Standby(copying) => {
+            let end = run_standby(
+                rt,
+                alloc,
+                registry.users,
+                registry.header,
+                registry.directory,
+                shelf,
+                links,
+                copying,
+            );
+            CommandEnd::Standby(inputs.policy.users, end)
         }
     }
 }

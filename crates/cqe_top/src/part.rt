@@ -1,11 +1,14 @@
 //! What a command does: a case, the run of a workload, or something over files.
 ghost use Rattle.std.specs.Prelude.{◌≡◌};
 ghost use Rattle.command_words.specs.Readings.{reading_in};
+ghost use Rattle.command_words.specs.declared.command.Command.{Command};
 ghost use Rattle.cqe_top.specs.Steps.{reading_of_part};
 
-use crate::over_files::Task;
-use command_words::{Command, Files, SelfrunWords};
+use crate::copied::CopiedTask;
+use crate::over_files::{Task, UserTask};
+use command_words::{BatchWords, Command, Files, SelfrunWords, ServeWords};
 use serve_engine::Listening;
+use standby_engine::Copying;
 
 /// What a command does.
 #[derive(Clone, Copy)]
@@ -16,6 +19,8 @@ pub(crate) enum Part<'w> {
     Selfrun(SelfrunWords),
     /// Something is done over the files of these names.
     OverFiles(Files<'w>, Task<'w>),
+    /// The same with a standby at this address, which copies the journals.
+    Copied(Files<'w>, CopiedTask<'w>, &'w str),
 }
 
 /// What this command does.
@@ -25,17 +30,56 @@ pub(crate) fn part_of<'w>(command: Command<'w>) -> Part<'w>
     match command {
         Command::Case => Part::Case,
         Command::Init(files) => Part::OverFiles(files, Task::Init),
-        Command::Batch(words) => Part::OverFiles(words.files, Task::Batch(words.workers)),
-        Command::Audit(words) => Part::OverFiles(words.files, Task::Audit(words.user, words.json)),
+        Command::Batch(words) => batch_part(words),
+        Command::Audit(words) => {
+            let task = Task::OfUser(words.user, UserTask::Audit(words.json));
+            Part::OverFiles(words.files, task)
+        }
         Command::Selfrun(words) => Part::Selfrun(words),
-        Command::Serve(words) => {
-            let listening = Listening {
+        Command::Serve(words) => serve_part(words),
+        Command::Migrate(words) => Part::OverFiles(words.files, Task::Migrate(words.to)),
+        Command::Dossier(words) => {
+            Part::OverFiles(words.files, Task::OfUser(words.user, UserTask::Dossier))
+        }
+        Command::Check(words) => {
+            // no journal is taken
+            let files = Files {
+                policy: words.policy,
+                facts: words.facts,
+                journals: "",
+            };
+            Part::OverFiles(files, Task::OfUser(words.user, UserTask::Check))
+        }
+        Command::Standby(words) => {
+            let copying = Copying {
                 address: words.listen,
-                workers: words.workers,
                 sessions: words.sessions,
             };
-            Part::OverFiles(words.files, Task::Serve(listening))
+            Part::OverFiles(words.files, Task::Standby(copying))
         }
-        Command::Migrate(words) => Part::OverFiles(words.files, Task::Migrate(words.to)),
+    }
+}
+
+fn batch_part<'w>(words: BatchWords<'w>) -> Part<'w>
+    ensures { reading_of_part result ≡ reading_in (Command.Batch words.entry) }
+{
+    match words.standby {
+        None => Part::OverFiles(words.files, Task::Batch(words.workers)),
+        Some(standby) => Part::Copied(words.files, CopiedTask::Batch(words.workers), standby),
+    }
+}
+
+fn serve_part<'w>(words: ServeWords<'w>) -> Part<'w>
+    ensures { reading_of_part result ≡ reading_in (Command.Serve words.entry) }
+{
+    let address = words.listen;
+    let listening = Listening {
+        address,
+        workers: words.workers,
+        sessions: words.sessions,
+    };
+    match words.standby {
+        None => Part::OverFiles(words.files, Task::Serve(listening)),
+        Some(standby) => Part::Copied(words.files, CopiedTask::Serve(listening), standby),
     }
 }

@@ -9,12 +9,14 @@ use batch_engine::BatchEnd;
 use case_engine::CaseEnd;
 use cqe_base::text::ScriptError;
 use cqe_base::user::User;
+use dossier_engine::{CheckEnd, CheckRefusal, DossierEnd};
 use init_engine::InitEnd;
 use log_journal::OpenError;
 use migrate_engine::MigrateEnd;
 use policy_files::{FactsError, PolicyError};
 use selfrun_engine::SelfrunEnd;
 use serve_engine::ServeEnd;
+use standby_engine::CopyEnd;
 use user_desk::DeskError;
 
 /// What is told of an end: by its status, and by its complaint, whose parts stand here.
@@ -52,6 +54,8 @@ pub enum Report<'w> {
     LinksFault,
     /// Memory was wanting.
     Memory,
+    /// The dossier is refused.
+    Dossier(CheckRefusal),
 }
 
 /// What is told of an end.
@@ -69,6 +73,9 @@ pub(crate) fn report_of<'w>(end: CommandEnd<'w>) -> Report<'w>
         CommandEnd::Selfrun(end) => of_selfrun(end),
         CommandEnd::Serve(users, end) => of_serve(users, end),
         CommandEnd::Migrate(users, end) => of_migrate(users, end),
+        CommandEnd::Dossier(name, end) => of_dossier(name, end),
+        CommandEnd::Check(end) => of_check(end),
+        CommandEnd::Standby(users, end) => of_standby(users, end),
     }
 }
 
@@ -167,7 +174,42 @@ fn of_migrate<'w>(users: Vec<User>, end: MigrateEnd) -> Report<'w>
     }
 }
 
-/// What is told of a batch or a serving that was answered to its end.
+fn of_dossier<'w>(name: &'w str, end: DossierEnd) -> Report<'w>
+    ensures { result ≡ report_of (ends.Dossier name.entry end) }
+{
+    match end {
+        DossierEnd::Done => Report::Done,
+        DossierEnd::Refused(why) => Report::Journal(name, why),
+        DossierEnd::WriteFault => Report::WriteFault,
+        DossierEnd::ShelfFault => Report::ShelfFault,
+        DossierEnd::Memory => Report::Memory,
+    }
+}
+
+fn of_check<'w>(end: CheckEnd) -> Report<'w>
+    ensures { result ≡ report_of (ends.Check end) }
+{
+    match end {
+        CheckEnd::Done => Report::Done,
+        CheckEnd::Refused(why) => Report::Dossier(why),
+        CheckEnd::ReadFault => Report::ReadFault,
+        CheckEnd::WriteFault => Report::WriteFault,
+        CheckEnd::Memory => Report::Memory,
+    }
+}
+
+fn of_standby<'w>(users: Vec<User>, end: CopyEnd) -> Report<'w>
+    ensures { result ≡ report_of (ends.Standby users end) }
+{
+    match end {
+        CopyEnd::Done(refusals, is_broken) => of_answers(users, refusals, is_broken),
+        CopyEnd::LinksFault => Report::LinksFault,
+        CopyEnd::ShelfFault => Report::ShelfFault,
+        CopyEnd::Memory => Report::Memory,
+    }
+}
+
+/// What is told of a batch, a serving or a standby that came to its end.
 fn of_answers<'w>(users: Vec<User>, refusals: Vec<Option<DeskError>>, is_broken: bool) -> Report<'w>
     ensures { result ≡ answers_report users refusals is_broken }
 {
@@ -206,5 +248,6 @@ pub(crate) fn status_of(report: &Report<'_>) -> u8
         Report::DiskFault => 11,
         Report::LinksFault => 12,
         Report::Memory => 13,
+        Report::Dossier(_) => 14,
     }
 }

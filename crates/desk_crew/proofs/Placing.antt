@@ -10,7 +10,7 @@ use Rattle.cqe_base.specs.Facts.{FactSet}
 use Rattle.cqe_base.specs.declared.user.User.{User}
 use Rattle.cqe_base.proofs.Truths.{or_first, or_second}
 use Rattle.user_desk.specs.declared.standing.DeskError.{DeskError}
-use Rattle.desk_crew.specs.Crew.{seat_disk, disk_seated, IsLeft}
+use Rattle.desk_crew.specs.Crew.{seat_disk, IsLeft}
 use Rattle.desk_crew.specs.Seats.{DeskSeat}
 use Rattle.desk_crew.specs.declared.seat.Returned.{Returned}
 use Rattle.desk_crew.specs.Side.{DeskPlace, DeskOpening, place_of, at_seat, is_shut, AtDisk, IfAtDisk, IsAtDisk, HasPlace, place_journal, opening_journal}
@@ -95,11 +95,6 @@ module _ {D : Type 0} {g h : _} where
   open_placed (Some place) unshut = refl
 
   module _ (Disk : DiskGhosts D) where
-    -- the count of a disk doesn't fall as its journal is shut
-    pub shut_later : (place : DeskPlace D g h) (disk : D) → IsShut Disk place disk → Disk.faults (disk_seated place) ≤ Disk.faults disk
-    shut_later (Ok seat) disk shut = shut.later
-    shut_later (Err closed) disk shut = let same = ap Disk.faults shut in omega (arith, same)
-
     -- a disk with which a journal was shut is as it is left there
     pub shut_left : ((d : D) (t : ℕ) (c : List ℕ) → t ≤ Disk.moment d → Disk.image d c → Disk.image_since d t c)
         → ((d : D) (c : List ℕ) → Disk.image_since d (Disk.moment d) c → Disk.image d c) → (place : DeskPlace D g h) (disk : D) → IsShut Disk place disk

@@ -32,12 +32,12 @@ use Rattle.desk_crew.proofs.Placing.{zip_push, disk_weaker, disk_both, all_disk_
 abbrev pub names : List User → List Text
 names users = map (λ user. user.name) (map named_user users)
 
-names-append : (xs ys : List User) → names (xs ++ ys) ≡ names xs ++ names ys
+pub names-append : (xs ys : List User) → names (xs ++ ys) ≡ names xs ++ names ys
 names-append [] ys = refl
 names-append (x ∷ xs) ys = ap (λ l. string_bytes x.name ∷ l) (names-append xs ys)
 
 -- the names of users are those of the first, of the next and of the rest
-names_split : (users : List User) (i : ℕ) (user : User) → i < length users → user ≡ get_or users i user
+pub names_split : (users : List User) (i : ℕ) (user : User) → i < length users → user ≡ get_or users i user
     → names users ≡ (names (take i users) ++ string_bytes user.name ∷ []) ++ names (drop (i + 1) users)
 names_split users i user low is =
     let whole : users ≡ take (i + 1) users ++ drop (i + 1) users = sym (take-append-drop (i + 1) users) in
@@ -46,7 +46,7 @@ names_split users i user low is =
     ∙ ap (λ l. l ++ names (drop (i + 1) users)) (names-append (take i users) (user ∷ []))
 
 -- a name of the first users isn't that of the next
-next_apart : (users : List User) (i : ℕ) (user : User) → i < length users → user ≡ get_or users i user → has_duplicate (names users) ≡ false
+pub next_apart : (users : List User) (i : ℕ) (user : User) → i < length users → user ≡ get_or users i user → has_duplicate (names users) ≡ false
     → is_among (names (take i users)) (string_bytes user.name) ≡ false
 next_apart users i user low is distinct =
     let all = names_split users i user low is in
@@ -66,13 +66,14 @@ length-journals [] = refl
 length-journals (s ∷ seats) = ap (λ n. suc n) (length-journals seats)
 
 module _ (directory : Text) where
-  journal_among : JournalsDiffer → (ns : List Text) (name : Text) → is_among (map (journal_name directory) ns) (journal_name directory name) ≡ is_among ns name
+  pub journal_among : JournalsDiffer → (ns : List Text) (name : Text)
+      → is_among (map (journal_name directory) ns) (journal_name directory name) ≡ is_among ns name
   journal_among differ [] name = refl
   journal_among differ (n ∷ ns) name =
       ap (λ b. b || is_among (map (journal_name directory) ns) (journal_name directory name)) (differ directory name n)
       ∙ ap (λ b. bytes_eq name n || b) (journal_among differ ns name)
 
-  journals_distinct : JournalsDiffer → (ns : List Text) → has_duplicate (map (journal_name directory) ns) ≡ has_duplicate ns
+  pub journals_distinct : JournalsDiffer → (ns : List Text) → has_duplicate (map (journal_name directory) ns) ≡ has_duplicate ns
   journals_distinct differ [] = refl
   journals_distinct differ (n ∷ ns) =
       ap (λ b. b || has_duplicate (map (journal_name directory) ns)) (journal_among differ ns n) ∙ ap (λ b. is_among ns n || b) (journals_distinct differ ns)

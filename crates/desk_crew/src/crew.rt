@@ -68,6 +68,7 @@ pub fn give_back<F: Shelf>(shelf: &mut F, seats: Vec<DeskSeat<'_, F::D>>) -> boo
     ensures faults { F.faults shelf.new ≡ F.faults shelf.old }
     ensures files { SameNames (F.file shelf.old) (F.file shelf.new) }
     ensures looked { F.looked shelf.new ≡ F.looked shelf.old }
+    ensures lent { F.lent shelf.new ≡ F.lent shelf.old }
 {
     let mut seats = seats;
     let mut is_broken = false;
@@ -97,6 +98,7 @@ fn return_one<F: Shelf>(shelf: &mut F, opening: DeskOpening<'_, F::D>)
     ensures faults { F.faults shelf.new ≡ F.faults shelf.old }
     ensures files { SameNames (F.file shelf.old) (F.file shelf.new) }
     ensures looked { F.looked shelf.new ≡ F.looked shelf.old }
+    ensures lent { F.lent shelf.new ≡ F.lent shelf.old }
 {
     let place = opening.place.unwrap();
     let closed = shut(place);
@@ -122,6 +124,7 @@ fn return_all<F: Shelf>(shelf: &mut F, openings: Vec<DeskOpening<'_, F::D>>)
     ensures faults { F.faults shelf.new ≡ F.faults shelf.old }
     ensures files { SameNames (F.file shelf.old) (F.file shelf.new) }
     ensures looked { F.looked shelf.new ≡ F.looked shelf.old }
+    ensures lent { F.lent shelf.new ≡ F.lent shelf.old }
 {
     let mut openings = openings;
     while let Some(opening) = openings.pop() {
@@ -169,6 +172,7 @@ where
     ensures faults { F.faults shelf.new ≡ F.faults shelf.old }
     ensures files { SameNames (F.file shelf.old) (F.file shelf.new) }
     ensures looked { F.looked shelf.new ≡ F.looked shelf.old }
+    ensures lent { F.lent shelf.new ≡ F.lent shelf.old }
 {
     let mut openings = openings;
     open_each(rt, alloc, registry, workers, &mut openings);
@@ -213,6 +217,7 @@ where
     ensures faults { F.faults shelf.new ≡ F.faults shelf.old }
     ensures files { SameNames (F.file shelf.old) (F.file shelf.new) }
     ensures looked { F.looked shelf.new ≡ F.looked shelf.old }
+    ensures lent { F.lent shelf.new ≡ F.lent shelf.old }
 {
     let count = seats.len();
     let (Ok(empty), Ok(room)) = (room_for(alloc, count), room_for(alloc, count)) else {
@@ -252,6 +257,7 @@ fn take_one<'w, F: Shelf>(
     ensures later { F.faults shelf.old ≤ F.faults shelf.new }
     ensures files { SameNames (F.file shelf.old) (F.file shelf.new) }
     ensures looked { F.looked shelf.new ≡ F.looked shelf.old }
+    ensures lent { F.lent shelf.new ≡ F.lent shelf.old }
     ensures cause { IsErrOf result NotOpened.Shelf
         → Rose (F.faults shelf.old) (F.faults shelf.new) }
 {
@@ -311,6 +317,7 @@ where
     ensures later { F.faults shelf.old ≤ F.faults shelf.new }
     ensures files { SameNames (F.file shelf.old) (F.file shelf.new) }
     ensures looked { F.looked shelf.new ≡ F.looked shelf.old }
+    ensures lent { F.lent shelf.new ≡ F.lent shelf.old }
     ensures cause { IsErrOf result NotOpened.Shelf
         → Rose (F.faults shelf.old) (F.faults shelf.new) }
 {

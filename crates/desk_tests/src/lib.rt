@@ -1,9 +1,9 @@
 //! Tests of one user's desk, of a desk that sessions share, of sessions and of a worker's job.
 //!
 //! They call the libraries as any other crate does. A module is named for what it tests: `desks` of
-//! `user_desk`, `counters` of `desk_counter`, `examining` of `censors`, `sessions` of
-//! `session_core`, `service` of `serve_engine`. They share a small `clinic`. Bytes and replies that
-//! are compared were worked out by hand.
+//! `user_desk`, `counters` of `desk_counter`, `examining` of `censors`, `dossiers` of `dossier`,
+//! `shown` of it over a workload, `sessions` of `session_core`, `service` of `serve_engine`. They
+//! share a small `clinic`. Bytes and replies that are compared were worked out by hand.
 #![tactic(auto)]
 
 #[cfg(test)]
@@ -13,8 +13,12 @@ mod counters;
 #[cfg(test)]
 mod desks;
 #[cfg(test)]
+mod dossiers;
+#[cfg(test)]
 mod examining;
 #[cfg(test)]
 mod service;
 #[cfg(test)]
 mod sessions;
+#[cfg(test)]
+mod shown;

@@ -1,4 +1,4 @@
-ghost use Rattle.std.specs.Prelude.{[]};
+ghost use Rattle.std.specs.Prelude.{[], ◌^◌};
 
 use outside::{Disk, Failed, MemoryDisk, Operation, Plan};
 use std::test::Fail;
@@ -90,6 +90,8 @@ impl Disk for UntoldDisk {
 
     ghost faults = { λ d. d.faults };
 
+    ghost told = { λ d. 2 ^ 64 };
+
     ghost read_is_image = { λ d told. told };
 
     ghost counts_now = { λ d t c le now. now };
@@ -110,6 +112,10 @@ impl Disk for UntoldDisk {
     }
 
     fn sync(&mut self) -> Result<(), Failed> {
+        Ok(())
+    }
+
+    fn tell(&mut self, _number: u64, _kind: u8, _text: &[u8]) -> Result<(), Failed> {
         Ok(())
     }
 }

@@ -3,8 +3,8 @@
 //!
 //! They call the libraries as any other crate does. A module is named for what it tests: `streams`,
 //! `disks`, `shelves` and `links` of `outside`, `turns` of `turnstile`, `workers` of `worker_pool`,
-//! `journals` of `log_journal`, `making` of `init_engine`. Bytes, calls and orders that are
-//! compared were worked out by hand.
+//! `journals` of `log_journal`, `standby` of `standby_core`, `making` of `init_engine`. Bytes,
+//! calls and orders that are compared were worked out by hand.
 #![tactic(auto)]
 
 #[cfg(test)]
@@ -17,6 +17,8 @@ mod links;
 mod making;
 #[cfg(test)]
 mod shelves;
+#[cfg(test)]
+mod standby;
 #[cfg(test)]
 mod streams;
 #[cfg(test)]

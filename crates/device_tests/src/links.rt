@@ -1,8 +1,8 @@
 ghost use Rattle.std.specs.Prelude.{[], None};
 
 use outside::{
-    Connection, Door, Failed, Links, LinksError, MemoryDoor, MemoryLinks, MemorySink, MemorySource,
-    Plan, Sink, Source, write_all,
+    Connection, Dial, Door, Failed, Links, LinksError, MemoryDial, MemoryDoor, MemoryLinks,
+    MemorySink, MemorySource, Plan, Sink, Source, write_all,
 };
 use std::alloc::Global;
 use std::process::Abort;
@@ -181,5 +181,33 @@ fn doors_may_be_untold(rt: HostRuntime) -> Result<(), Fail> {
     assert!(rt; echo_all(&mut door));
     assert_eq!(rt; door.calls, 2);
     assert_eq!(rt; door.faults, 0);
+    Ok(())
+}
+
+#[test]
+fn dials_are_answered_by_plan(rt: HostRuntime) -> Result<(), Fail> {
+    let alloc = rt.alloc();
+    let mut links = MemoryLinks::new(alloc, Vec::new(alloc));
+    links.plan_dials(vec![in alloc; Plan::At(vec![in alloc; 1]?), Plan::From(0)]?);
+    let mut first = links.dial(alloc, "127.0.0.1:7008")?;
+    let mut second = links.dial(alloc, "127.0.0.1:7008")?;
+    let mut third = links.dial(alloc, "127.0.0.1:7008")?;
+    assert_eq!(rt; first.exchange(b"ab", 4), Ok(5));
+    assert_eq!(rt; first.exchange(b"cd", 5), Err(Failed));
+    assert_eq!(rt; first.exchange(b"cd", 5), Ok(6));
+    assert_eq!(rt; second.exchange(b"ef", 0), Err(Failed));
+    assert_eq!(rt; third.exchange(b"gh", u64::MAX), Err(Failed));
+    assert_eq!(rt; links.mirror(), 0);
+    links.hang_up(first);
+    links.hang_up(second);
+    links.hang_up(third);
+    assert_eq!(rt; links.mirror(), 3);
+    assert_eq!(rt; links.faults(), 0);
+    let back = links.dials_back();
+    assert_eq!(rt;
+        back.first().map(MemoryDial::frames),
+        Some(b"abcd".as_slice())
+    );
+    assert_eq!(rt; back.get(1).map(MemoryDial::frames), Some(b"".as_slice()));
     Ok(())
 }

@@ -1,5 +1,5 @@
 mod ClauseCount
-mod LogNodes
+pub mod LogNodes
 mod LogForms
 mod LogItems
 mod ViewForms

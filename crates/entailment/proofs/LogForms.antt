@@ -120,6 +120,16 @@ pub probe-form : (schema : DatabaseSchema) (premises : List Signed) (goal : Sign
     → form_of_log schema (with_negated premises goal) ≡ form_of (grounded_probe schema premises goal)
 probe-form schema premises goal = ap form_of (map-append (grounded_signed schema) premises (with_negated [] goal))
 
+-- what a probe adds behind the formulas of its log makes the form of the probe
+pub probe-whole : (schema : DatabaseSchema) (log : List Signed) (probe : Probe) → IsGroundPremise schema probe.premise
+    → IsGroundOver schema probe.goal.0.now
+    → form_of (map (grounded_signed schema) log ++ added_by probe) ≡ form_of (grounded_probe schema (log ++ premise_of probe) (goal_of probe))
+probe-whole schema log probe premise_is goal_is =
+    ap (λ more. form_of (map (grounded_signed schema) log ++ more)) (added-is schema probe premise_is goal_is)
+    ∙ ap form_of (sym (map-append (grounded_signed schema) log (with_negated (premise_of probe) (goal_of probe))))
+    ∙ ap (form_of_log schema) (sym (append_assoc log (premise_of probe) (with_negated [] (goal_of probe))))
+    ∙ probe-form schema (log ++ premise_of probe) (goal_of probe)
+
 -- the premises of a probe are of the schema where the log and the further premise are
 pub premises-sentences : (schema : DatabaseSchema) (log premise : List Signed) → are_sentences_of schema log ≡ true → are_sentences_of schema premise ≡ true
     → are_sentences_of schema (log ++ premise) ≡ true

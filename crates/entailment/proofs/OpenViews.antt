@@ -7,8 +7,10 @@ use Rattle.entailment.specs.Forms.{form_of_log, with_negated}
 use Rattle.entailment.specs.Views.{LogView, schema_of, log_of}
 use Rattle.entailment.specs.Inside.{view_inside, IsSound}
 use Rattle.entailment.specs.Verdicts.{as_wanted, IsCheckedOf, searched_verdict}
+use Rattle.entailment.specs.Certificates.{IsRightFor, IsRightOf}
 use Rattle.entailment.specs.declared.probes.Wanted.{Wanted}
 use Rattle.entailment.specs.declared.probes.Verdict.{Verdict}
+use Rattle.entailment.specs.declared.probes.Certified.{Certified}
 use Rattle.entailment.specs.declared.view.Told.{Told}
 use Rattle.entailment.specs.declared.view.View.TheInside.{Inside}
 
@@ -32,3 +34,9 @@ module _ (v : Inside) (view : LogView) (is : view_inside v ≡ view) (sound : Is
         → verdict ≡ as_wanted wanted (searched_verdict (form_of_log (schema_of view) (with_negated (log_of view ++ premise) goal)) budget)
     own-verdict premise goal budget wanted verdict checked =
         subst (λ s. IsCheckedOf s premise goal budget wanted form verdict) schema-is checked (log_of view) own-form
+
+    -- and what was found right is so for the probe's clauses
+    pub own-right : (premise : List Signed) (goal : Signed) (found : Certified) → IsRightOf v.schema.now premise goal form found
+        → IsRightFor (form_of_log (schema_of view) (with_negated (log_of view ++ premise) goal)).clauses found
+    own-right premise goal found right =
+        subst (λ s. IsRightOf s premise goal form found) schema-is right (log_of view) own-form

@@ -8,3 +8,4 @@ pub mod Inside
 pub mod ViewsInside
 pub mod Budgets
 pub mod Verdicts
+pub mod Certificates

@@ -9,13 +9,17 @@
 //! Its verdict is that of the machine's end. `Follows` comes only where the premises entail the
 //! goal over all worlds of the schema, `Open` only with a world in which they are true and the goal
 //! is false, that of the machine's model, and the view is afterwards as it was. `probe_outcome`
-//! makes no world. `Views` is a log that lends views of itself, and takes them back.
+//! makes no world. `certify` tells the refutation too, and `confirm` says of any refutation whether
+//! it is right for a probe, without a search. `Views` is a log that lends views of itself, and
+//! takes them back.
 //!
 //! The law beneath is that of `clause_form`: the clauses have a model exactly where some world of
-//! the schema makes the sentences true. Read `view`, then `sentences`, `forms` and `probes`.
+//! the schema makes the sentences true. Read `view`, then `sentences`, `forms`, `probes` and
+//! `confirming`.
 #![tactic(auto)]
 
 mod budgets;
+mod confirming;
 mod forms;
 mod probes;
 mod sentences;
@@ -23,7 +27,8 @@ mod view;
 mod views;
 
 pub use budgets::enough;
-pub use probes::{Probe, ProbeOutcome, Verdict, probe_outcome, test};
+pub use confirming::confirm;
+pub use probes::{Certified, Probe, ProbeOutcome, Verdict, certify, probe_outcome, test};
 pub use sentences::GroundSentence;
 pub use view::View;
 pub use views::Views;

@@ -15,6 +15,8 @@ ghost use Rattle.entailment.specs.Views.{schema_of, log_of};
 ghost use Rattle.entailment.specs.Budgets.{IsSpentByCost};
 ghost use Rattle.entailment.specs.Verdicts.{verdict_of_probe, checked_verdict, searched_verdict};
 ghost use Rattle.entailment.specs.Verdicts.{as_wanted, IsCheckedOf};
+ghost use Rattle.entailment.specs.Certificates.{as_verdict, clauses_of_probe, IsRightFor};
+ghost use Rattle.entailment.specs.Certificates.{IsRightOf};
 ghost use Rattle.entailment.specs.GroundSentences.{IsGroundOver};
 ghost use Rattle.entailment.specs.Probes.{premise_of, goal_of, outcome_of, outcome_found};
 ghost use Rattle.entailment.specs.Probes.{IsTrueOutcome, IsTrueVerdict, IsGroundPremise};
@@ -70,6 +72,17 @@ pub enum ProbeOutcome {
     Spent,
 }
 
+/// What a probe found, with what shows it.
+#[derive(Drop)]
+pub enum Certified {
+    /// The premises entail the goal: this refutation of the probe's clauses is right.
+    Follows(Refutation),
+    /// In this world the premises are true and the goal is false.
+    Open(World),
+    /// The budget doesn't suffice.
+    Spent,
+}
+
 /// What is wanted of an open probe.
 #[derive(Clone, Copy)]
 enum Wanted {
@@ -111,6 +124,43 @@ pub fn test(
         (with_negated (log_of view.old ++ premise_of probe.now) (goal_of probe.now))) }
     ensures same { view.new ≡ view.old }
 {
+    match run(alloc, view, probe, budget, Wanted::World)? {
+        Certified::Follows(_) => Ok(Verdict::Follows),
+        Certified::Open(world) => Ok(Verdict::Open(world)),
+        Certified::Spent => Ok(Verdict::Spent),
+    }
+}
+
+/// The same, with the refutation where the goal follows. It is right for the probe's clauses, those
+/// of the log, of the premise and of the negated goal, and its lines are numbered on from them; so
+/// `confirm` says yes of it.
+pub fn certify(
+    alloc: Global,
+    view: &mut View<'_>,
+    probe: &Probe<'_>,
+    budget: u64,
+) -> Result<Certified, AllocError>
+    requires premise { are_sentences_of (schema_of view.old) (premise_of probe.now) ≡ true }
+    requires goal { is_sentence_of (schema_of view.old) (goal_of probe.now).0 ≡ true }
+    requires all_nodes { log_nodes (schema_of view.old) (log_of view.old)
+        + sentence_nodes (schema_of view.old) (premise_of probe.now)
+        + nodes (schema_of view.old) (goal_of probe.now).0 ≤ 100000 }
+    requires grounded_premise { IsGroundPremise (schema_of view.old) probe.now.premise }
+    requires grounded_goal { IsGroundOver (schema_of view.old) probe.now.goal.0.now }
+    requires budget { budget ≤ 4000000 }
+    ensures outcome { IfOk result (λ found. outcome_of (as_verdict found)
+        ≡ outcome (schema_of view.old) (log_of view.old ++ premise_of probe.now)
+        (goal_of probe.now) budget) }
+    ensures end { IfOk result (λ found. as_verdict found ≡ verdict_of_probe (schema_of view.old)
+        (log_of view.old ++ premise_of probe.now) (goal_of probe.now) budget) }
+    ensures sound { IfOk result (λ found.
+        IsTrueVerdict (schema_of view.old) (log_of view.old ++ premise_of probe.now)
+        (goal_of probe.now) (as_verdict found)) }
+    ensures right { IfOk result
+        (IsRightFor (clauses_of_probe (schema_of view.old) (log_of view.old
+        ++ premise_of probe.now) (goal_of probe.now))) }
+    ensures same { view.new ≡ view.old }
+{
     run(alloc, view, probe, budget, Wanted::World)
 }
 
@@ -140,20 +190,21 @@ pub fn probe_outcome(
     ensures same { view.new ≡ view.old }
 {
     match run(alloc, view, probe, budget, Wanted::Outcome)? {
-        Verdict::Follows => Ok(ProbeOutcome::Follows),
-        Verdict::Open(_) => Ok(ProbeOutcome::Open),
-        Verdict::Spent => Ok(ProbeOutcome::Spent),
+        Certified::Follows(_) => Ok(ProbeOutcome::Follows),
+        Certified::Open(_) => Ok(ProbeOutcome::Open),
+        Certified::Spent => Ok(ProbeOutcome::Spent),
     }
 }
 
-/// The verdict of a probe, with the world of an open one where that is wanted.
+/// What a probe found, with the refutation where it follows, and the world of an open one where
+/// that is wanted.
 fn run(
     alloc: Global,
     view: &mut View<'_>,
     probe: &Probe<'_>,
     budget: u64,
     wanted: Wanted,
-) -> Result<Verdict, AllocError>
+) -> Result<Certified, AllocError>
     requires premise { are_sentences_of (schema_of view.old) (premise_of probe.now) ≡ true }
     requires goal { is_sentence_of (schema_of view.old) (goal_of probe.now).0 ≡ true }
     requires all_nodes { log_nodes (schema_of view.old) (log_of view.old)
@@ -162,22 +213,25 @@ fn run(
     requires grounded_premise { IsGroundPremise (schema_of view.old) probe.now.premise }
     requires grounded_goal { IsGroundOver (schema_of view.old) probe.now.goal.0.now }
     requires budget { budget ≤ 4000000 }
-    ensures outcome { IfOk result (λ verdict. outcome_of verdict
+    ensures outcome { IfOk result (λ found. outcome_of (as_verdict found)
         ≡ outcome (schema_of view.old) (log_of view.old ++ premise_of probe.now)
         (goal_of probe.now) budget) }
-    ensures end { IfOk result (λ verdict. verdict
+    ensures end { IfOk result (λ found. as_verdict found
         ≡ as_wanted wanted (verdict_of_probe (schema_of view.old)
         (log_of view.old ++ premise_of probe.now) (goal_of probe.now) budget)) }
-    ensures sound { IfOk result (λ verdict.
+    ensures sound { IfOk result (λ found.
         IsTrueOutcome (schema_of view.old) (log_of view.old ++ premise_of probe.now)
-        (goal_of probe.now) (outcome_of verdict)) }
-    ensures world { IfOk result (λ verdict. wanted ≡ Wanted.World
+        (goal_of probe.now) (outcome_of (as_verdict found))) }
+    ensures world { IfOk result (λ found. wanted ≡ Wanted.World
         → IsTrueVerdict (schema_of view.old) (log_of view.old ++ premise_of probe.now)
-        (goal_of probe.now) verdict) }
-    ensures spent { IfOk result
-        (IsSpentByCost (schema_of view.old) (log_of view.old ++ premise_of probe.now)
-        (goal_of probe.now) budget) }
-    ensures models { IfOk result (λ verdict. HaveModelsInWorlds (schema_of view.old)
+        (goal_of probe.now) (as_verdict found)) }
+    ensures right { IfOk result
+        (IsRightFor (clauses_of_probe (schema_of view.old) (log_of view.old
+        ++ premise_of probe.now) (goal_of probe.now))) }
+    ensures spent { IfOk result (λ found.
+        IsSpentByCost (schema_of view.old) (log_of view.old ++ premise_of probe.now)
+        (goal_of probe.now) budget (as_verdict found)) }
+    ensures models { IfOk result (λ found. HaveModelsInWorlds (schema_of view.old)
         (with_negated (log_of view.old ++ premise_of probe.now) (goal_of probe.now))) }
     ensures same { view.new ≡ view.old }
 {
@@ -199,7 +253,7 @@ fn run(
         &mut view.formed,
     )?;
     let before = view.former.mark();
-    let verdict = probed(
+    let found = probed(
         alloc,
         view.schema,
         &mut view.former,
@@ -209,11 +263,11 @@ fn run(
         wanted,
     );
     view.former.cut(before);
-    verdict
+    found
 }
 
-/// The verdict of a probe of the log whose form it is. The form keeps what the probe adds. The
-/// search keeps clauses of the log alone.
+/// What a probe of the log finds whose form it is. The form keeps what the probe adds. The search
+/// keeps clauses of the log alone.
 fn probed(
     alloc: Global,
     schema: &Schema,
@@ -222,15 +276,17 @@ fn probed(
     probe: &Probe<'_>,
     budget: u64,
     wanted: Wanted,
-) -> Result<Verdict, AllocError>
+) -> Result<Certified, AllocError>
     requires form { IsForProbe schema.now (premise_of probe.now) (goal_of probe.now) former.old }
     requires added { added_by probe.now ≡ map (grounded_signed schema.now)
         (with_negated (premise_of probe.now) (goal_of probe.now)) }
     requires kept { IsBeginning kept.old former.old.clauses }
     requires budget { budget ≤ 4000000 }
-    ensures verdict { IfOk result
-        (IsCheckedOf schema.now (premise_of probe.now) (goal_of probe.now) budget wanted
-        former.old) }
+    ensures verdict { IfOk result (λ found.
+        IsCheckedOf schema.now (premise_of probe.now) (goal_of probe.now) budget wanted
+        former.old (as_verdict found)) }
+    ensures right { IfOk result
+        (IsRightOf schema.now (premise_of probe.now) (goal_of probe.now) former.old) }
     ensures more { GoesOn former.old former.new }
     ensures kept { IsBeginning kept.new former.old.clauses }
 {
@@ -244,29 +300,30 @@ fn probed(
     schema.known();
     kept.keep(alloc, former.clauses(), former.variables())?;
     add_probe(alloc, former, probe)?;
-    verdict_of(alloc, schema, former, kept, budget, wanted)
+    certificate_of(alloc, schema, former, kept, budget, wanted)
 }
 
 /// Searches a form, and tells what was found.
-fn verdict_of(
+fn certificate_of(
     alloc: Global,
     schema: &Schema,
     former: &Former,
     kept: &mut KeptSearch,
     budget: u64,
     wanted: Wanted,
-) -> Result<Verdict, AllocError>
+) -> Result<Certified, AllocError>
     requires searchable { IsSearchable schema.now former.now }
     requires kept { IsBeginning kept.old former.now.clauses }
     requires budget { budget ≤ 4000000 }
-    ensures verdict { IfOk result (λ verdict. verdict
+    ensures verdict { IfOk result (λ found. as_verdict found
         ≡ as_wanted wanted (searched_verdict former.now budget)) }
+    ensures right { IfOk result (IsRightFor former.now.clauses) }
     ensures kept { StaysOrEmpty kept.old kept.new }
 {
     match kept.search(alloc, former.clauses(), former.variables(), budget)? {
-        Found::Refuted(refutation) => checked_refutation(alloc, former, &refutation),
-        Found::Model(signs) => model_verdict(alloc, schema, former, &signs, wanted),
-        Found::Spent => Ok(Verdict::Spent),
+        Found::Refuted(refutation) => checked_refutation(alloc, former, refutation),
+        Found::Model(signs) => checked_signs(alloc, schema, former, &signs, wanted),
+        Found::Spent => Ok(Certified::Spent),
     }
 }
 
@@ -274,33 +331,35 @@ fn verdict_of(
 fn checked_refutation(
     alloc: Global,
     former: &Former,
-    refutation: &Refutation,
-) -> Result<Verdict, AllocError>
-    ensures { IfOk result (λ verdict. (wanted : Wanted) → verdict ≡ as_wanted wanted
-        (checked_verdict former.now (Some (Refuted (lines_of refutation.now))))) }
+    refutation: Refutation,
+) -> Result<Certified, AllocError>
+    ensures verdict { IfOk result (λ found. (wanted : Wanted) → as_verdict found
+        ≡ as_wanted wanted (checked_verdict former.now (Some (Refuted (lines_of refutation))))) }
+    ensures right { IfOk result (IsRightFor former.now.clauses) }
 {
-    if check_refutation(alloc, former.clauses(), refutation)? {
-        Ok(Verdict::Follows)
+    if check_refutation(alloc, former.clauses(), &refutation)? {
+        Ok(Certified::Follows(refutation))
     } else {
-        Ok(Verdict::Spent)
+        Ok(Certified::Spent)
     }
 }
 
 /// What a model shows that the search found right. It is checked again where its world is told.
-fn model_verdict(
+fn checked_signs(
     alloc: Global,
     schema: &Schema,
     former: &Former,
     signs: &Signs,
     wanted: Wanted,
-) -> Result<Verdict, AllocError>
+) -> Result<Certified, AllocError>
     requires searchable { IsSearchable schema.now former.now }
     requires right { is_model former.now.clauses signs.now.values.items ≡ true }
-    ensures { IfOk result (λ verdict. verdict ≡ as_wanted wanted
+    ensures verdict { IfOk result (λ found. as_verdict found ≡ as_wanted wanted
         (checked_verdict former.now (Some (Model signs.now.values.items)))) }
+    ensures right { IfOk result (IsRightFor former.now.clauses) }
 {
     match wanted {
-        Wanted::Outcome => Ok(Verdict::Open(World::new(alloc))),
+        Wanted::Outcome => Ok(Certified::Open(World::new(alloc))),
         Wanted::World => checked_model(alloc, schema, former, signs),
     }
 }
@@ -311,14 +370,15 @@ fn checked_model(
     schema: &Schema,
     former: &Former,
     signs: &Signs,
-) -> Result<Verdict, AllocError>
+) -> Result<Certified, AllocError>
     requires { IsSearchable schema.now former.now }
-    ensures { IfOk result (λ verdict. verdict
+    ensures verdict { IfOk result (λ found. as_verdict found
         ≡ checked_verdict former.now (Some (Model signs.now.values.items))) }
+    ensures right { IfOk result (IsRightFor former.now.clauses) }
 {
     if check_model(former.clauses(), signs) {
-        Ok(Verdict::Open(former.world_of(alloc, schema, signs)?))
+        Ok(Certified::Open(former.world_of(alloc, schema, signs)?))
     } else {
-        Ok(Verdict::Spent)
+        Ok(Certified::Spent)
     }
 }

@@ -11,6 +11,10 @@ disk_of journal = journal.disk
 abbrev pub is_broken : {D : Type 0} {g : _} → Journal D g → Bool
 is_broken journal = journal.broken
 
+-- how many records it has
+abbrev pub count_of : {D : Type 0} {g : _} → Journal D g → ℕ
+count_of journal = journal.count
+
 -- how many bytes of room it has
 abbrev pub room_of : {D : Type 0} {g : _} → Journal D g → ℕ
 room_of journal = length journal.room.items

@@ -1,7 +1,7 @@
 -- How a reader walks through the bytes of a journal, from gate to gate.
 use Rattle.std.specs.Prelude.{◌≡◌, ◌↔◌, ℕ, zero, suc, ◌+◌, ◌*◌, ◌≤◌, Bool, ◌&&◌, List, [], ◌∷◌}
 use Rattle.std.specs.Prelude.{length, take, drop, Option, Some, None, nat_le, nat_lt, ◌==◌}
-use Rattle.std.specs.Prelude.{if◌then◌else◌}
+use Rattle.std.specs.Prelude.{if◌then◌else◌, slice_get}
 use Rattle.log_journal.specs.Records.{Recorded, IsJournal}
 
 -- a length as two bytes, the higher first
@@ -20,6 +20,10 @@ opened skipped rest = []
 -- the records that are found behind the header
 abbrev pub records : List ℕ → List Recorded
 records bytes = opened 0 (drop 72 bytes)
+
+-- the record of this number, counted from 0, is this one
+abbrev pub IsNumbered : List ℕ → ℕ → Recorded → Type 0
+IsNumbered bytes number one = slice_get (records bytes) number ≡ Some one
 
 -- one of so many kinds and a length of at most 4,096, whose lower byte is a byte, and the text lies
 -- there with the next gate

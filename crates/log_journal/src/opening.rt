@@ -5,17 +5,18 @@ ghost use Rattle.std.specs.Prelude.{OnOk, IsErrOf, IsTrue, ◌↔◌, map, All, 
 ghost use Rattle.outside.specs.Disk.{Only, Elapses};
 ghost use Rattle.outside.specs.Faults.{HasCause, Rose};
 ghost use Rattle.log_journal.specs.Records.{Recorded, IsJournal};
-ghost use Rattle.log_journal.specs.Walk.{damaged};
+ghost use Rattle.log_journal.specs.Walk.{damaged, records};
 ghost use Rattle.log_journal.specs.Bytes.{EndsAt};
 ghost use Rattle.log_journal.specs.Opening.{headed, header_bytes, IsJournalOf, IsOldJournal};
 ghost use Rattle.log_journal.specs.Opening.{recorded, IsRecord, Refuses, RefusesOld, IsRefused};
 ghost use Rattle.log_journal.specs.Opening.{IsRefusedOf, IsRefusedOld, IsOfHeader, IsOutside};
 ghost use Rattle.log_journal.specs.Opening.{StartsWithRecord, HasRecord, IsStopped, IsCutShort};
 ghost use Rattle.log_journal.specs.Opening.{IsOnlyRead, IsRead};
-ghost use Rattle.log_journal.specs.Journal.{disk_of, is_broken, disk_after};
+ghost use Rattle.log_journal.specs.Journal.{is_broken, count_of, disk_of, disk_after};
 ghost use Rattle.log_journal.specs.declared.header.OpenError.{OpenError};
 
 use crate::put::write_synced;
+use crate::tell::tell_all;
 use crate::{Header, Journal, OpenError, Record, Refused};
 use outside::{Disk, Failed};
 use std::alloc::{AllocError, Global};
@@ -78,13 +79,14 @@ pub fn create<D: Disk>(
         → IfOk result (λ r. IsJournal (header_bytes header.now) [] (D.reads (disk_of r))) }
     ensures durable { IfOk result (λ r. Only (D.reads (disk_of r)) (D.image (disk_of r))) }
     ensures whole { IfOk result (λ r. is_broken r ≡ false) }
+    ensures number { IfOk result (λ r. count_of r ≡ 0) }
     ensures count { IfOk result (λ r. D.faults disk ≤ D.faults (disk_of r)) }
     ensures later { IfErr result (λ r. D.faults disk ≤ D.faults r.disk) }
     ensures cause { IfErr result (λ r. Rose (D.faults disk) (D.faults r.disk)) }
 {
     let mut disk = disk;
     match format(&mut disk, header) {
-        Ok(()) => Ok(Journal::at(alloc, disk, 72)),
+        Ok(()) => Ok(Journal::at(alloc, disk, 72, 0)),
         Err(why) => Err(Refused { disk, why }),
     }
 }
@@ -314,9 +316,42 @@ fn read_synced<D: Disk>(
     read_journal(alloc, disk, first, kinds, header)
 }
 
+// The same, and behind it the disk is told of each of these records.
+fn read_told<D: Disk>(
+    alloc: Global,
+    disk: &mut D,
+    header: &Header,
+) -> Result<(Vec<Record>, u64), OpenError>
+    ensures opened { D.tells
+        → IfOk result (λ r. IsJournalOf 5 (header_bytes header.now) (map recorded r.0.items)
+        (D.reads disk.old)) }
+    ensures each { IfOk result (λ r. All (IsRecord 5) r.0.items) }
+    ensures ends { D.tells → IfOk result (λ r. EndsAt (D.reads disk.new) r.1) }
+    ensures counted { D.tells
+        → IfOk result (λ r. length r.0.items ≡ length (records (D.reads disk.new))) }
+    ensures told { IfOk result (λ r. length r.0.items ≤ D.told disk.new) }
+    ensures refused { IfErr result
+        (IsRefused D.tells (header_bytes header.now) (D.reads disk.old) (D.faults disk.old)
+        (D.faults disk.new)) }
+    ensures reads { D.reads disk.new ≡ D.reads disk.old }
+    ensures durable { OnOk result (Only (D.reads disk.new) (D.image disk.new)) }
+    ensures synced { IfErr result (λ why. (why ≡ OpenError.DiskFault)
+        ⊎ Only (D.reads disk.new) (D.image disk.new)) }
+    ensures images { (c : List ℕ) → D.image disk.new c → D.image disk.old c }
+    ensures moments { (c : List ℕ) → D.image_since disk.new (D.moment disk.old) c
+        → D.image disk.old c }
+    ensures time { Elapses (D.moment disk.old) (D.moment disk.new) (D.image_since disk.old)
+        (D.image_since disk.new) }
+    ensures count { D.faults disk.old ≤ D.faults disk.new }
+{
+    let read = read_synced(alloc, disk, b"CQEJRNL2", 5, header)?;
+    tell_all(disk, &read.0)?;
+    Ok(read)
+}
+
 /// Opens the journal of a disk and reads its records, all and in order. It begins with a sync and
-/// repairs nothing: the bytes stay, and no crash at any moment leaves anything new. A refusal hands
-/// the disk back.
+/// repairs nothing: the bytes stay, and no crash at any moment leaves anything new. The disk is
+/// told of each record in order before it answers. A refusal hands the disk back.
 ///
 /// It reads record by record, each behind its open gate, and nothing behind the closed one. So what
 /// lies there costs nothing, and over a file to which another process appends meanwhile the records
@@ -331,6 +366,8 @@ pub fn open<D: Disk>(
         (D.reads disk)) }
     ensures each { IfOk result (λ r. All (IsRecord 5) r.1.items) }
     ensures whole { IfOk result (λ r. is_broken r.0 ≡ false) }
+    ensures number { IfOk result (λ r. count_of r.0 ≡ length r.1.items) }
+    ensures told { IfOk result (λ r. length r.1.items ≤ D.told (disk_of r.0)) }
 
     // Bytes are refused exactly where they show a reason: what is opened shows none, a refusal has
     // its cause, and a journal with this header is refused for a fault or for want of memory alone.
@@ -355,14 +392,17 @@ pub fn open<D: Disk>(
     ensures count { D.faults disk ≤ D.faults (disk_after result) }
 {
     let mut disk = disk;
-    match read_synced(alloc, &mut disk, b"CQEJRNL2", 5, header) {
-        Ok((records, gate)) => Ok((Journal::at(alloc, disk, gate), records)),
+    match read_told(alloc, &mut disk, header) {
+        Ok((records, gate)) => {
+            let count = records.len() as u64;
+            Ok((Journal::at(alloc, disk, gate, count), records))
+        }
         Err(why) => Err(Refused { disk, why }),
     }
 }
 
-/// Opens a journal of version 1 with these digests, as `open` does one of version 2. It is for who
-/// moves its records to a journal of version 2.
+/// Opens a journal of version 1 with these digests, as `open` does one of version 2, but the disk
+/// isn't told. It is for who moves its records to a journal of version 2.
 pub fn open_old<D: Disk>(
     alloc: Global,
     disk: D,
@@ -398,7 +438,10 @@ pub fn open_old<D: Disk>(
 {
     let mut disk = disk;
     match read_synced(alloc, &mut disk, b"CQEJRNL1", 4, header) {
-        Ok((records, gate)) => Ok((Journal::at(alloc, disk, gate), records)),
+        Ok((records, gate)) => {
+            let count = records.len() as u64;
+            Ok((Journal::at(alloc, disk, gate, count), records))
+        }
         Err(why) => Err(Refused { disk, why }),
     }
 }

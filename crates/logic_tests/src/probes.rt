@@ -8,11 +8,13 @@ ghost use Rattle.entailment.specs.Views.{schema_of, log_of};
 ghost use Rattle.entailment.specs.GroundSentences.{IsGroundOver};
 ghost use Rattle.entailment.specs.Probes.{premise_list, IsGroundPremise};
 
+use clause_store::literal::Lit;
+use clause_store::refutation::{Line, Refutation};
 use cqe_base::schema::Schema;
 use cqe_base::sentence::{Constant, Sentence, Term, Terms, nodes};
 use cqe_base::user::{Method, User};
 use cqe_base::well_formed::is_sentence_of;
-use entailment::{GroundSentence, Probe, Verdict, View, test};
+use entailment::{Certified, GroundSentence, Probe, Verdict, View, certify, confirm, test};
 use std::alloc::{AllocError, Global};
 use std::process::Abort;
 use std::test::Fail;
@@ -363,4 +365,144 @@ fn views_learn_between_probes(rt: HostRuntime) -> Result<(), Fail> {
     let alloc = rt.alloc();
     let schema = hospital(alloc)?;
     learns(&rt, alloc, &schema)
+}
+
+/// A refutation with one line, which is empty and has this chain.
+fn one_line(alloc: Global, chain: &[u32]) -> Result<Refutation, Fail> {
+    let line = Line {
+        clause: Vec::new(alloc),
+        chain: Vec::from_slice(alloc, chain)?,
+    };
+    Ok(Refutation {
+        lines: Vec::from_array(alloc, [line])?,
+    })
+}
+
+/// Whether a refutation is confirmed for the probe with a premise.
+fn is_confirmed(
+    rt: &impl Abort,
+    alloc: Global,
+    schema: &Schema,
+    view: &mut View<'_>,
+    premise: (&GroundSentence, bool),
+    goal: (&GroundSentence, bool),
+    refutation: &Refutation,
+) -> Result<bool, Fail>
+    requires schema { schema_of view.old ≡ schema.now }
+    requires size { log_nodes (schema_of view.old) (log_of view.old) ≤ 30000 }
+    requires grounded_premise { IsGroundOver schema.now premise.0.now }
+    requires grounded_goal { IsGroundOver schema.now goal.0.now }
+    ensures schema { schema_of view.new ≡ schema_of view.old }
+    ensures log { log_of view.new ≡ log_of view.old }
+{
+    let probe = Probe {
+        premise: Some(premise),
+        goal,
+    };
+    let (sentence, _) = goal;
+    assert!(rt; fits(schema, &sentence.sentence));
+    assert!(rt; premise_fits(schema, probe.premise));
+    Ok(confirm(alloc, view, &probe, refutation)?)
+}
+
+/// The refutation of the probe with a premise, at this budget, if it follows.
+fn refutation_of(
+    rt: &impl Abort,
+    alloc: Global,
+    schema: &Schema,
+    view: &mut View<'_>,
+    premise: (&GroundSentence, bool),
+    goal: (&GroundSentence, bool),
+    budget: u64,
+) -> Result<Option<Refutation>, Fail>
+    requires schema { schema_of view.old ≡ schema.now }
+    requires size { log_nodes (schema_of view.old) (log_of view.old) ≤ 30000 }
+    requires grounded_premise { IsGroundOver schema.now premise.0.now }
+    requires grounded_goal { IsGroundOver schema.now goal.0.now }
+    ensures schema { schema_of view.new ≡ schema_of view.old }
+    ensures log { log_of view.new ≡ log_of view.old }
+{
+    let probe = Probe {
+        premise: Some(premise),
+        goal,
+    };
+    let (sentence, _) = goal;
+    assert!(rt; fits(schema, &sentence.sentence));
+    assert!(rt; premise_fits(schema, probe.premise));
+    assert!(rt; budget <= 4_000_000);
+    match certify(alloc, view, &probe, budget)? {
+        Certified::Follows(refutation) => Ok(Some(refutation)),
+        Certified::Open(_) | Certified::Spent => Ok(None),
+    }
+}
+
+/// Whether a refutation has one line, which is empty and has this chain.
+fn is_one_empty_line(refutation: &Refutation, chain: &[u32]) -> bool {
+    match refutation.lines.as_slice() {
+        [line] => line.clause.is_empty() && line.chain.as_slice() == chain,
+        _ => false,
+    }
+}
+
+/// The probe of the hospital's rule and that Ann takes the drug, against her infection: what is
+/// told and what is confirmed of it.
+fn told_and_confirmed(
+    rt: &impl Abort,
+    alloc: Global,
+    schema: &Schema,
+    view: &mut View<'_>,
+    ann: &GroundSentence,
+    bob: &GroundSentence,
+    goal: &GroundSentence,
+) -> Result<(), Fail>
+    requires schema { schema_of view.old ≡ schema.now }
+    requires size { log_nodes (schema_of view.old) (log_of view.old) ≤ 30000 }
+    requires ann { IsGroundOver schema.now ann.now }
+    requires bob { IsGroundOver schema.now bob.now }
+    requires goal { IsGroundOver schema.now goal.now }
+{
+    // The whole cost is 11, of which the one conflict has the clauses 12, 3, 11, 7 and 10.
+    let (yes, goal) = ((ann, true), (goal, true));
+    assert!(rt; refutation_of(rt, alloc, schema, view, yes, goal, 10)?.is_none());
+    let Some(told) = refutation_of(rt, alloc, schema, view, yes, goal, 11)? else {
+        panic!(rt; "it follows");
+    };
+    assert!(rt; is_one_empty_line(&told, &[12, 3, 11, 7, 10]));
+    assert!(rt; is_confirmed(rt, alloc, schema, view, yes, goal, &told)?);
+    // It is right for the clauses of this probe alone, and the view is as it was each time.
+    assert!(rt; !is_confirmed(rt, alloc, schema, view, (ann, false), goal, &told)?);
+    assert!(rt; !is_confirmed(rt, alloc, schema, view, (bob, true), goal, &told)?);
+    assert!(rt; is_confirmed(rt, alloc, schema, view, yes, goal, &told)?);
+    // Another order of the steps is right, a step that is left out isn't, nor is no line.
+    let other = one_line(alloc, &[12, 3, 7, 11, 10])?;
+    assert!(rt; is_confirmed(rt, alloc, schema, view, yes, goal, &other)?);
+    let short = one_line(alloc, &[12, 3, 7, 10])?;
+    assert!(rt; !is_confirmed(rt, alloc, schema, view, yes, goal, &short)?);
+    let none = Refutation {
+        lines: Vec::new(alloc),
+    };
+    assert!(rt; !is_confirmed(rt, alloc, schema, view, yes, goal, &none)?);
+    // The last line has to be empty.
+    let unit = Refutation {
+        lines: Vec::from_array(
+            alloc,
+            [Line {
+                clause: Vec::from_array(alloc, [Lit::positive(1)])?,
+                chain: Vec::from_slice(alloc, &[11])?,
+            }],
+        )?,
+    };
+    assert!(rt; !is_confirmed(rt, alloc, schema, view, yes, goal, &unit)?);
+    Ok(())
+}
+
+#[test]
+fn refutations_are_told_and_confirmed(rt: HostRuntime) -> Result<(), Fail> {
+    let alloc = rt.alloc();
+    let schema = hospital(alloc)?;
+    let ann = ground_of(&rt, alloc, &schema, DRUG, ANN)?;
+    let bob = ground_of(&rt, alloc, &schema, DRUG, BOB)?;
+    let goal = ground_of(&rt, alloc, &schema, HIV, ANN)?;
+    let mut view = rule_view(&rt, alloc, &schema)?;
+    told_and_confirmed(&rt, alloc, &schema, &mut view, &ann, &bob, &goal)
 }

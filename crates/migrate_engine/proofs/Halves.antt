@@ -1,17 +1,16 @@
 -- What is told of one of a user's disks, as what is told of him.
-use Rattle.std.proofs.Common.{◌≡◌, ◌≢◌, ◌∙◌, ℕ, ◌≤◌, List, [], Option, Result, Ok, Err, IfErr}
+use Rattle.std.proofs.Common.{◌≡◌, ◌∙◌, ℕ, ◌≤◌, List, Option}
 use Rattle.outside.proofs.Rises.{rose_wide}
 use Rattle.outside.specs.Faults.{Rose}
 use Rattle.outside.specs.Shelf.{bytes_on}
 use Rattle.outside.specs.declared.disk.Disk.{Ghosts as DiskGhosts}
-use Rattle.log_journal.specs.Opening.{old_header, IsRefusedOld}
+use Rattle.log_journal.specs.Opening.{old_header, IsOldJournal, IsRefusedOld}
+use Rattle.log_journal.specs.Records.{Recorded}
 use Rattle.log_journal.specs.declared.header.OpenError.{OpenError}
 use Rattle.log_journal.specs.declared.header.OpenError.TheVariants.{NotAJournal, OtherPolicy, Damaged, DiskFault, Memory, OldVersion}
 use Rattle.init_engine.proofs.Reasons.{refused_of}
-use Rattle.init_engine.proofs.Visiting.{untouched}
 use Rattle.init_engine.specs.Ends.{Change}
-use Rattle.init_engine.specs.Stops.{Stays}
-use Rattle.migrate_engine.specs.Stops.{WasOpened, HasReason, LeavesTarget, IsUnread, IsUnwritten, IsUnfilled, stop_of}
+use Rattle.migrate_engine.specs.Stops.{WasOpened, HasReason, LeavesTarget, LeavesUnfilled, IsUnread, IsUnfilled, stop_of}
 use Rattle.migrate_engine.specs.declared.end.Stop.{Stop}
 use Rattle.migrate_engine.specs.declared.end.Stop.TheVariants as stop
 
@@ -25,22 +24,7 @@ unread_of told header bytes before now DiskFault refused = (λ is. (cc), refused
 unread_of told header bytes before now OldVersion refused = (λ is. (cc), refused)
 unread_of told header bytes before now Memory refused = tt
 
--- a disk that isn't written to the end isn't filled
-pub unfilled_of : (told : Type 0) (bytes : List ℕ) (before now sb sn : ℕ) (why : Stop) → IsUnwritten before now why → IsUnfilled told bytes before now sb sn why
-unfilled_of told bytes before now sb sn (stop.Refused why) is = absurd is
-unfilled_of told bytes before now sb sn stop.NotEmpty is = absurd is
-unfilled_of told bytes before now sb sn stop.DiskFault is = is
-unfilled_of told bytes before now sb sn stop.ShelfFault is = absurd is
-unfilled_of told bytes before now sb sn stop.Memory is = tt
-
 -- ---- within a longer time, and of what stands under the name of a disk that was taken
-
-pub unwritten_wide : (before before' now now' : ℕ) → before' ≤ before → now ≤ now' → (why : Stop) → IsUnwritten before now why → IsUnwritten before' now' why
-unwritten_wide before before' now now' le le' (stop.Refused why) is = absurd is
-unwritten_wide before before' now now' le le' stop.NotEmpty is = absurd is
-unwritten_wide before before' now now' le le' stop.DiskFault is = rose_wide before' before now now' le le' is
-unwritten_wide before before' now now' le le' stop.ShelfFault is = absurd is
-unwritten_wide before before' now now' le le' stop.Memory is = tt
 
 module _ (told told' : Type 0) (header bytes bytes' : List ℕ) (before before' now now' : ℕ) (gives : told' → told) (same : told' → bytes ≡ bytes')
     (le : before' ≤ before) (le' : now ≤ now') (sb sb' sn sn' : ℕ) (rises : Rose sb sn → Rose sb' sn') where
@@ -82,25 +66,21 @@ module _ {D : Type 0} (told : Type 0) (Disk : DiskGhosts D) (header source targe
 
 -- ---- what is left of the new journal's disk
 
-module _ {D : Type 0} (Disk : DiskGhosts D) (before after : Option D) where
-  module _ (only_now : (d : D) (c : List ℕ) → Disk.image_since d (Disk.moment d) c → Disk.image d c) (same : after ≡ before) where
-    pub untouched_left : (why : Stop) → LeavesTarget Disk before after why
-    untouched_left (stop.Refused why) = same
-    untouched_left stop.NotEmpty = λ some. untouched Disk only_now before after same
-    untouched_left stop.DiskFault = λ some. untouched Disk only_now before after same
-    untouched_left stop.ShelfFault = λ some. untouched Disk only_now before after same
-    untouched_left stop.Memory = λ some. untouched Disk only_now before after same
+module _ {D : Type 0} (Disk : DiskGhosts D) (header : List ℕ) (before after : Option D) where
+  -- it wasn't touched, since the old journal wasn't read
+  pub unread_left : (told : Type 0) (source : List ℕ) (from to sb sn : ℕ) → after ≡ before → (bytes : List ℕ) (why : Stop)
+      → IsUnread told header bytes from to sb sn why → LeavesTarget Disk header source before after why
+  unread_left told source from to sb sn same bytes (stop.Refused why) is = same
+  unread_left told source from to sb sn same bytes stop.NotEmpty is = absurd is
+  unread_left told source from to sb sn same bytes stop.DiskFault is = absurd is
+  unread_left told source from to sb sn same bytes stop.ShelfFault is = same
+  unread_left told source from to sb sn same bytes stop.Memory is = same
 
-    -- it wasn't touched
-    pub left_where : {T : Type 0} (result : Result T Stop) → IfErr result (LeavesTarget Disk before after)
-    left_where (Ok done) = tt
-    left_where (Err why) = untouched_left why
-
-  -- it wasn't filled
-  pub unfilled_left : (told : Type 0) (bytes : List ℕ) (from to sb sn : ℕ) → (bytes_on Disk.reads before ≢ [] → Stays Disk before after) → (why : Stop)
-      → IsUnfilled told bytes from to sb sn why → LeavesTarget Disk before after why
-  unfilled_left told bytes from to sb sn stays (stop.Refused why) is = absurd is
-  unfilled_left told bytes from to sb sn stays stop.NotEmpty is = stays
-  unfilled_left told bytes from to sb sn stays stop.DiskFault is = stays
-  unfilled_left told bytes from to sb sn stays stop.ShelfFault is = stays
-  unfilled_left told bytes from to sb sn stays stop.Memory is = stays
+  -- it wasn't filled with the records of the old one
+  pub unfilled_left : (source : List ℕ) (all : List Recorded) → IsOldJournal header all source → (why : Stop)
+      → LeavesUnfilled Disk header all before after why → LeavesTarget Disk header source before after why
+  unfilled_left source all old (stop.Refused why) is = absurd is
+  unfilled_left source all old stop.NotEmpty is = is
+  unfilled_left source all old stop.DiskFault is = (all, old, is)
+  unfilled_left source all old stop.ShelfFault is = is
+  unfilled_left source all old stop.Memory is = is

@@ -1,4 +1,5 @@
 pub mod Apart
 pub mod Halves
+pub mod Making
 pub mod Filling
 pub mod Running

@@ -153,22 +153,32 @@ module _ {D : Type 0} (told : Type 0) (Disk : DiskGhosts D) (header from to : Li
   target_is : told → mid (journal_name to name) ≡ old (journal_name to name)
   target_is t = target_not_yet Disk header from to names once differ apart old mid new k name is (so_far t) others (stays t)
 
+  source_is : told → mid (journal_name from name) ≡ old (journal_name from name)
+  source_is t = source_not_yet Disk header from to names once differ apart old mid new k name is (so_far t) others (stays t)
+
+  abbrev Left : (List ℕ → Option D) → Stop → Type 0
+  Left old why =
+      LeavesTarget Disk header (bytes_on Disk.reads (old (journal_name from name))) (old (journal_name to name)) (new (journal_name to name)) why
+
   stops : (why : Stop) → HasReason told Disk header (journal_name from name) (journal_name to name) last why
-      → (told → LeavesTarget Disk (mid (journal_name to name)) (new (journal_name to name)) why)
+      → (told → Left mid why)
       → StopsAt told Disk header from to names whole k why
   stops why reason target = record {
     name = name;
     is = is;
     reason =
         reason_first told Disk header (journal_name from name) (journal_name to name) whole last
-        (λ t. source_not_yet Disk header from to names once differ apart old mid new k name is (so_far t) others (stays t)) target_is
+        source_is target_is
         counts (λ n. refl) later refl why reason;
-    target = λ t. subst (λ d. LeavesTarget Disk d (new (journal_name to name)) why) (target_is t) (target t);
+    target = λ t.
+        subst (λ d. LeavesTarget Disk header (bytes_on Disk.reads d) (old (journal_name to name)) (new (journal_name to name)) why) (source_is t)
+        (subst (λ d. LeavesTarget Disk header (bytes_on Disk.reads (mid (journal_name from name))) d (new (journal_name to name)) why) (target_is t)
+        (target t));
     moves = λ t. stopped Disk header from to names once differ apart old mid new k name is (so_far t) others (stays t);
   }
 
   pub ends : (why : Stop) → HasReason told Disk header (journal_name from name) (journal_name to name) last why
-      → (told → LeavesTarget Disk (mid (journal_name to name)) (new (journal_name to name)) why)
+      → (told → Left mid why)
       → EndsMigrate told Disk header from to names whole (end_of k why)
   ends (stop.Refused why) reason target = stops (stop.Refused why) reason target
   ends stop.NotEmpty reason target = stops stop.NotEmpty reason target

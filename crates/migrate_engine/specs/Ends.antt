@@ -1,5 +1,6 @@
 -- How the moving of journals ends.
 use Rattle.std.specs.Prelude.{◌≡◌, ℕ, ◌+◌, List, length, slice_get, Some}
+use Rattle.outside.specs.Shelf.{bytes_on}
 use Rattle.outside.specs.declared.disk.Disk.{Ghosts as DiskGhosts}
 use Rattle.init_engine.specs.Ends.{Change}
 use Rattle.log_journal.specs.Names.{journal_name}
@@ -20,8 +21,9 @@ module _ {D : Type 0} (told : Type 0) (Disk : DiskGhosts D) (header from to : Li
     pub is : slice_get names user ≡ Some name
     pub reason : HasReason told Disk header (journal_name from name) (journal_name to name)
         change why
-    pub target : told → LeavesTarget Disk (change.old (journal_name to name))
-        (change.new (journal_name to name)) why
+    pub target : told → LeavesTarget Disk header
+        (bytes_on Disk.reads (change.old (journal_name from name)))
+        (change.old (journal_name to name)) (change.new (journal_name to name)) why
     pub moves : told
         → Moves Disk header from to names change.old change.new user (user + 1)
 

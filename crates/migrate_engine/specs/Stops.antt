@@ -1,5 +1,5 @@
 -- Why one user's journal isn't moved.
-use Rattle.std.specs.Prelude.{◌≡◌, ◌≢◌, ℕ, List, [], Option}
+use Rattle.std.specs.Prelude.{◌≡◌, ◌≢◌, ℕ, List, [], Option, Some}
 use Rattle.outside.specs.Faults.{Rose}
 use Rattle.outside.specs.Shelf.{bytes_on}
 use Rattle.outside.specs.declared.disk.Disk.{Ghosts as DiskGhosts}
@@ -10,6 +10,7 @@ use Rattle.log_journal.specs.Opening.{IsOldJournal, IsRefusedOld}
 use Rattle.log_journal.specs.Records.{Recorded}
 use Rattle.log_journal.specs.declared.header.OpenError.{OpenError}
 use Rattle.log_journal.specs.declared.header.OpenError.TheVariants.{Memory}
+use Rattle.migrate_engine.specs.Moves.{IsHalfMade}
 use Rattle.migrate_engine.specs.declared.end.Stop.{Stop}
 use Rattle.migrate_engine.specs.declared.end.Stop.TheVariants as stop
 
@@ -45,12 +46,29 @@ module _ {D : Type 0} (told : Type 0) (Disk : DiskGhosts D) (header source targe
   HasReason stop.ShelfFault = Rose change.shelf_before change.shelf_now
   HasReason stop.Memory = Unit {0}
 
-module _ {D : Type 0} (Disk : DiskGhosts D) where
-  -- What is left of the new journal's disk at this stop: it isn't touched where the old one was
-  -- refused, and where it had bytes, it stays.
-  abbrev pub LeavesTarget : Option D → Option D → Stop → Type 0
-  LeavesTarget before after (stop.Refused why) = after ≡ before
-  LeavesTarget before after why = bytes_on Disk.reads before ≢ [] → Stays Disk before after
+module _ {D : Type 0} (Disk : DiskGhosts D) (header : List ℕ) where
+  -- What is left of the new journal's disk at this stop, where these are the old one's bytes. Only
+  -- where it failed may it have others than before: then it had none, and is half made with the
+  -- records of the old one.
+  abbrev pub LeavesTarget : List ℕ → Option D → Option D → Stop → Type 0
+  LeavesTarget source before after stop.NotEmpty = Stays Disk before after
+  LeavesTarget source before after stop.DiskFault = (all : List Recorded)
+      × IsOldJournal header all source × IsHalfMade Disk header all before after
+  LeavesTarget source before after why = after ≡ before
+
+  -- the same by the records that were to be written
+  abbrev pub LeavesUnfilled : List Recorded → Option D → Option D → Stop → Type 0
+  LeavesUnfilled all before after (stop.Refused why) = ⊥
+  LeavesUnfilled all before after stop.NotEmpty = Stays Disk before after
+  LeavesUnfilled all before after stop.DiskFault = IsHalfMade Disk header all before after
+  LeavesUnfilled all before after why = after ≡ before
+
+  -- the same of a disk that was taken
+  abbrev pub LeavesDisk : List Recorded → D → D → Stop → Type 0
+  LeavesDisk all before after stop.NotEmpty = Stays Disk (Some before) (Some after)
+  LeavesDisk all before after stop.DiskFault =
+      IsHalfMade Disk header all (Some before) (Some after)
+  LeavesDisk all before after why = ⊥
 
 -- ---- what is told of one of his disks
 
@@ -63,18 +81,14 @@ IsUnread told header bytes before now shelf_before shelf_now stop.ShelfFault =
 IsUnread told header bytes before now shelf_before shelf_now stop.Memory = Unit {0}
 IsUnread told header bytes before now shelf_before shelf_now why = ⊥
 
--- why they weren't all written to a disk that was empty
-abbrev pub IsUnwritten : ℕ → ℕ → Stop → Type 0
-IsUnwritten before now stop.DiskFault = Rose before now
-IsUnwritten before now stop.Memory = Unit {0}
-IsUnwritten before now why = ⊥
-
 -- why a disk with these bytes wasn't filled with them
 abbrev pub IsUnfilled : Type 0 → List ℕ → ℕ → ℕ → ℕ → ℕ → Stop → Type 0
+IsUnfilled told bytes before now shelf_before shelf_now (stop.Refused why) = ⊥
 IsUnfilled told bytes before now shelf_before shelf_now stop.NotEmpty = told → bytes ≢ []
+IsUnfilled told bytes before now shelf_before shelf_now stop.DiskFault = Rose before now
 IsUnfilled told bytes before now shelf_before shelf_now stop.ShelfFault =
     Rose shelf_before shelf_now
-IsUnfilled told bytes before now shelf_before shelf_now why = IsUnwritten before now why
+IsUnfilled told bytes before now shelf_before shelf_now stop.Memory = Unit {0}
 
 -- why a user is stopped at whose old journal isn't opened
 abbrev pub stop_of : OpenError → Stop

@@ -20,7 +20,8 @@ use std::alloc::Global;
 /// Moves the journal of each user with these digests from the disk `FROM/NAME.log`, where it is of
 /// version 1, to `TO/NAME.log`, which has to be empty. It stops at the first user who can't be
 /// served. Whatever comes, each disk is back on the shelf, and those in FROM are as they were; of
-/// those in TO one that was empty may be left with a journal that is half made.
+/// those in TO one that was empty may be half made where it failed, and then opens as no journal or
+/// as the whole one, unless its first write or the sync of that failed.
 pub fn run_migrate<F: Shelf>(
     alloc: Global,
     users: &[User],

@@ -1,6 +1,6 @@
 //! What is done with one user: his old journal is read, and then its records are written.
 ghost use Rattle.std.specs.Prelude.{◌≡◌, ◌≤◌, false, bytes_eq, OnOk, IfErr};
-ghost use Rattle.outside.specs.Shelf.{SameNames, NoneFell};
+ghost use Rattle.outside.specs.Shelf.{SameNames, NoneFell, bytes_on};
 ghost use Rattle.log_journal.specs.Names.{journal_name};
 ghost use Rattle.log_journal.specs.Opening.{header_bytes};
 ghost use Rattle.init_engine.specs.Stops.{Stays};
@@ -38,6 +38,8 @@ pub(crate) fn serve<F: Shelf>(
     ensures source { F.tells → Stays F.D.Disk (F.disk shelf.old (journal_name from.now name.now))
         (F.disk shelf.new (journal_name from.now name.now)) }
     ensures target { F.tells → IfErr result (LeavesTarget F.D.Disk
+        (header_bytes header.now)
+        (bytes_on F.D.reads (F.disk shelf.old (journal_name from.now name.now)))
         (F.disk shelf.old (journal_name to.now name.now))
         (F.disk shelf.new (journal_name to.now name.now))) }
     ensures disks { SameBut (journal_name from.now name.now) (journal_name to.now name.now)
@@ -74,6 +76,7 @@ fn move_journal<F: Shelf>(
     ensures source { F.tells → Stays F.D.Disk (F.disk shelf.old source.now)
         (F.disk shelf.new source.now) }
     ensures target { F.tells → IfErr result (LeavesTarget F.D.Disk
+        (header_bytes header.now) (bytes_on F.D.reads (F.disk shelf.old source.now))
         (F.disk shelf.old target.now) (F.disk shelf.new target.now)) }
     ensures disks { SameBut source.now target.now (F.disk shelf.old) (F.disk shelf.new) }
     ensures out { SameNames (F.is_out shelf.old) (F.is_out shelf.new) }

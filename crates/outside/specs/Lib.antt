@@ -13,4 +13,5 @@ pub mod Places
 pub mod MemoryDisks
 pub mod Visits
 pub mod MemoryDoors
+pub mod MemoryDials
 pub mod MemoryLinks

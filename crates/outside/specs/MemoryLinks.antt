@@ -48,3 +48,7 @@ links_listened links = places_of links.places.items
 -- their count of faults
 abbrev pub links_faults : MemoryLinks → ℕ
 links_faults links = links.faults
+
+-- the faults of the dials that were hung up
+abbrev pub links_mirror : MemoryLinks → ℕ
+links_mirror links = links.mirror

@@ -31,6 +31,10 @@ pub trait Disk {
     /// The count of faults, which doesn't fall.
     ghost faults: { Self → ℕ };
 
+    /// The marks of the records with lower numbers may be told. No call lowers it. A disk that
+    /// nothing copies lets all be told.
+    ghost told: { Self → ℕ };
+
     /// How many bytes the disk has.
     fn length(&mut self) -> Result<u64, Failed>
         ensures length { tells → IfOk result (λ n. n ≡ length (reads self.old)) }
@@ -40,6 +44,7 @@ pub trait Disk {
             (image_since self.new) }
         ensures moments { (c : List ℕ) → image_since self.new (moment self.old) c
             → image self.old c }
+        ensures told { told self.old ≤ told self.new }
         ensures cause { HasCause (faults self.old) (faults self.new) result };
 
     /// Fills the piece from that place on, less only where the disk ends. Nobody reads behind the
@@ -55,6 +60,7 @@ pub trait Disk {
             (image_since self.new) }
         ensures moments { (c : List ℕ) → image_since self.new (moment self.old) c
             → image self.old c }
+        ensures told { told self.old ≤ told self.new }
         ensures cause { HasCause (faults self.old) (faults self.new) result };
 
     /// Writes the whole piece from that place on. Until a sync, a crash may leave any bytes in the
@@ -69,6 +75,7 @@ pub trait Disk {
             (image_since self.new) }
         ensures moments { (c : List ℕ) → image_since self.new (moment self.old) c
             → image self.old c ⊎ image self.new c }
+        ensures told { told self.old ≤ told self.new }
         ensures cause { HasCause (faults self.old) (faults self.new) result };
 
     /// After it, a crash leaves what a read gives.
@@ -76,6 +83,25 @@ pub trait Disk {
         ensures durable { OnOk result (Only (reads self.old) (image self.new)) }
         ensures reads { reads self.new ≡ reads self.old }
         ensures images { (c : List ℕ) → image self.new c → image self.old c }
+        ensures time { Elapses (moment self.old) (moment self.new) (image_since self.old)
+            (image_since self.new) }
+        ensures moments { (c : List ℕ) → image_since self.new (moment self.old) c
+            → image self.old c }
+        ensures told { told self.old ≤ told self.new }
+        ensures cause { HasCause (faults self.old) (faults self.new) result };
+
+    /// Sees to it that the mark of a record may be told, which lies on the disk: its number from 0,
+    /// its kind and its text. A disk that is copied elsewhere answers once the copy has it. The
+    /// disk stays as it is.
+    fn tell(&mut self, number: u64, kind: u8, text: &[u8]) -> Result<(), Failed>
+        requires low { 1 ≤ kind }
+        requires high { kind ≤ 5 }
+        requires short { length text.now ≤ 4096 }
+        ensures may_be_told { OnOk result (number < told self.new) }
+        ensures told { told self.old ≤ told self.new }
+        ensures reads { reads self.new ≡ reads self.old }
+        ensures images { (c : List ℕ) → image self.new c → image self.old c }
+        ensures same_images { (c : List ℕ) → image self.old c → image self.new c }
         ensures time { Elapses (moment self.old) (moment self.new) (image_since self.old)
             (image_since self.new) }
         ensures moments { (c : List ℕ) → image_since self.new (moment self.old) c

@@ -1,6 +1,6 @@
 //! What lies outside of the program: sources, sinks, disks, shelves of files and disks, doors
-//! through which connections come, and links that open them, each a trait with an object in memory
-//! that meets it.
+//! through which connections come, dials that call a standby, and links that give both, each a
+//! trait with an object in memory that meets it.
 //!
 //! A call answers `Failed` only where the count of faults of its object rose, and code that is
 //! generic over a trait can't raise a count. What an object gives or holds is told over memory and
@@ -10,10 +10,12 @@
 //! then the objects in memory, which keep to a `Plan` of the calls that are to fail.
 #![tactic(auto)]
 
+mod dial;
 mod disk;
 mod fault;
 mod gate;
 mod links;
+mod memory_dial;
 mod memory_disk;
 mod memory_door;
 mod memory_links;
@@ -25,10 +27,12 @@ mod shelf;
 mod stream;
 mod write;
 
+pub use dial::Dial;
 pub use disk::Disk;
 pub use fault::Failed;
 pub use gate::{Gate, OpenGate, Point};
 pub use links::{Door, Links, LinksError};
+pub use memory_dial::MemoryDial;
 pub use memory_disk::{Call, MemoryDisk, Operation};
 pub use memory_door::{Connection, DoorBack, Finished, MemoryDoor};
 pub use memory_links::{Listened, MemoryLinks};

@@ -3,12 +3,12 @@
 ghost use Rattle.std.specs.Prelude.{◌≡◌, ◌≢◌, ◌⊎◌, ◌<◌, ◌≤◌, ◌+◌, ◌-◌, ◌++◌, ◌∷◌, [], List, ℕ};
 ghost use Rattle.std.specs.Prelude.{Option, Some, None, All, length, IfOk, OnOk, OnErr, IsErrOf};
 ghost use Rattle.std.specs.List.{sum_by};
-ghost use Rattle.outside.specs.Faults.{Rose, HasCause};
+ghost use Rattle.outside.specs.Faults.{Rose, RisesBy, HasCause};
 ghost use Rattle.outside.specs.Visits.{Visit, Place, place_of, visit_of, one_if_any, came, IfCame};
 ghost use Rattle.outside.specs.Visits.{UnlessCame, OnEnd, UnlessEnd};
 
-use crate::{Failed, Sink, Source};
-use std::alloc::Global;
+use crate::{Dial, Failed, Sink, Source};
+use std::alloc::{AllocError, Global};
 
 /// Why links don't listen.
 #[derive(Clone, Copy, Debug, PartialEq, Eq)]
@@ -98,10 +98,14 @@ pub trait Door {
     ghost tells_ends: { tells → Self.Src.tells × Self.Snk.tells };
 }
 
-/// What opens doors at an address. Several doors can be open there, so that several threads serve.
+/// What opens doors at an address, and dials to one. Several doors can be open there, so that
+/// several threads serve.
 pub trait Links {
     /// The doors that they open.
     type D: Door + Drop + Send;
+
+    /// The dials that they give.
+    type Dial: Dial + Drop + Send;
 
     /// Whether clauses are told what comes in and goes back: over memory they are, over real
     /// sockets they are not.
@@ -132,6 +136,9 @@ pub trait Links {
     /// The count of faults, which doesn't fall.
     ghost faults: { Self → ℕ };
 
+    /// The second count: the faults of the dials that were hung up. It doesn't fall.
+    ghost mirror: { Self → ℕ };
+
     /// Opens so many doors at an address and keeps the place of each.
     fn listen(
         &mut self,
@@ -160,6 +167,7 @@ pub trait Links {
         ensures given { tells → given self.new ≡ given self.old }
         ensures left { tells → left self.new ≡ left self.old }
         ensures back { tells → back self.new ≡ back self.old }
+        ensures mirror { mirror self.new ≡ mirror self.old }
         ensures later { faults self.old ≤ faults self.new }
         ensures cause { IsErrOf result LinksError.Failed
             → Rose (faults self.old) (faults self.new) };
@@ -175,9 +183,38 @@ pub trait Links {
         ensures at_hand { tells → at_hand self.new ≡ at_hand self.old + Self.D.left door }
         ensures back { tells → back self.new ≡ back self.old ++ Self.D.back door }
         ensures listened { tells → listened self.new ≡ listened self.old }
+        ensures mirror { mirror self.new ≡ mirror self.old }
         ensures later { faults self.old ≤ faults self.new }
         ensures whole { Self.D.faults door ≡ 0 → faults self.new ≡ faults self.old }
         ensures failed { Self.D.faults door ≢ 0 → Rose (faults self.old) (faults self.new) };
+
+    /// A dial to an address, which was answered nothing yet and hasn't failed. It opens no
+    /// connection.
+    fn dial(&mut self, alloc: Global, address: &str) -> Result<Self::Dial, AllocError>
+        ensures whole { IfOk result (λ dial. Self.Dial.faults dial ≡ 0) }
+        ensures unanswered { IfOk result (λ dial. Self.Dial.answered dial ≡ 0) }
+        ensures mirror { mirror self.new ≡ mirror self.old }
+        ensures out { out self.new ≡ out self.old }
+        ensures ended { ended self.new ≡ ended self.old }
+        ensures given { tells → given self.new ≡ given self.old }
+        ensures left { tells → left self.new ≡ left self.old }
+        ensures at_hand { tells → at_hand self.new ≡ at_hand self.old }
+        ensures back { tells → back self.new ≡ back self.old }
+        ensures listened { tells → listened self.new ≡ listened self.old }
+        ensures faults { faults self.new ≡ faults self.old };
+
+    /// Takes a dial back. Its faults are added to the second count. It takes no memory.
+    fn hang_up(&mut self, dial: Self::Dial)
+        ensures mirror { RisesBy (mirror self.old) (Self.Dial.faults dial) (mirror self.new) }
+        ensures later { mirror self.old ≤ mirror self.new }
+        ensures out { out self.new ≡ out self.old }
+        ensures ended { ended self.new ≡ ended self.old }
+        ensures given { tells → given self.new ≡ given self.old }
+        ensures left { tells → left self.new ≡ left self.old }
+        ensures at_hand { tells → at_hand self.new ≡ at_hand self.old }
+        ensures back { tells → back self.new ≡ back self.old }
+        ensures listened { tells → listened self.new ≡ listened self.old }
+        ensures faults { faults self.new ≡ faults self.old };
 
     /// Links that tell their connections open doors that tell theirs.
     ghost tells_doors: { tells → Self.D.tells };

@@ -6,7 +6,7 @@ ghost use Rattle.outside.specs.Visits.{place_of, one_if_any};
 ghost use Rattle.outside.specs.MemoryDoors.{door_given, door_left, door_back, door_ends};
 ghost use Rattle.outside.specs.MemoryDoors.{door_faults};
 
-use crate::{Connection, DoorBack, Finished, Links, LinksError, MemoryDoor, Plan};
+use crate::{Connection, DoorBack, Finished, Links, LinksError, MemoryDial, MemoryDoor, Plan};
 use std::alloc::{AllocError, Global};
 
 /// An address at which links listened, and how many doors they opened there.
@@ -17,7 +17,7 @@ pub struct Listened {
 }
 
 /// Links that spread connections from memory over the doors of a `listen`, and whose calls fail by
-/// a plan.
+/// a plan. The dials are in memory too.
 #[derive(Drop)]
 pub struct MemoryLinks {
     // The last of them is given first.
@@ -33,6 +33,11 @@ pub struct MemoryLinks {
     places: Vec<Listened>,
     calls: u64,
     faults: u64,
+    // The dials that were hung up, and the plans of those to come, the last of them first.
+    dials_back: Vec<MemoryDial>,
+    dial_plans: Vec<Plan>,
+    dials_out: usize,
+    mirror: u64,
     ghost group_room: { length groups.items + out ≤ vec_capacity groups },
     ghost door_room: { length doors_back.items + out ≤ vec_capacity doors_back },
 }
@@ -41,6 +46,7 @@ impl MemoryLinks {
     ghost use Rattle.outside.specs.MemoryLinks.{visits_among, links_given, links_left};
     ghost use Rattle.outside.specs.MemoryLinks.{links_at_hand, links_back, links_out, links_ended};
     ghost use Rattle.outside.specs.MemoryLinks.{links_listened, places_of, links_faults};
+    ghost use Rattle.outside.specs.MemoryLinks.{links_mirror};
 
     /// Links with these connections, the first of them first, that never fail, nor do their doors.
     pub fn new(alloc: Global, connections: Vec<Connection>) -> Self
@@ -52,6 +58,7 @@ impl MemoryLinks {
         ensures ended { links_ended result ≡ 0 }
         ensures listened { links_listened result ≡ [] }
         ensures faultless { links_faults result ≡ 0 }
+        ensures mirror { links_mirror result ≡ 0 }
     {
         Self::with_plans(alloc, connections, Plan::Never, Vec::new(alloc))
     }
@@ -73,6 +80,7 @@ impl MemoryLinks {
         ensures ended { links_ended result ≡ 0 }
         ensures listened { links_listened result ≡ [] }
         ensures faultless { links_faults result ≡ 0 }
+        ensures mirror { links_mirror result ≡ 0 }
     {
         let mut waiting = connections;
         waiting.reverse();
@@ -90,7 +98,40 @@ impl MemoryLinks {
             places: Vec::new(alloc),
             calls: 0,
             faults: 0,
+            dials_back: Vec::new(alloc),
+            dial_plans: Vec::new(alloc),
+            dials_out: 0,
+            mirror: 0,
         }
+    }
+
+    /// Has each dial to come follow the next of these plans. Where there is none it never fails.
+    pub fn plan_dials(&mut self, plans: Vec<Plan>)
+        ensures left { links_left self.new ≡ links_left self.old }
+        ensures at_hand { links_at_hand self.new ≡ links_at_hand self.old }
+        ensures given { links_given self.new ≡ links_given self.old }
+        ensures back { links_back self.new ≡ links_back self.old }
+        ensures out { links_out self.new ≡ links_out self.old }
+        ensures ended { links_ended self.new ≡ links_ended self.old }
+        ensures listened { links_listened self.new ≡ links_listened self.old }
+        ensures faults { links_faults self.new ≡ links_faults self.old }
+        ensures mirror { links_mirror self.new ≡ links_mirror self.old }
+    {
+        let mut plans = plans;
+        plans.reverse();
+        self.dial_plans = plans;
+    }
+
+    /// The dials that were hung up, in that order.
+    pub fn dials_back(&self) -> &[MemoryDial] {
+        &self.dials_back
+    }
+
+    /// The second count: the faults of the dials that were hung up.
+    pub fn mirror(&self) -> u64
+        ensures { result ≡ links_mirror self.now }
+    {
+        self.mirror
     }
 
     /// The doors that are back, in the order in which they came back.
@@ -150,6 +191,7 @@ impl MemoryLinks {
             ≡ links_listened self.old ++ place_of address.now doors ∷ []) }
         ensures unheard { OnErr result (links_listened self.new ≡ links_listened self.old) }
         ensures faults { links_faults self.new ≡ links_faults self.old }
+        ensures mirror { links_mirror self.new ≡ links_mirror self.old }
     {
         let count = doors as usize;
         let mut place = String::new(alloc);
@@ -176,9 +218,11 @@ impl MemoryLinks {
 impl Links for MemoryLinks {
     ghost use Rattle.outside.specs.MemoryLinks.{links_given, links_left, links_at_hand, links_back};
     ghost use Rattle.outside.specs.MemoryLinks.{links_out, links_ended, links_listened};
-    ghost use Rattle.outside.specs.MemoryLinks.{links_faults};
+    ghost use Rattle.outside.specs.MemoryLinks.{links_faults, links_mirror};
 
     type D = MemoryDoor;
+
+    type Dial = MemoryDial;
 
     ghost tells = { Unit {0} };
 
@@ -197,6 +241,8 @@ impl Links for MemoryLinks {
     ghost listened = { links_listened };
 
     ghost faults = { links_faults };
+
+    ghost mirror = { links_mirror };
 
     ghost tells_doors = { λ told. told };
 
@@ -227,6 +273,23 @@ impl Links for MemoryLinks {
         self.out -= 1;
         self.groups.push_reserved(waiting);
         self.doors_back.push_reserved(back);
+    }
+
+    fn dial(&mut self, alloc: Global, _address: &str) -> Result<MemoryDial, AllocError> {
+        let Some(out) = self.dials_out.checked_add(1) else {
+            return Err(AllocError);
+        };
+        self.dials_back.reserve(out)?;
+        self.dials_out = out;
+        let plan = self.dial_plans.pop().unwrap_or(Plan::Never);
+        Ok(MemoryDial::new(alloc, plan))
+    }
+
+    fn hang_up(&mut self, dial: MemoryDial) {
+        self.mirror = self.mirror.saturating_add(dial.faults());
+        self.dials_out = self.dials_out.saturating_sub(1);
+        // `dial` has taken the room for it.
+        let _kept = self.dials_back.push(dial);
     }
 }
 

@@ -162,6 +162,8 @@ impl Shelf for MemoryShelf {
 
     ghost looked = { files_looked_at };
 
+    ghost lent = { λ shelf. [] };
+
     ghost tells_disks = { λ told. told };
 
     fn read_file(&mut self, alloc: Global, name: &str) -> Result<Vec<u8>, ShelfError> {

@@ -38,8 +38,8 @@ pub trait Shelf {
     /// The disk of this name was taken and isn't back.
     ghost is_out: { Self → List ℕ → Bool };
 
-    /// The count of faults of the disk of a name, as it was when the shelf last had it. It doesn't
-    /// fall.
+    /// The count of faults of the disk of a name, as it was when the shelf last had it: where a
+    /// disk is given back that was taken, it doesn't fall.
     ghost disk_faults: { Self → List ℕ → ℕ };
 
     /// The count of faults, which doesn't fall.
@@ -47,6 +47,10 @@ pub trait Shelf {
 
     /// The names of the files that were looked at, in order, where clauses are told.
     ghost looked: { Self → List (List ℕ) };
+
+    /// The names of the references by which it reaches what was lent to it, where it holds such.
+    /// They stay the same, so that who lent knows what it has back.
+    ghost lent: { Self → List ℕ };
 
     /// Reads the file of this name whole.
     fn read_file(&mut self, alloc: Global, name: &str) -> Result<Vec<u8>, ShelfError>
@@ -60,6 +64,7 @@ pub trait Shelf {
         ensures disks { SameNames (disk self.old) (disk self.new) }
         ensures out { SameNames (is_out self.old) (is_out self.new) }
         ensures disk_faults { SameNames (disk_faults self.old) (disk_faults self.new) }
+        ensures lent { lent self.new ≡ lent self.old }
         ensures later { faults self.old ≤ faults self.new }
         ensures cause { IsErrOf result ShelfError.Failed
             → Rose (faults self.old) (faults self.new) };
@@ -78,6 +83,7 @@ pub trait Shelf {
         ensures disk_faults { SameNames (disk_faults self.old) (disk_faults self.new) }
         ensures files { (name : List ℕ) → file self.new name ≡ file self.old name }
         ensures looked { looked self.new ≡ looked self.old }
+        ensures lent { lent self.new ≡ lent self.old }
 
         // A refusal leaves every disk where it was.
         ensures refused_disks { OnErr result (SameNames (disk self.old) (disk self.new)) }
@@ -89,8 +95,7 @@ pub trait Shelf {
 
     /// Puts a disk that was taken back to its place. It takes no memory.
     fn give_disk(&mut self, name: &str, taken: Self::D)
-        requires out { is_out self.old name.now ≡ true }
-        requires later { disk_faults self.old name.now ≤ Self.D.faults taken }
+        requires { is_out self.old name.now ≡ true }
         ensures held { tells → disk self.new name.now ≡ Some taken }
         ensures disks { SameOthers name.now (disk self.old) (disk self.new) }
         ensures back { is_out self.new name.now ≡ false }
@@ -99,6 +104,7 @@ pub trait Shelf {
         ensures other_counts { SameOthers name.now (disk_faults self.old) (disk_faults self.new) }
         ensures files { (name : List ℕ) → file self.new name ≡ file self.old name }
         ensures looked { looked self.new ≡ looked self.old }
+        ensures lent { lent self.new ≡ lent self.old }
         ensures faults { faults self.new ≡ faults self.old };
 
     /// A shelf that tells its disks gives disks that tell their bytes.

@@ -7,6 +7,7 @@ use Rattle.real_edge.specs.declared.disks.FileDisk.{FileDisk}
 use Rattle.real_edge.specs.declared.files.FileShelf.{FileShelf}
 use Rattle.real_edge.specs.declared.sockets.TcpDoor.{TcpDoor}
 use Rattle.real_edge.specs.declared.sockets.TcpLinks.{TcpLinks}
+use Rattle.real_edge.specs.declared.dials.TcpDial.{TcpDial}
 use Rattle.real_edge.specs.Kept.{out_kept, faults_kept}
 
 -- how often a reader failed
@@ -48,3 +49,15 @@ links_faults links = links.faults
 -- how many doors aren't back
 abbrev pub links_out : {R : Type 0} → TcpLinks R → ℕ
 links_out links = links.out
+
+-- the faults of the dials that were hung up
+abbrev pub links_mirror : {R : Type 0} → TcpLinks R → ℕ
+links_mirror links = links.mirror
+
+-- the number that a dial was last answered
+abbrev pub dial_answered : {R : Type 0} → TcpDial R → ℕ
+dial_answered dial = dial.answered
+
+-- how often a dial failed
+abbrev pub dial_faults : {R : Type 0} → TcpDial R → ℕ
+dial_faults dial = dial.faults

@@ -1,24 +1,27 @@
 //! The end of a connection that its client's bytes come from.
 ghost use Rattle.std.specs.Prelude.{◌≡◌};
 
-use crate::waits::LATER_BYTES;
 use std::io::{self, Read};
 use std::net::OpenStream;
 use std::time::Duration;
 
-/// A connection as a reader. Once its client has sent his first bytes, he may take longer for the
-/// later ones.
+/// A connection as a reader. Once its client has sent his first bytes, another time is waited for
+/// the later ones.
 #[derive(Drop)]
 pub struct ClientReader<S> {
     stream: S,
+    later_bytes: u64,
     was_heard: bool,
 }
 
 impl<S> ClientReader<S> {
-    /// A reader of which the client wasn't heard.
-    pub(crate) fn new(stream: S) -> Self {
-        let was_heard = false;
-        ClientReader { stream, was_heard }
+    /// A reader of which the client wasn't heard. He may take so many seconds between later bytes.
+    pub(crate) fn new(stream: S, later_bytes: u64) -> Self {
+        ClientReader {
+            stream,
+            later_bytes,
+            was_heard: false,
+        }
     }
 
     /// The connection.
@@ -33,7 +36,7 @@ impl<S: Read + OpenStream> Read for ClientReader<S> {
     fn read(&mut self, into: &mut [u8]) -> io::Result<usize> {
         let count = self.stream.read(into)?;
         if !self.was_heard {
-            let wait = Duration::from_secs(LATER_BYTES);
+            let wait = Duration::from_secs(self.later_bytes);
             self.stream.set_read_timeout(Some(wait))?;
             self.was_heard = true;
         }

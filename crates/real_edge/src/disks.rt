@@ -1,5 +1,5 @@
 //! A file of the system as a disk. Clauses aren't told what it holds.
-ghost use Rattle.std.specs.Prelude.{◌≡◌, ◌≤◌, [], length, true, false, IfOk, OnOk, Ok};
+ghost use Rattle.std.specs.Prelude.{◌≡◌, ◌≤◌, ◌^◌, [], length, true, false, IfOk, OnOk, Ok};
 ghost use Rattle.std.specs.Fs.{metadata_len, file_type, IsFile};
 ghost use Rattle.outside.specs.Faults.{HasCause};
 
@@ -74,6 +74,8 @@ impl<F: Read + Write + Seek + OpenFile> Disk for FileDisk<F> {
 
     ghost faults = { disk_faults };
 
+    ghost told = { λ disk. 2 ^ 64 };
+
     ghost read_is_image = { λ disk told. told };
 
     ghost counts_now = { λ disk t c le now. now };
@@ -107,6 +109,10 @@ impl<F: Read + Write + Seek + OpenFile> Disk for FileDisk<F> {
         ensures cause { HasCause (disk_faults self.old) (disk_faults self.new) result }
     {
         counted(sync_unfailed(&self.file, self.faults), &mut self.faults)
+    }
+
+    fn tell(&mut self, _number: u64, _kind: u8, _text: &[u8]) -> Result<(), Failed> {
+        Ok(())
     }
 }
 

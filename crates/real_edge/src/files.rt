@@ -105,6 +105,8 @@ where
 
     ghost looked = { λ shelf. [] };
 
+    ghost lent = { λ shelf. [] };
+
     ghost tells_disks = { λ told. told };
 
     fn read_file(&mut self, alloc: Global, name: &str) -> Result<Vec<u8>, ShelfError> {

@@ -1,15 +1,17 @@
 //! The real outside: the standard streams as a source and as sinks, the files of the system as a
 //! shelf, an open file as a disk, whose sync is the system's, and TCP sockets as links, doors,
-//! sources and sinks.
+//! dials, sources and sinks.
 //!
 //! Each object counts its faults, and fails only where its count rises. Nothing is told to clauses
 //! of what a real stream, file or socket holds, since nobody knows what it will give and what
 //! becomes of what it takes: that the bytes are the system's is tested and not proved.
 //!
-//! Read `streams`, then `disks`, `locks` and `files`, then `waits`, `clients` and `sockets`.
+//! Read `streams`, then `disks`, `locks` and `files`, then `waits`, `clients`,
+//! `sockets` and `dials`.
 #![tactic(auto)]
 
 mod clients;
+mod dials;
 mod disks;
 #[cfg(test)]
 mod file_tests;
@@ -24,6 +26,7 @@ mod tests;
 mod waits;
 
 pub use clients::ClientReader;
+pub use dials::TcpDial;
 pub use disks::FileDisk;
 pub use files::FileShelf;
 pub use locks::Lockable;

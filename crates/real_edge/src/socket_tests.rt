@@ -1,5 +1,5 @@
 use crate::{TcpDoor, TcpLinks};
-use outside::{Door, Failed, Links, LinksError, Sink, Source, write_all};
+use outside::{Dial, Door, Failed, Links, LinksError, Sink, Source, write_all};
 use std::alloc::Global;
 use std::cell::Cell;
 use std::io::{self, Read, Write};
@@ -152,7 +152,7 @@ fn a_door_gives_up_behind_a_minute(rt: HostRuntime) -> Result<(), Fail> {
     let lost = Cell::new(u64::MAX);
     let listener = TcpListener::bind(&rt, "127.0.0.1:0")?;
     let clock = Sleepless::new();
-    let mut door = TcpDoor::new(&clock, Losing { lost, listener });
+    let mut door = TcpDoor::new(&clock, Losing { lost, listener }, 600);
     assert!(rt; matches!(door.next(), Err(Failed)));
 
     // 1, 2, 4 and so on up to 512, and then 59 times a second.
@@ -168,7 +168,7 @@ fn a_client_who_is_lost_costs_a_pause_alone(rt: HostRuntime) -> Result<(), Fail>
     let listener = TcpListener::bind(&rt, "127.0.0.1:0")?;
     let address = listener.local_addr()?;
     let clock = Sleepless::new();
-    let mut door = TcpDoor::new(&clock, Losing { lost, listener });
+    let mut door = TcpDoor::new(&clock, Losing { lost, listener }, 600);
     let _client = client(&rt, address, b"quit\n")?;
     let Some((source, sink)) = door.next()? else {
         return Ok(());
@@ -183,22 +183,58 @@ fn a_client_who_is_lost_costs_a_pause_alone(rt: HostRuntime) -> Result<(), Fail>
     Ok(())
 }
 
+// How long a connection of these links waits for a client who takes nothing, for his first bytes
+// and for later ones.
+fn waits_of(
+    rt: &HostRuntime,
+    links: TcpLinks<'_, HostRuntime>,
+) -> Result<[Option<Duration>; 3], Fail> {
+    let mut links = links;
+    let mut doors = links.listen(rt.alloc(), "127.0.0.1:0", 1)?;
+    let Some(door) = doors.pop() else {
+        return Ok([None, None, None]);
+    };
+    let mut door = door;
+    let _client = client(rt, door.address()?, b"a")?;
+    let Some((source, sink)) = door.next()? else {
+        return Ok([None, None, None]);
+    };
+    let output = sink.into_output();
+    let (stuck, first) = (output.write_timeout()?, output.read_timeout()?);
+    let mut reader = source.into_input();
+    let _count = reader.read(&mut [0; 4])?;
+    let later = output.read_timeout()?;
+    links.take_back(door);
+    Ok([stuck, first, later])
+}
+
 #[test]
 fn a_connection_waits_longer_once_its_client_was_heard(rt: HostRuntime) -> Result<(), Fail> {
+    let waits = [60, 30, 600].map(|seconds| Some(Duration::from_secs(seconds)));
+    assert_eq!(rt; waits_of(&rt, TcpLinks::new(&rt))?, waits);
+    Ok(())
+}
+
+#[test]
+fn a_standby_waits_no_longer_once_its_client_was_heard(rt: HostRuntime) -> Result<(), Fail> {
+    let waits = [60, 30, 30].map(|seconds| Some(Duration::from_secs(seconds)));
+    assert_eq!(rt; waits_of(&rt, TcpLinks::for_standby(&rt))?, waits);
+    Ok(())
+}
+
+#[test]
+fn a_standby_that_is_not_reached_is_a_fault(rt: HostRuntime) -> Result<(), Fail> {
     let alloc = rt.alloc();
     let mut links = TcpLinks::new(&rt);
     let mut doors = links.listen(alloc, "127.0.0.1:0", 1)?;
-    let mut door = doors.pop().expect(&rt, "a door");
-    let _client = client(&rt, door.address()?, b"a")?;
-    let Some((source, sink)) = door.next()? else {
-        return Ok(());
-    };
-    let output = sink.into_output();
-    assert_eq!(rt; output.write_timeout()?, Some(Duration::from_secs(60)));
-    assert_eq!(rt; output.read_timeout()?, Some(Duration::from_secs(30)));
-    let mut reader = source.into_input();
-    assert_eq!(rt; reader.read(&mut [0; 4])?, 1);
-    assert_eq!(rt; output.read_timeout()?, Some(Duration::from_secs(600)));
+    let door = doors.pop().expect(&rt, "a door");
+    let address = format!(in alloc; "{}", door.address()?)?;
     links.take_back(door);
+    let mut dial = links.dial(alloc, &address)?;
+    assert_eq!(rt; dial.exchange(b"frame", 0), Err(Failed));
+    assert_eq!(rt; dial.faults(), 1);
+    links.hang_up(dial);
+    assert_eq!(rt; links.mirror(), 1);
+    assert_eq!(rt; links.faults(), 0);
     Ok(())
 }

@@ -6,10 +6,10 @@ ghost use Rattle.real_edge.specs.Counts.{door_faults};
 
 use crate::clients::ClientReader;
 use crate::waits::{
-    FIRST_BYTES, FIRST_PAUSE, LAST_PIECES, LAST_WAIT, LONGEST_PAUSE, PIECE, STUCK_WRITE,
-    TRIES_AGAIN,
+    FIRST_BYTES, FIRST_PAUSE, FRAME_BYTES, LAST_PIECES, LAST_WAIT, LATER_BYTES, LONGEST_PAUSE,
+    PIECE, STUCK_WRITE, TRIES_AGAIN,
 };
-use crate::{StreamSink, StreamSource};
+use crate::{StreamSink, StreamSource, TcpDial};
 use outside::{Door, Failed, Links, LinksError};
 use std::alloc::{AllocError, Global};
 use std::io::{self, Read, Write};
@@ -30,19 +30,22 @@ use std::time::{Clock, Duration};
 pub struct TcpDoor<'r, C, L> {
     clock: &'r C,
     listener: L,
+    later_bytes: u64,
     faults: u64,
 }
 
 impl<'r, C, L: OpenListener> TcpDoor<'r, C, L> {
     ghost use Rattle.real_edge.specs.Counts.{door_faults};
 
-    /// A door at this socket, which hasn't failed, with a clock for its pauses.
-    pub fn new(clock: &'r C, listener: L) -> Self
+    /// A door at this socket, which hasn't failed, with a clock for its pauses. Its clients may
+    /// take so many seconds between later bytes.
+    pub fn new(clock: &'r C, listener: L, later_bytes: u64) -> Self
         ensures { door_faults result ≡ 0 }
     {
         TcpDoor {
             clock,
             listener,
+            later_bytes,
             faults: 0,
         }
     }
@@ -89,8 +92,8 @@ where
     fn next(&mut self) -> Result<Option<(Self::Src, Self::Snk)>, Failed> {
         match take_in(self.clock, &self.listener, &mut self.faults) {
             Some((input, output)) => {
-                let source = StreamSource::new(ClientReader::new(input));
-                Ok(Some((source, StreamSink::new(output))))
+                let reader = ClientReader::new(input, self.later_bytes);
+                Ok(Some((StreamSource::new(reader), StreamSink::new(output))))
             }
             None => Err(Failed),
         }
@@ -161,27 +164,57 @@ where
 }
 
 /// What opens sockets that a runtime reaches, each by its address, as `127.0.0.1:7007`. The doors
-/// of one `listen` share one socket. A `listen` that fails is counted and isn't tried again.
+/// of one `listen` share one socket. A `listen` that fails is counted and isn't tried again. Its
+/// dials call a standby over connections of their own.
 #[derive(Drop)]
 pub struct TcpLinks<'r, R> {
     runtime: &'r R,
+    later_bytes: u64,
     out: u64,
     faults: u64,
+    // The faults of the dials that were hung up.
+    mirror: u64,
 }
 
 impl<'r, R> TcpLinks<'r, R> {
-    ghost use Rattle.real_edge.specs.Counts.{links_faults, links_out};
+    ghost use Rattle.real_edge.specs.Counts.{links_faults, links_out, links_mirror};
 
     /// Links that haven't failed and have opened no door.
     pub fn new(runtime: &'r R) -> Self
         ensures faultless { links_faults result ≡ 0 }
         ensures none_out { links_out result ≡ 0 }
+        ensures mirror { links_mirror result ≡ 0 }
     {
         TcpLinks {
             runtime,
+            later_bytes: LATER_BYTES,
             out: 0,
             faults: 0,
+            mirror: 0,
         }
+    }
+
+    /// Links of a standby, whose clients may take less time between later bytes. They haven't
+    /// failed and have opened no door.
+    pub fn for_standby(runtime: &'r R) -> Self
+        ensures faultless { links_faults result ≡ 0 }
+        ensures none_out { links_out result ≡ 0 }
+        ensures mirror { links_mirror result ≡ 0 }
+    {
+        TcpLinks {
+            runtime,
+            later_bytes: FRAME_BYTES,
+            out: 0,
+            faults: 0,
+            mirror: 0,
+        }
+    }
+
+    /// The faults of the dials that were hung up.
+    pub fn mirror(&self) -> u64
+        ensures { result ≡ links_mirror self.now }
+    {
+        self.mirror
     }
 
     /// How often it failed.
@@ -197,9 +230,11 @@ where
     R::Listener: Send,
     R::Stream: Send,
 {
-    ghost use Rattle.real_edge.specs.Counts.{links_faults, links_out};
+    ghost use Rattle.real_edge.specs.Counts.{links_faults, links_out, links_mirror};
 
     type D = TcpDoor<'r, R, R::Listener>;
+
+    type Dial = TcpDial<'r, R>;
 
     ghost tells = { ⊥ };
 
@@ -219,6 +254,8 @@ where
 
     ghost faults = { links_faults };
 
+    ghost mirror = { links_mirror };
+
     ghost tells_doors = { λ told. told };
 
     fn listen(
@@ -233,7 +270,7 @@ where
         let Ok(opened) = Vec::with_capacity(alloc, doors as usize) else {
             return Err(LinksError::Memory);
         };
-        match open_doors(self.runtime, address, doors, opened) {
+        match open_doors(self.runtime, self.later_bytes, address, doors, opened) {
             Ok(opened) => {
                 self.out = out;
                 Ok(opened)
@@ -251,11 +288,22 @@ where
         }
         self.out -= 1;
     }
+
+    fn dial(&mut self, alloc: Global, address: &str) -> Result<TcpDial<'r, R>, AllocError> {
+        let address = String::from_str(alloc, address)?;
+        Ok(TcpDial::new(self.runtime, address))
+    }
+
+    fn hang_up(&mut self, dial: TcpDial<'r, R>) {
+        self.mirror = self.mirror.saturating_add(dial.faults());
+    }
 }
 
-// So many doors at one socket of this address.
+// So many doors at one socket of this address, whose clients may take so many seconds between later
+// bytes.
 fn open_doors<'r, R: Net>(
     runtime: &'r R,
+    later_bytes: u64,
     address: &str,
     doors: u32,
     room: Vec<TcpDoor<'r, R, R::Listener>>,
@@ -268,7 +316,7 @@ fn open_doors<'r, R: Net>(
     let listener = TcpListener::bind(runtime, address)?;
     let mut opened = room;
     for _ in 0..doors {
-        opened.push_reserved(TcpDoor::new(runtime, listener.try_clone()?));
+        opened.push_reserved(TcpDoor::new(runtime, listener.try_clone()?, later_bytes));
     }
     Ok(opened)
 }

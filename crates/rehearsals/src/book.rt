@@ -17,6 +17,8 @@ enum Block {
     Client,
     /// To the last disk that has to be there afterwards.
     Kept,
+    /// To what a standby has to be given.
+    Frames,
 }
 
 /// What was read so far.
@@ -71,7 +73,8 @@ impl Book {
             "client" => self.client(),
             "kept" => self.keep(rest),
             "gone" => self.miss(rest),
-            "status" | "left" | "unread" => Ok(self.number(head, rest)),
+            "frames" => Ok(self.frames()),
+            "status" | "left" | "unread" | "unreached" => Ok(self.number(head, rest)),
             _ => self.piece(head, rest),
         }
     }
@@ -139,6 +142,8 @@ impl Book {
             complaint: Vec::new(alloc),
             status: 0,
             unread: false,
+            unreached: false,
+            frames: Vec::new(alloc),
             left: 0,
             kept: Vec::new(alloc),
             gone: Vec::new(alloc),
@@ -182,12 +187,21 @@ impl Book {
         Ok(Some(()))
     }
 
-    /// The status of the last call, how many clients are left, or that its input isn't read.
+    /// Begins what a standby has to be given in the last call.
+    fn frames(&mut self) -> Option<()> {
+        last_call(&mut self.scenes)?;
+        self.block = Block::Frames;
+        Some(())
+    }
+
+    /// The status of the last call, how many clients are left, that its input isn't read, or that
+    /// no standby is reached.
     fn number(&mut self, head: &str, rest: &str) -> Option<()> {
         let call = last_call(&mut self.scenes)?;
         match head {
             "status" => call.status = rest.parse::<u8>().ok()?,
             "left" => call.left = rest.parse::<usize>().ok()?,
+            "unreached" => call.unreached = true,
             _ => call.unread = true,
         }
         Some(())
@@ -217,6 +231,7 @@ impl Book {
             (Kind::Bytes, Block::Kept) => {
                 Some(&mut last_call(&mut self.scenes)?.kept.last_mut()?.bytes)
             }
+            (Kind::Bytes, Block::Frames) => Some(&mut last_call(&mut self.scenes)?.frames),
             (Kind::Input, Block::Client) => {
                 Some(&mut last_call(&mut self.scenes)?.clients.last_mut()?.sends)
             }

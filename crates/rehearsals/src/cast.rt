@@ -96,6 +96,7 @@ fn dimacs(alloc: Global, call: &Call, cut: usize) -> Result<Outcome, AllocError>
         complaint: complaints.bytes().to_vec(alloc)?,
         unread: false,
         served: Vec::new(alloc),
+        frames: Vec::new(alloc),
         left: 0,
     })
 }
@@ -116,6 +117,7 @@ fn by_lines(alloc: Global, reader: &Reader, call: &Call) -> Result<Outcome, Allo
         complaint: Vec::new(alloc),
         unread: false,
         served: Vec::new(alloc),
+        frames: Vec::new(alloc),
         left: 0,
     })
 }

@@ -17,7 +17,8 @@ pub fn words_text(alloc: Global, line: &str) -> Result<String, AllocError> {
         Some(Command::Init(files)) => files_text(alloc, "init", &files),
         Some(Command::Batch(batch)) => {
             let front = files_text(alloc, "batch", &batch.files)?;
-            format!(in alloc; "{front} {}", batch.workers)
+            let behind = standby_text(alloc, batch.standby)?;
+            format!(in alloc; "{front} {}{behind}", batch.workers)
         }
         Some(Command::Audit(audit)) => {
             let front = files_text(alloc, "audit", &audit.files)?;
@@ -30,11 +31,26 @@ pub fn words_text(alloc: Global, line: &str) -> Result<String, AllocError> {
         Some(Command::Serve(serve)) => {
             let front = files_text(alloc, "serve", &serve.files)?;
             let (workers, sessions) = (serve.workers, serve.sessions);
-            format!(in alloc; "{front} <{}> {workers} {sessions}", serve.listen)
+            let behind = standby_text(alloc, serve.standby)?;
+            format!(in alloc; "{front} <{}> {workers} {sessions}{behind}", serve.listen)
         }
         Some(Command::Migrate(migrate)) => {
             let front = files_text(alloc, "migrate", &migrate.files)?;
             format!(in alloc; "{front} <{}>", migrate.to)
+        }
+        Some(Command::Dossier(dossier)) => {
+            let front = files_text(alloc, "dossier", &dossier.files)?;
+            format!(in alloc; "{front} <{}>", dossier.user)
+        }
+        Some(Command::Check(check)) => {
+            format!(in alloc;
+                "check <{}> <{}> <{}>",
+                check.policy, check.facts, check.user
+            )
+        }
+        Some(Command::Standby(standby)) => {
+            let front = files_text(alloc, "standby", &standby.files)?;
+            format!(in alloc; "{front} <{}> {}", standby.listen, standby.sessions)
         }
         None => String::from_str(alloc, "none"),
     }
@@ -44,6 +60,14 @@ pub fn words_text(alloc: Global, line: &str) -> Result<String, AllocError> {
 fn files_text(alloc: Global, command: &str, files: &Files<'_>) -> Result<String, AllocError> {
     let (policy, facts, journals) = (files.policy, files.facts, files.journals);
     format!(in alloc; "{command} <{policy}> <{facts}> <{journals}>")
+}
+
+/// A standby's address behind a blank, or nothing.
+fn standby_text(alloc: Global, standby: Option<&str>) -> Result<String, AllocError> {
+    match standby {
+        Some(address) => format!(in alloc; " <{address}>"),
+        None => Ok(String::new(alloc)),
+    }
 }
 
 /// The request of a line.

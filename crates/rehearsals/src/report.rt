@@ -31,6 +31,9 @@ pub fn difference(
     if let Some(what) = unserved(alloc, &call.clients, &outcome.served, outcome.left)? {
         return Ok(Some(what));
     }
+    if call.frames.as_slice() != outcome.frames.as_slice() {
+        return said(alloc, "frames", &outcome.frames);
+    }
     on_disks(alloc, stage, &call.kept, &call.gone)
 }
 

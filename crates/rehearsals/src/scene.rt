@@ -26,6 +26,10 @@ pub struct Call {
     pub status: u8,
     /// Whether nothing may be read of the input.
     pub unread: bool,
+    /// Whether no standby is reached.
+    pub unreached: bool,
+    /// The frames that a standby has to be given, one behind the other.
+    pub frames: Vec<u8>,
     /// How many clients are left in the end.
     pub left: usize,
     /// The disks that are there afterwards, with their bytes.

@@ -22,6 +22,8 @@ pub struct Outcome {
     pub unread: bool,
     /// The clients that were served.
     pub served: Vec<Client>,
+    /// The frames that a standby was given, one behind the other.
+    pub frames: Vec<u8>,
     /// How many clients are left.
     pub left: usize,
 }
@@ -75,6 +77,9 @@ impl Stage {
         let mut sink = MemorySink::with_plan(alloc, Pieces::UpTo(cut), Plan::Never);
         let mut complaints = MemorySink::new(alloc);
         let mut links = MemoryLinks::new(alloc, connections(alloc, &call.clients, cut)?);
+        if call.unreached {
+            links.plan_dials(broken_dials(alloc)?);
+        }
         let status = top(
             rt,
             alloc,
@@ -92,6 +97,7 @@ impl Stage {
             complaint: complaints.bytes().to_vec(alloc)?,
             unread: source.left().len() == source.held().len(),
             served: served(alloc, &links)?,
+            frames: frames(alloc, &links)?,
             left: links.left(),
         })
     }
@@ -111,6 +117,24 @@ fn connections(
         connections.push(Connection::new(source, sink))?;
     }
     Ok(connections)
+}
+
+/// Plans of dials that fail at each exchange, more than a scene has users.
+fn broken_dials(alloc: Global) -> Result<Vec<Plan>, AllocError> {
+    let mut plans = Vec::new(alloc);
+    for _ in 0..16u32 {
+        plans.push(Plan::From(0))?;
+    }
+    Ok(plans)
+}
+
+/// The frames that dials were answered, dial by dial as they were hung up.
+fn frames(alloc: Global, links: &MemoryLinks) -> Result<Vec<u8>, AllocError> {
+    let mut frames = Vec::new(alloc);
+    for dial in links.dials_back() {
+        frames.extend_from_slice(dial.frames())?;
+    }
+    Ok(frames)
 }
 
 /// What the clients that were served sent and got.

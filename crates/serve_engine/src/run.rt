@@ -128,11 +128,13 @@ where
     ensures inside { NoneOut (F.is_out shelf.new) }
     ensures files { SameNames (F.file shelf.old) (F.file shelf.new) }
     ensures looked { F.looked shelf.new ≡ F.looked shelf.old }
+    ensures lent { F.lent shelf.new ≡ F.lent shelf.old }
     ensures counts { NoneFell (F.disk_faults shelf.old) (F.disk_faults shelf.new) }
     ensures other_counts { SameBeside
         (registered_journals registry.now.directory.now registry.now.users.now)
         (F.disk_faults shelf.old) (F.disk_faults shelf.new) }
     ensures out { L.out links.new ≡ L.out links.old }
+    ensures mirror { L.mirror links.new ≡ L.mirror links.old }
     ensures shelf_later { F.faults shelf.old ≤ F.faults shelf.new }
     ensures links_later { L.faults links.old ≤ L.faults links.new }
     ensures shelf_cause { result ≡ ServeEnd.ShelfFault
@@ -195,6 +197,7 @@ where
     ensures inside { NoneOut (F.is_out shelf.new) }
     ensures files { SameNames (F.file shelf.old) (F.file shelf.new) }
     ensures looked { F.looked shelf.new ≡ F.looked shelf.old }
+    ensures lent { F.lent shelf.new ≡ F.lent shelf.old }
     ensures counts { NoneFell (F.disk_faults shelf.old) (F.disk_faults shelf.new) }
     ensures other_counts { SameBeside
         (registered_journals registry.now.directory.now registry.now.users.now)
@@ -250,6 +253,7 @@ fn take_back_all<L: Links>(links: &mut L, doors: Vec<L::D>)
         → L.at_hand links.new ≡ L.at_hand links.old + sum_by L.D.left doors.items }
     ensures back { L.tells → L.back links.new ≡ L.back links.old ++ flat_map L.D.back doors.items }
     ensures listened { L.tells → L.listened links.new ≡ L.listened links.old }
+    ensures mirror { L.mirror links.new ≡ L.mirror links.old }
     ensures later { L.faults links.old ≤ L.faults links.new }
     ensures failed { SomeFailed L.D.faults doors.items
         → Rose (L.faults links.old) (L.faults links.new) }

@@ -13,6 +13,7 @@ use std::thread::Threads;
 mod audit;
 mod batch;
 mod case;
+mod dossiers;
 mod failing;
 mod failing_files;
 mod failing_moves;

@@ -10,4 +10,4 @@
 
 mod worlds;
 
-pub use worlds::{law_hides, law_secrecy, other_world};
+pub use worlds::{law_hides, law_secrecy, other_world, tell};

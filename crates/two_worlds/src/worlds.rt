@@ -114,7 +114,7 @@ fn told_view<'s>(
 }
 
 /// Appends what an entry tells to the log.
-fn tell(alloc: Global, view: &mut View<'_>, entry: &Entry) -> Result<(), AllocError>
+pub fn tell(alloc: Global, view: &mut View<'_>, entry: &Entry) -> Result<(), AllocError>
     requires sentence { is_sentence_of (schema_of view.old) (formula_of entry.now.query) ≡ true }
     requires query { nodes (schema_of view.old) (formula_of entry.now.query) ≤ 20000 }
     requires room { log_nodes (schema_of view.old) (log_of view.old)

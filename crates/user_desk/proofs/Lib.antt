@@ -4,6 +4,7 @@ pub mod Asking
 pub mod Restarting
 pub mod Keeping
 pub mod Taking
+pub mod Replaying
 pub mod Recording
 pub mod Since
 pub mod Deciding

@@ -21,7 +21,7 @@ pub(crate) fn kind_of(mark: Mark) -> u8
 }
 
 /// The mark of a record of this kind.
-pub(crate) fn mark_of(kind: u8) -> Mark
+pub fn mark_of(kind: u8) -> Mark
     requires low { 1 ≤ kind }
     requires high { kind ≤ 5 }
     ensures { mark_of kind ≡ Some result }

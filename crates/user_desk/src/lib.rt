@@ -9,20 +9,23 @@
 //! restarts are the events of a run.
 //! A desk also keeps its opening, as values that contracts alone see: what its images were at each
 //! moment since then, and how its disk's count of faults has risen.
+//! `replay` is the part of an opening that follows the journal's, for records without a disk.
 //!
 //! Read `specs/Entries.antt`, `specs/Causes.antt` and `specs/Lives.antt` first, then `standing`,
-//! `desk`, `opening` and `laws`; `replay` goes through the records of a journal, `store` keeps the
-//! disk.
+//! `desk`, `opening` and `laws`; `recounting` goes through the records of a journal, `store` keeps
+//! the disk.
 #![tactic(auto)]
 
 mod desk;
 mod kinds;
 pub mod laws;
 mod opening;
-mod replay;
+mod recounting;
 mod standing;
 mod store;
 
 pub use desk::Desk;
+pub use kinds::mark_of;
 pub use opening::open_desk;
+pub use recounting::{Replayed, replay};
 pub use standing::{DeskError, Standing};

@@ -18,7 +18,7 @@ ghost use Rattle.user_desk.specs.Desks.{desk_standing, desk_history, desk_disk, 
 ghost use Rattle.user_desk.specs.Desks.{opening_history, opening_disk, IsIn, disk_opened};
 
 use crate::Desk;
-use crate::replay::replay;
+use crate::recounting::replay_log;
 use crate::standing::{DeskError, Standing};
 use crate::store::{Medium, Store};
 use censors::Admission;
@@ -86,24 +86,26 @@ pub fn open_desk<'w, D: Disk>(
     ensures count { D.faults disk ≤ D.faults (disk_opened result) }
 {
     match open(alloc, disk, header) {
-        Ok((journal, records)) => match replay(alloc, schema, world, user, admission, &records) {
-            Ok((log, standing)) => {
-                log.known();
-                let opened = log.entries().len();
-                Ok(Desk {
-                    log,
-                    header: *header,
-                    standing,
-                    store: Store::new(kept_medium(journal, standing)),
-                    in_flight: None,
-                    opened,
-                })
+        Ok((journal, records)) => {
+            match replay_log(alloc, schema, world, user, admission, &records) {
+                Ok((log, standing)) => {
+                    log.known();
+                    let opened = log.entries().len();
+                    Ok(Desk {
+                        log,
+                        header: *header,
+                        standing,
+                        store: Store::new(kept_medium(journal, standing)),
+                        in_flight: None,
+                        opened,
+                    })
+                }
+                Err(why) => Err(Refused {
+                    disk: journal.close(),
+                    why,
+                }),
             }
-            Err(why) => Err(Refused {
-                disk: journal.close(),
-                why,
-            }),
-        },
+        }
         Err(refused) => match refused_journal(alloc, schema, world, user, refused.why) {
             Ok((log, standing)) => {
                 log.known();

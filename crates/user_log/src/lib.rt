@@ -21,6 +21,6 @@ mod prepared;
 mod reply;
 
 pub use examiner::{Examined, Examiner, Lent};
-pub use log::UserLog;
+pub use log::{UserLog, told_nodes};
 pub use prepared::Prepared;
 pub use reply::{Reply, Weighed, line_reply};

@@ -151,6 +151,13 @@ impl<'w> UserLog<'w> {
         self.entries.as_slice()
     }
 
+    /// The items, and nothing else.
+    pub fn into_entries(self) -> Vec<Entry>
+        ensures { map answered_query_of result.items ≡ kept_history self.entry }
+    {
+        self.entries
+    }
+
     /// What is known of the items: the user keeps the limits, and each item came within them and
     /// is legal behind those before it. It computes nothing.
     pub fn known(&self)
@@ -751,7 +758,7 @@ fn safe_after(
 }
 
 /// What an item with this mark adds to the nodes of the view.
-fn told_nodes(schema: &Schema, query: &Sentence, mark: Mark) -> u64
+pub fn told_nodes(schema: &Schema, query: &Sentence, mark: Mark) -> u64
     requires { nodes schema.now (formula_of query.now) ≤ 20000 }
     ensures { result ≡ told_nodes schema.now mark (formula_of query.now) }
 {

@@ -1,6 +1,7 @@
 //! Runs of `batch` in each of which one call of one object fails: of the source, the output or a
 //! disk. What was told and what the journals read as was worked out by hand. `failing_files` has
-//! `init` and `audit`, `failing_moves` those of `migrate`, `failing_servers` those of `serve`.
+//! `init` and `audit`, `failing_moves` those of `migrate`, `failing_servers` those of `serve`, and
+//! `dossier` those of `dossier` and `check`.
 ghost use Rattle.std.specs.Prelude.{◌≡◌, List, ℕ, false, IfOk};
 ghost use Rattle.outside.specs.MemoryShelves.{is_disk_out};
 

@@ -74,23 +74,24 @@ fn migrate(
     run_over(rt, alloc, &words, shelf, source, sink, complaints)
 }
 
-// The calls of eve's new disk are its length, a sync, the write of an empty journal and a sync, and
-// four for each of nine records. The next user isn't served; the next run moves all.
+// The calls of eve's new disk are a sync, its length, a write and a sync of eight bytes, two writes
+// of the digests, two for each of fifteen records, a write of the gate and a sync, and a write and
+// a sync of the first eight bytes. The next user isn't served; the next run moves all.
 #[test]
 fn a_new_disk_may_fail_at_any_call(rt: HostRuntime) -> Result<(), Fail> {
     let alloc = rt.alloc();
     for call in 0..CALLS {
-        let mut shelf = old_ward(alloc, Plan::Never, 9)?;
+        let mut shelf = old_ward(alloc, Plan::Never, 15)?;
         let disk = MemoryDisk::with_plan(alloc, Vec::new(alloc), failing(alloc, call)?)?;
         shelf.put_disk(alloc, "e/eve.log", disk)?;
         let run = migrate(&rt, alloc, &mut shelf, "e")?;
         run.check(&rt, 11, "", "cqe: disk fault\n", "a new disk fails");
-        assert!(rt; are_kept(alloc, &shelf, 9)?, "call {call}");
+        assert!(rt; are_kept(alloc, &shelf, 15)?, "call {call}");
         assert!(rt; shelf.disk("e/ron.log").is_none());
         let next = migrate(&rt, alloc, &mut shelf, "g")?;
         next.check(&rt, 0, "", "", "the next run");
-        assert!(rt; are_kept(alloc, &shelf, 9)?, "the next run");
-        let (by_eve, by_tom) = (told(alloc, 9)?, told(alloc, 0)?);
+        assert!(rt; are_kept(alloc, &shelf, 15)?, "the next run");
+        let (by_eve, by_tom) = (told(alloc, 15)?, told(alloc, 0)?);
         assert_eq!(rt; journal_bytes(&shelf, "g/eve.log"), by_eve.as_slice());
         assert_eq!(rt; journal_bytes(&shelf, "g/tom.log"), by_tom.as_slice());
     }

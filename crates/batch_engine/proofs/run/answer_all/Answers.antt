@@ -1,5 +1,5 @@
 use Rattle.std.proofs.Common.{◌≡◌, ◌++◌, ◌∷◌, suc, ◌||◌, List, [], take, drop, true, false, refl, sym, ap, subst, ◌∙◌, ◌<◌, All, append-nil, length, map}
-use Rattle.std.proofs.Common.{append_assoc, arith}
+use Rattle.std.proofs.Common.{inl, append_assoc, arith}
 use Rattle.std.proofs.lemmas.List.{take_all, length-map}
 use Rattle.std.proofs.Math.Bool.{or-false}
 use Rattle.outside.proofs.Rises.{rose_wide}
@@ -18,7 +18,7 @@ use Rattle.batch_engine.specs.declared.answer.Answer.{Answer}
 use Rattle.batch_engine.proofs.Posts.{InOrder, in_lines}
 use Rattle.batch_engine.specs.Steps.{Runs, RunsAll, restart_bytes}
 use Rattle.batch_engine.proofs.Running.{Stay, stay_run, runs_then, all_first, all_more, some_cut, cut_off, no_memory, to_here, to_unwritten, restarted_more}
-use Rattle.batch_engine.proofs.Running.{asks_one, ended_one, stretch_split, stretches_more, asks_at}
+use Rattle.batch_engine.proofs.Running.{asks_one, ended_one, stretch_split, stretches_more, stretches_end, with_script, asks_at}
 use Rattle.batch_engine.proofs.run.answer_all.Given.{Over}
 use Rattle.batch_engine.proofs.run.answer_all.Goals.{then-is_broken, else-is_broken, then-is_broken-2, else-is_broken-2}
 use Rattle.batch_engine.proofs.run.answer_all.Goals as goal
@@ -183,7 +183,7 @@ returns-in-CutOff-clause-answered g c =
           c.in-Ok.told.0.items c.loop-asks.is_broken c.says_broken-says_broken.result _ _ _
           (output_bytes o.lines)
           (items_here g (goal.at.returns-in-CutOff-clause-answered g c).After-says_broken-says_broken) (asks_one c.asks-item.result.items)
-          (ended_one c.asks-item.result.items) c.loop-asks.invariant.so_far
+          (ended_one c.asks-item.result.items) (stretches_end (take c.loop-asks.asks-index c.ended-asks-items.result.now)) c.loop-asks.invariant.so_far
           (runs g (goal.at.returns-in-CutOff-clause-answered g c).After-says_broken-says_broken) cut.0 cut.1 cut.2 cut.4,
       cut.3,
     )
@@ -207,7 +207,7 @@ returns-in-NoMemory-clause-answered g c =
           c.in-Ok.told.0.items c.loop-asks.is_broken c.says_broken-says_broken.result _ _ _
           (output_bytes o.lines)
           (items_here g (goal.at.returns-in-NoMemory-clause-answered g c).After-says_broken-says_broken) (asks_one c.asks-item.result.items)
-          (ended_one c.asks-item.result.items) c.loop-asks.invariant.so_far
+          (ended_one c.asks-item.result.items) (stretches_end (take c.loop-asks.asks-index c.ended-asks-items.result.now)) c.loop-asks.invariant.so_far
           (runs g (goal.at.returns-in-NoMemory-clause-answered g c).After-says_broken-says_broken) at.0 at.1 at.2 at.4 at.5 at.6,
       at.3,
     )
@@ -253,6 +253,7 @@ returns-in-Err-clause-answered g c = (
       (header_bytes c.args.registry.now.header.now) g.F.D.Disk g.K.Sink.tells (items_of c.args.batch.now)
       (stretches_in (take c.loop-asks.asks-index c.ended-asks-items.result.now)) _ c.args.seats.items c.in-Err.seats.items
       c.loop-asks.is_broken _ _ (items_left g (goal.at.returns-in-Err-clause-answered g c).In-Err)
+      (inl (stretches_end (take c.loop-asks.asks-index c.ended-asks-items.result.now)))
       (subst (λ n. RunsAll c.args.registry.now.schema.now c.args.registry.now.world.now (header_bytes c.args.registry.now.header.now)
       g.F.D.Disk g.K.Sink.tells (stretches_in (take c.loop-asks.asks-index c.ended-asks-items.result.now)) c.args.seats.items n
       c.loop-asks.is_broken (g.K.Sink.written c.args.sink.now) (g.K.Sink.written c.loop-asks.sink))
@@ -561,7 +562,10 @@ returns-in-Part-clause-answered g c =
           c.loop-asks.seats.items c.in-Ok-answer_stretch.told.0.items c.loop-asks.is_broken c.says_broken-says_broken-2.result _ _ _
           (output_bytes o.lines)
           (ap (λ l. l ++ stretch_in (last_of c.args.batch.now)) (sym (all_ended g at.After-says_broken-says_broken-2)) ∙ sym (append-nil _))
-          (asks_one (last_of c.args.batch.now)) c.loop-asks.invariant.so_far (last_runs g at.After-says_broken-says_broken-2)
+          (asks_one (last_of c.args.batch.now))
+          (with_script (stretches_in (take c.loop-asks.asks-index c.ended-asks-items.result.now)) (stretch_in (last_of c.args.batch.now))
+          (stretches_end (take c.loop-asks.asks-index c.ended-asks-items.result.now)))
+          c.loop-asks.invariant.so_far (last_runs g at.After-says_broken-says_broken-2)
           (λ told. let part = c.in-Part.ensures.written told o.lines o.numbered o.moved in (part.0, part.2)),
       c.give_back-2.ensures.back,
     )
@@ -583,7 +587,10 @@ returns-in-Nothing-clause-answered g c =
           c.loop-asks.seats.items c.in-Ok-answer_stretch.told.0.items c.loop-asks.is_broken c.says_broken-says_broken-2.result _ _ _
           (output_bytes o.lines)
           (ap (λ l. l ++ stretch_in (last_of c.args.batch.now)) (sym (all_ended g at.After-says_broken-says_broken-2)) ∙ sym (append-nil _))
-          (asks_one (last_of c.args.batch.now)) c.loop-asks.invariant.so_far (last_runs g at.After-says_broken-says_broken-2)
+          (asks_one (last_of c.args.batch.now))
+          (with_script (stretches_in (take c.loop-asks.asks-index c.ended-asks-items.result.now)) (stretch_in (last_of c.args.batch.now))
+          (stretches_end (take c.loop-asks.asks-index c.ended-asks-items.result.now)))
+          c.loop-asks.invariant.so_far (last_runs g at.After-says_broken-says_broken-2)
           (λ told. c.in-Nothing.ensures.written told o.lines o.numbered o.moved),
       c.give_back-2.ensures.back,
     )
@@ -625,7 +632,7 @@ returns-in-Err-answer_stretch-clause-answered g c = (
   to_here c.args.registry.now.schema.now c.args.registry.now.world.now
       (header_bytes c.args.registry.now.header.now) g.F.D.Disk g.K.Sink.tells (items_of c.args.batch.now)
       (stretches_in (ended_of c.args.batch.now)) (stretch_in (last_of c.args.batch.now)) c.args.seats.items c.in-Err-answer_stretch.seats.items
-      c.loop-asks.is_broken _ _ refl
+      c.loop-asks.is_broken _ _ refl (inl (stretches_end (ended_of c.args.batch.now)))
       (subst (λ l. RunsAll c.args.registry.now.schema.now c.args.registry.now.world.now (header_bytes c.args.registry.now.header.now)
       g.F.D.Disk g.K.Sink.tells l c.args.seats.items c.in-Err-answer_stretch.seats.items
       c.loop-asks.is_broken (g.K.Sink.written c.args.sink.now) (g.K.Sink.written c.loop-asks.sink))

@@ -9,4 +9,5 @@ pub returns : goal.returns
 returns c =
     let f = found_of c.args.given.now in
     let workers = c.small_number_or.ensures ∙ ap (number_or 4 1 64) (c.get_str.ensures ∙ first_value-rows f (codes "workers")) in
-    c.batch_with.ensures ∙ (λ i. batch_said (c.files_in.ensures i) (workers i))
+    let standby = c.get_str-2.ensures ∙ first_value-rows f (codes "standby") in
+    c.batch_with.ensures ∙ (λ i. batch_said (c.files_in.ensures i) (workers i) (standby i))

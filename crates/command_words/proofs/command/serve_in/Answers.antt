@@ -11,4 +11,5 @@ returns c =
     let listen = c.get_str.ensures ∙ first_value-rows f (codes "listen") in
     let workers = c.small_number_or.ensures ∙ ap (number_or 4 1 64) (c.get_str-2.ensures ∙ first_value-rows f (codes "workers")) in
     let sessions = c.number_or.ensures ∙ ap (number_or 1073741824 1 1000000) (c.get_str-3.ensures ∙ first_value-rows f (codes "sessions")) in
-    c.serve_with.ensures ∙ (λ i. serve_said (c.files_in.ensures i) (listen i) (workers i) (sessions i))
+    let standby = c.get_str-4.ensures ∙ first_value-rows f (codes "standby") in
+    c.serve_with.ensures ∙ (λ i. serve_said (c.files_in.ensures i) (listen i) (workers i) (sessions i) (standby i))

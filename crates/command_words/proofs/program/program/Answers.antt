@@ -3,7 +3,7 @@ use Rattle.clap.specs.Words.{App, with_subcommand}
 use Rattle.clap.specs.Simple.{app_of_fields, on_top}
 use Rattle.clap.specs.declared.builder.command.Command.{Command}
 use Rattle.clap.specs.declared.builder.command.Command.TheOpen.{Command-F}
-use Rattle.command_words.specs.Matched.{with_settings}
+use Rattle.command_words.specs.Matched.{with_last, with_settings}
 use Rattle.command_words.proofs.program.program.Goals as goal
 
 pub returns : goal.returns
@@ -22,4 +22,6 @@ returns c =
     c.in_ok-subcommand-5.ensures.shape c.in_ok-selfrun.ensures.plain ∙ ap₂ with_subcommand audit (ap (λ (a : App). a.top) c.in_ok-selfrun.ensures.shape) in
     let serve =
     c.in_ok-subcommand-6.ensures.shape c.in_ok-serve.ensures.plain ∙ ap₂ with_subcommand selfrun (ap (λ (a : App). a.top) c.in_ok-serve.ensures.shape) in
-    c.in_ok-program.ensures.shape c.in_ok-migrate.ensures.plain ∙ ap₂ with_subcommand serve (ap (λ (a : App). a.top) c.in_ok-migrate.ensures.shape)
+    let migrate =
+    c.in_ok-first.ensures.shape c.in_ok-migrate.ensures.plain ∙ ap₂ with_subcommand serve (ap (λ (a : App). a.top) c.in_ok-migrate.ensures.shape) in
+    c.in_ok-all.ensures ∙ ap with_last migrate

@@ -2,7 +2,7 @@ use Rattle.std.proofs.Common.{sym, ap, subst, ◌∙◌}
 use Rattle.outside.specs.Faults.{Rose}
 use Rattle.outside.specs.Streams.{AppendsUnless}
 use Rattle.cqe_top.specs.Complaints.{complaint_of}
-use Rattle.cqe_top.specs.Promise.{OfReading}
+use Rattle.cqe_top.specs.Promise.{Does}
 use Rattle.cqe_top.specs.Reports.{status_of}
 use Rattle.cqe_top.specs.Scene.{scene_of, shelf_of, input_of, output_of, links_of}
 use Rattle.cqe_top.proofs.command.top.Goals as goal
@@ -15,12 +15,10 @@ returns g c = record {
     complaint =
         λ told. subst (λ report. AppendsUnless (complaint_of report) (g.E.Sink.written c.args.complaints.now) (g.E.Sink.written c.complain.new.complaints)
         (Rose (g.E.Sink.faults c.args.complaints.now) (g.E.Sink.faults c.complain.new.complaints))) c.report_of-report.ensures (c.complain.ensures.given told);
-    command = subst (λ read.
-        OfReading (scene_of (shelf_of g.F.Shelf g.F.D.Disk c.args.shelf.now c.run-end.new.shelf) (input_of g.S.Source c.args.source.now c.run-end.new.source)
+    does = subst (λ read.
+        Does (scene_of (shelf_of g.F.Shelf g.F.D.Disk c.args.shelf.now c.run-end.new.shelf) (input_of g.S.Source c.args.source.now c.run-end.new.source)
         (output_of g.K.Sink c.args.sink.now c.run-end.new.sink) (links_of g.L.Links c.args.links.now c.run-end.new.links)) read c.run-end.result)
         (sym c.run-end.ensures.command.1) c.run-end.ensures.command.2;
-    cause = c.run-end.ensures.cause;
-    always = c.run-end.ensures.always;
     complaints_faults = c.complain.ensures.later;
   };
 }

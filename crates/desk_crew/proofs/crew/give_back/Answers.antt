@@ -1,9 +1,9 @@
-use Rattle.std.proofs.Common.{◌≤◌, refl, sym, ap, subst, ◌∙◌, ◌++◌, arith}
+use Rattle.std.proofs.Common.{refl, ap, ◌∙◌, ◌++◌, arith}
 use Rattle.std.specs.Prelude.{option_to_list}
 use Rattle.desk_crew.specs.Crew.{seat_journal, seat_disk}
 use Rattle.desk_crew.specs.Seats.{DeskSeat}
 use Rattle.desk_crew.specs.Shelved.{IsBack}
-use Rattle.desk_crew.proofs.Shelving.{given_none, given_out, given_later, given_more, back_moves, back_closed, broke_none, broke_all, broke_more}
+use Rattle.desk_crew.proofs.Shelving.{given_none, given_out, given_more, back_moves, back_closed, broke_none, broke_all, broke_more}
 use Rattle.desk_crew.proofs.crew.give_back.Goals as goal
 
 pub loop-seat-init : goal.loop-seat-init
@@ -11,26 +11,17 @@ loop-seat-init g c = record {
   so_far = given_none seat_journal (IsBack g.F.Shelf.tells g.F.D.Disk) _ _ _ _;
   faults = refl;
   looked = refl;
+  lent = refl;
   files = λ name. refl;
   broke = broke_none c.args.seats.items;
 }
 
-pub give_disk-requires-clause-out : goal.give_disk-requires-clause-out
-give_disk-requires-clause-out g c =
+pub give_disk-requires : goal.give_disk-requires
+give_disk-requires g c =
     let split = c.pop.ensures.items ∙ ap (λ o. c.pop.new.self.items ++ option_to_list o) c.in-Some.is in
     ap (g.F.Shelf.is_out c.loop-seat.shelf) c.as_str.ensures.value
     ∙ given_out seat_journal (IsBack g.F.Shelf.tells g.F.D.Disk) _ _ _ _ (λ (s : DeskSeat _ _ _). g.F.D.Disk.faults (seat_disk s)) c.requires.distinct
     c.requires.out c.requires.later c.pop.new.self.items c.loop-seat.seats.items c.in-Some.seat _ _ _ split c.loop-seat.invariant.so_far
-
-pub give_disk-requires-clause-later : goal.give_disk-requires-clause-later
-give_disk-requires-clause-later g c =
-    let split = c.pop.ensures.items ∙ ap (λ o. c.pop.new.self.items ++ option_to_list o) c.in-Some.is in
-    let least : g.F.Shelf.disk_faults c.loop-seat.shelf (seat_journal c.in-Some.seat) ≤ g.F.D.Disk.faults (seat_disk c.in-Some.seat) =
-    given_later seat_journal (IsBack g.F.Shelf.tells g.F.D.Disk) _ _ _ _ (λ (s : DeskSeat _ _ _). g.F.D.Disk.faults (seat_disk s)) c.requires.distinct
-    c.requires.out c.requires.later c.pop.new.self.items c.loop-seat.seats.items c.in-Some.seat _ _ _ split c.loop-seat.invariant.so_far in
-    let closed = c.close_desk-disk.ensures.closed.later in
-    subst (λ n. g.F.Shelf.disk_faults c.loop-seat.shelf n
-    ≤ g.F.D.Disk.faults c.close_desk-disk.result.0) (sym c.as_str.ensures.value) (omega (arith, least, closed))
 
 pub loop-seat-preserved : goal.loop-seat-preserved
 loop-seat-preserved g c =
@@ -45,6 +36,7 @@ loop-seat-preserved g c =
           given.others_out given.other_counts;
       faults = given.faults ∙ c.loop-seat.invariant.faults;
       looked = given.looked ∙ c.loop-seat.invariant.looked;
+      lent = given.lent ∙ c.loop-seat.invariant.lent;
       files = λ name. given.files name ∙ c.loop-seat.invariant.files name;
       broke = broke_more c.pop.new.self.items c.in-Some.seat c.loop-seat.seats.items _ _ c.loop-seat.is_broken split c.loop-seat.invariant.broke
           c.close_desk-disk.ensures.broke;

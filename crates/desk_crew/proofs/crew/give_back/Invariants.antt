@@ -16,6 +16,7 @@ invariant-loop-seat g l = record {
   broke : list_any seat_broke l.fn.seats.items ≡ (list_any seat_broke l.seats.items || l.is_broken);
   faults : g.F.Shelf.faults l.shelf ≡ g.F.Shelf.faults l.fn.shelf;
   looked : g.F.Shelf.looked l.shelf ≡ g.F.Shelf.looked l.fn.shelf;
+  lent : g.F.Shelf.lent l.shelf ≡ g.F.Shelf.lent l.fn.shelf;
   files : SameNames (g.F.Shelf.file l.fn.shelf) (g.F.Shelf.file l.shelf);
 }
 

@@ -150,6 +150,7 @@ loop-user-preserved g c =
       count = omega (arith, count, grown);
       later = omega (arith, before, on);
       looked = c.take_one.ensures.looked ∙ so_far.looked;
+      lent = c.take_one.ensures.lent ∙ so_far.lent;
       files = λ name. c.take_one.ensures.files name ∙ so_far.files name;
     }
 
@@ -166,6 +167,7 @@ loop-user-init g c =
       count = omega (arith, len, none);
       later = omega arith;
       looked = refl;
+      lent = refl;
       files = λ name. refl;
     }
 

@@ -13,5 +13,6 @@ invariant-loop-user g l = record {
   count : vec_len l.openings ≡ l.user-index;
   later : g.F.Shelf.faults l.fn.shelf ≤ g.F.Shelf.faults l.shelf;
   looked : g.F.Shelf.looked l.shelf ≡ g.F.Shelf.looked l.fn.shelf;
+  lent : g.F.Shelf.lent l.shelf ≡ g.F.Shelf.lent l.fn.shelf;
   files : SameNames (g.F.Shelf.file l.fn.shelf) (g.F.Shelf.file l.shelf);
 }

@@ -10,6 +10,7 @@ loop-opening-init g c = record {
   so_far = given_none opening_journal (IsPutBack g.F.Shelf.tells g.F.D.Disk) _ _ _ _;
   faults = refl;
   looked = refl;
+  lent = refl;
   files = λ name. refl;
 }
 
@@ -46,5 +47,6 @@ loop-opening-preserved g c =
           given.back given.disks given.inside given.others_out given.counts;
       faults = given.faults ∙ c.loop-opening.invariant.faults;
       looked = given.looked ∙ c.loop-opening.invariant.looked;
+      lent = given.lent ∙ c.loop-opening.invariant.lent;
       files = λ name. given.files name ∙ c.loop-opening.invariant.files name;
     }

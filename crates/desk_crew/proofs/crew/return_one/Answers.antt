@@ -1,8 +1,7 @@
-use Rattle.std.proofs.Common.{◌≡◌, ◌≤◌, sym, ap, subst, ◌∙◌, arith}
+use Rattle.std.proofs.Common.{◌≡◌, sym, ap, subst, ◌∙◌}
 use Rattle.outside.specs.Shelf.{SameOthers}
-use Rattle.desk_crew.specs.Crew.{disk_seated}
-use Rattle.desk_crew.specs.Side.{opening_journal, place_journal, place_faults, IsLeftFrom}
-use Rattle.desk_crew.proofs.Placing.{shut_later, shut_left}
+use Rattle.desk_crew.specs.Side.{opening_journal, place_journal, IsLeftFrom}
+use Rattle.desk_crew.proofs.Placing.{shut_left}
 use Rattle.desk_crew.proofs.crew.return_one.Given.{Over}
 use Rattle.desk_crew.proofs.crew.return_one.Goals as goal
 use Rattle.desk_crew.proofs.crew.return_one.Goals.{After-as_str}
@@ -11,18 +10,9 @@ use Rattle.desk_crew.proofs.crew.return_one.Goals.{After-as_str}
 named : (g : Over) (c : After-as_str g) → c.as_str.result.now ≡ opening_journal c.args.opening
 named g c = c.as_str.ensures.value ∙ c.shut-closed.ensures.journal ∙ ap place_journal (sym c.unwrap-place.ensures)
 
-pub give_disk-requires-clause-out : goal.give_disk-requires-clause-out
-give_disk-requires-clause-out g c =
-    ap (g.F.Shelf.is_out c.args.shelf.now) (named g (goal.at.give_disk-requires-clause-out g c).After-as_str) ∙ c.requires.out
-
-pub give_disk-requires-clause-later : goal.give_disk-requires-clause-later
-give_disk-requires-clause-later g c =
-    let least : g.F.Shelf.disk_faults c.args.shelf.now (opening_journal c.args.opening) ≤ g.F.D.Disk.faults (disk_seated c.unwrap-place.result) =
-    subst (λ p. g.F.Shelf.disk_faults c.args.shelf.now (opening_journal c.args.opening) ≤ place_faults g.F.D.Disk.faults p) c.unwrap-place.ensures
-    c.requires.later in
-    let on = shut_later g.F.D.Disk c.unwrap-place.result c.shut-closed.result.disk c.shut-closed.ensures.shut in
-    subst (λ n. g.F.Shelf.disk_faults c.args.shelf.now n ≤ g.F.D.Disk.faults c.shut-closed.result.disk)
-    (sym (named g (goal.at.give_disk-requires-clause-later g c).After-as_str)) (omega (arith, least, on))
+pub give_disk-requires : goal.give_disk-requires
+give_disk-requires g c =
+    ap (g.F.Shelf.is_out c.args.shelf.now) (named g (goal.at.give_disk-requires g c).After-as_str) ∙ c.requires.out
 
 pub returns-clause-back : goal.returns-clause-back
 returns-clause-back g c =

@@ -1,9 +1,11 @@
-use Rattle.std.proofs.Common.{length, map, ap, ◌∙◌, arith}
+use Rattle.std.proofs.Common.{length, map, ap, subst, ◌∙◌, arith}
 use Rattle.std.proofs.lemmas.Result.{IfOk-weaker}
 use Rattle.cqe_base.specs.Outcome.{grounded_signed}
+use Rattle.clause_form.specs.Forms.{Form}
 use Rattle.entailment.specs.Forms.{IsSearchable}
 use Rattle.entailment.specs.Probes.{premise_of, goal_of, added_by}
 use Rattle.entailment.specs.Verdicts.{as_wanted, searched_verdict}
+use Rattle.entailment.specs.Certificates.{IsRightFor}
 use Rattle.entailment.proofs.LogForms.{probe-searchable, own-searchable, probe-room, probe-added}
 use Rattle.entailment.proofs.KeptClauses.{none-begins, all-begin, stays-begins, begins-more, form-begins}
 use Rattle.entailment.proofs.probes.probed.Goals as goal
@@ -32,8 +34,8 @@ add_probe-requires c =
 pub returns-in_err-keep-clause-kept : goal.returns-in_err-keep-clause-kept
 returns-in_err-keep-clause-kept c = none-begins c.keep.new.self c.args.former.now.clauses c.in_err-keep.ensures.refused
 
-pub verdict_of-requires-clause-kept : goal.verdict_of-requires-clause-kept
-verdict_of-requires-clause-kept c =
+pub certificate_of-requires-clause-kept : goal.certificate_of-requires-clause-kept
+certificate_of-requires-clause-kept c =
     let log = c.requires.form.0 in
     let is = c.requires.form.1.form_is in
     let formulas = map (grounded_signed c.args.schema.now) log in
@@ -43,11 +45,11 @@ verdict_of-requires-clause-kept c =
 
 pub returns-clause-kept : goal.returns-clause-kept
 returns-clause-kept c =
-    stays-begins c.keep.new.self c.verdict_of.new.kept c.args.former.now.clauses c.verdict_of.ensures.kept
+    stays-begins c.keep.new.self c.certificate_of.new.kept c.args.former.now.clauses c.certificate_of.ensures.kept
     (all-begin c.keep.new.self c.args.former.now.clauses (c.in_ok-keep.ensures.kept ∙ c.clauses.ensures))
 
-pub verdict_of-requires-clause-searchable : goal.verdict_of-requires-clause-searchable
-verdict_of-requires-clause-searchable c =
+pub certificate_of-requires-clause-searchable : goal.certificate_of-requires-clause-searchable
+certificate_of-requires-clause-searchable c =
     let log = c.requires.form.0 in
     let can = c.requires.form.1 in
     probe-searchable c.law_variables_are_few.ensures c.law_grounded_nodes.ensures c.law_clause_form_uses_its_variables.ensures
@@ -59,8 +61,16 @@ verdict_of-requires-clause-searchable c =
 
 pub returns-clause-verdict : goal.returns-clause-verdict
 returns-clause-verdict c =
-    IfOk-weaker c.verdict_of.result _ _
-    (λ verdict is log at. is ∙ ap (λ form. as_wanted c.args.wanted (searched_verdict form c.args.budget))
+    IfOk-weaker c.certificate_of.result _ _
+    (λ found is log at. is ∙ ap (λ form. as_wanted c.args.wanted (searched_verdict form c.args.budget))
     (probe-added c.args.schema.now log (premise_of c.args.probe.now) (goal_of c.args.probe.now) (added_by c.args.probe.now) c.args.former.now
     c.add_probe.new.former c.requires.added c.in_ok-add_probe.ensures.added at))
-    c.verdict_of.ensures.verdict
+    c.certificate_of.ensures.verdict
+
+pub returns-clause-right : goal.returns-clause-right
+returns-clause-right c =
+    IfOk-weaker c.certificate_of.result _ _
+    (λ found right log at. subst (λ (form : Form). IsRightFor form.clauses found)
+    (probe-added c.args.schema.now log (premise_of c.args.probe.now) (goal_of c.args.probe.now) (added_by c.args.probe.now) c.args.former.now
+    c.add_probe.new.former c.requires.added c.in_ok-add_probe.ensures.added at) right)
+    c.certificate_of.ensures.right

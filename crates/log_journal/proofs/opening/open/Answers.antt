@@ -13,4 +13,4 @@ returns-in-Ok-clause-sound g c told why =
 pub returns-in-Err-clause-good : goal.returns-in-Err-clause-good
 returns-in-Err-clause-good g c told all journal =
     outside_only 5 (header_bytes c.args.header.now) all (g.D.Disk.reads c.args.disk) (journal, journal.each) g.D.Disk.tells (g.D.Disk.faults c.args.disk)
-    (g.D.Disk.faults c.read_synced.new.disk) c.in-Err.why told c.in-Err.ensures.refused
+    (g.D.Disk.faults c.read_told.new.disk) c.in-Err.why told c.in-Err.ensures.refused

@@ -1,7 +1,19 @@
-use Rattle.std.proofs.Common.{map}
+use Rattle.std.proofs.Common.{◌≡◌, List, ℕ, length, map, sym, ◌∙◌, ap, rules}
+use Rattle.std.proofs.lemmas.List.{length-map}
 use Rattle.log_journal.specs.Opening.{header_bytes, old_header, recorded}
+use Rattle.log_journal.specs.Walk.{records}
+use Rattle.log_journal.proofs.Fronts.{walked}
 use Rattle.log_journal.proofs.Refusals.{unrefused, outside_only, none_older}
 use Rattle.log_journal.proofs.opening.open_old.Goals as goal
+
+pub at-requires-clause-counted : goal.at-requires-clause-counted
+at-requires-clause-counted g c told =
+    let all = map recorded c.in-Ok.records.items in
+    let R = g.D.Disk.reads c.args.disk in
+    let are : records R ≡ all = (walked (old_header (header_bytes c.args.header.now)) all R (c.in-Ok.ensures.opened told).0).are in
+    let size : c.len-count.result ≡ length c.in-Ok.records.items = search rules in
+    size ∙ sym (length-map c.in-Ok.records.items recorded) ∙ sym (ap length are)
+    ∙ sym (ap (λ (b : List ℕ). length (records b)) c.read_synced.ensures.reads)
 
 pub returns-in-Ok-clause-opened : goal.returns-in-Ok-clause-opened
 returns-in-Ok-clause-opened g c told = c.in-Ok.ensures.opened told

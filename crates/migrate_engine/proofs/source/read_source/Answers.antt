@@ -9,9 +9,6 @@ use Rattle.init_engine.specs.Stops.{Stays}
 use Rattle.migrate_engine.proofs.Halves.{unread_wide}
 use Rattle.migrate_engine.proofs.source.read_source.Goals as goal
 
-pub give_disk-requires-clause-later : goal.give_disk-requires-clause-later
-give_disk-requires-clause-later g c = omega (arith, c.in-Ok.ensures.count, c.read_old-disk.ensures.only.count)
-
 pub returns-in-Ok-clause-opened : goal.returns-in-Ok-clause-opened
 returns-in-Ok-clause-opened g c = λ told.
     let disk = g.F.D.Disk in

@@ -1,12 +1,10 @@
-use Rattle.std.proofs.Common.{map, sym, subst, ◌∙◌, arith}
+use Rattle.std.proofs.Common.{map, arith}
 use Rattle.std.proofs.lemmas.Result.{IfErr-weaker, on_ok_weaker}
 use Rattle.outside.proofs.Taken.{taken_reads}
 use Rattle.outside.specs.Shelf.{bytes_on}
 use Rattle.log_journal.specs.Opening.{header_bytes, recorded}
-use Rattle.init_engine.proofs.Reasons.{held_stays, none_rose}
-use Rattle.init_engine.proofs.Visiting.{untouched}
-use Rattle.init_engine.specs.Stops.{Stays}
-use Rattle.migrate_engine.proofs.Filling.{held_filled}
+use Rattle.init_engine.proofs.Reasons.{none_rose}
+use Rattle.migrate_engine.proofs.Filling.{held_filled, held_left}
 use Rattle.migrate_engine.proofs.Halves.{unfilled_wide}
 use Rattle.migrate_engine.proofs.target.fill_target.Goals as goal
 
@@ -34,22 +32,17 @@ returns-in-Ok-clause-reason g c =
     (omega (arith, back))
     0 (shelf.faults c.args.shelf.now) 0 (shelf.faults c.give_disk.new.self) none_rose why) c.fill-disk.ensures.reason
 
-pub returns-in-Ok-clause-stays : goal.returns-in-Ok-clause-stays
-returns-in-Ok-clause-stays g c = λ told some.
-    let disk = g.F.D.Disk in
-    let held = g.F.Shelf.disk c.args.shelf.now c.args.target.now in
-    let taken = c.in-Ok.ensures.taken told in
-    subst (λ o. Stays disk held o) (sym (c.give_disk.ensures.held told))
-    (held_stays disk c.fill-disk.result.0 held c.in-Ok.disk taken
-    (c.fill-disk.ensures.stays (g.met.F.Shelf.tells_disks told)
-    (λ none. some (sym (taken_reads disk.reads disk.image held c.in-Ok.disk taken) ∙ none))))
+pub returns-in-Ok-clause-left : goal.returns-in-Ok-clause-left
+returns-in-Ok-clause-left g c = λ told.
+    let shelf = g.F.Shelf in
+    let target = c.args.target.now in
+    IfErr-weaker c.fill-disk.result.1 _ _
+    (held_left g.F.D.Disk (header_bytes c.args.header.now) (map recorded c.args.records.now) (shelf.disk c.args.shelf.now target)
+    (shelf.disk c.give_disk.new.self target) c.in-Ok.disk c.fill-disk.result.0 (c.in-Ok.ensures.taken told) (c.give_disk.ensures.held told))
+    (c.fill-disk.ensures.left (g.met.F.Shelf.tells_disks told))
 
-pub returns-in-Err-Failed-clause-stays : goal.returns-in-Err-Failed-clause-stays
-returns-in-Err-Failed-clause-stays g c = λ told some.
-    untouched g.F.D.Disk g.met.F.D.Disk.only_now (g.F.Shelf.disk c.args.shelf.now c.args.target.now)
-    (g.F.Shelf.disk c.take_disk.new.self c.args.target.now) (c.in-Err-Failed.ensures.refused_disks c.args.target.now)
+pub returns-in-Err-Failed-clause-left : goal.returns-in-Err-Failed-clause-left
+returns-in-Err-Failed-clause-left g c = λ told. c.in-Err-Failed.ensures.refused_disks c.args.target.now
 
-pub returns-in-Err-clause-stays : goal.returns-in-Err-clause-stays
-returns-in-Err-clause-stays g c = λ told some.
-    untouched g.F.D.Disk g.met.F.D.Disk.only_now (g.F.Shelf.disk c.args.shelf.now c.args.target.now)
-    (g.F.Shelf.disk c.take_disk.new.self c.args.target.now) (c.in-Err.ensures.refused_disks c.args.target.now)
+pub returns-in-Err-clause-left : goal.returns-in-Err-clause-left
+returns-in-Err-clause-left g c = λ told. c.in-Err.ensures.refused_disks c.args.target.now

@@ -1,13 +1,13 @@
-use Rattle.std.proofs.Common.{map, sym, ap, subst, ◌∙◌, arith}
+use Rattle.std.proofs.Common.{map, sym, ap, subst, arith}
 use Rattle.std.proofs.lemmas.Result.{IfErr-weaker, on_ok_weaker}
 use Rattle.outside.proofs.Rises.{rose_wide}
 use Rattle.outside.specs.Shelf.{bytes_on}
-use Rattle.log_journal.specs.Opening.{header_bytes, recorded}
+use Rattle.log_journal.specs.Opening.{header_bytes, recorded, IsOldJournal}
 use Rattle.init_engine.proofs.Apart.{apart_back}
 use Rattle.init_engine.specs.Stops.{Stays}
-use Rattle.migrate_engine.specs.Stops.{changed}
+use Rattle.migrate_engine.specs.Stops.{LeavesUnfilled, changed}
 use Rattle.migrate_engine.proofs.Filling.{moved_of}
-use Rattle.migrate_engine.proofs.Halves.{unread_reason, unfilled_reason, unfilled_wide, unfilled_left, untouched_left}
+use Rattle.migrate_engine.proofs.Halves.{unread_reason, unfilled_reason, unfilled_wide, unfilled_left, unread_left}
 use Rattle.migrate_engine.proofs.visit.move_journal.Goals as goal
 
 pub returns-in-Ok-clause-moved : goal.returns-in-Ok-clause-moved
@@ -58,11 +58,13 @@ returns-in-Ok-clause-target g c = λ told.
     let mid = c.read_source.new.shelf in
     let new = c.fill_target.new.shelf in
     let same = c.read_source.ensures.disks target (apart_back c.args.source.now target c.requires.apart) in
+    let header = header_bytes c.args.header.now in
+    let bytes = bytes_on disk.reads (shelf.disk first c.args.source.now) in
+    let all = map recorded c.deref.result.now in
     IfErr-weaker c.fill_target.result _ _
-    (unfilled_left disk (shelf.disk first target) (shelf.disk new target) shelf.tells (bytes_on disk.reads (shelf.disk mid target))
-    (shelf.disk_faults mid target) (shelf.disk_faults new target) (shelf.faults mid) (shelf.faults new)
-    (λ some. subst (λ d. Stays disk d (shelf.disk new target)) same
-    (c.fill_target.ensures.stays told (λ none. some (ap (bytes_on disk.reads) (sym same) ∙ none))))) c.fill_target.ensures.reason
+    (λ why is. unfilled_left disk header (shelf.disk first target) (shelf.disk new target) bytes all
+    (subst (λ l. IsOldJournal header (map recorded l) bytes) (sym c.deref.ensures.value) (c.in-Ok.ensures.opened told)) why
+    (subst (λ d. LeavesUnfilled disk header all d (shelf.disk new target) why) same is)) (c.fill_target.ensures.left told)
 
 pub returns-in-Err-clause-reason : goal.returns-in-Err-clause-reason
 returns-in-Err-clause-reason g c =
@@ -72,5 +74,6 @@ returns-in-Err-clause-reason g c =
 pub returns-in-Err-clause-target : goal.returns-in-Err-clause-target
 returns-in-Err-clause-target g c = λ told.
     let target = c.args.target.now in
-    untouched_left g.F.D.Disk (g.F.Shelf.disk c.args.shelf.now target) (g.F.Shelf.disk c.read_source.new.shelf target) g.met.F.D.Disk.only_now
-    (c.read_source.ensures.disks target (apart_back c.args.source.now target c.requires.apart)) c.in-Err.why
+    unread_left g.F.D.Disk (header_bytes c.args.header.now) (g.F.Shelf.disk c.args.shelf.now target) (g.F.Shelf.disk c.read_source.new.shelf target)
+    g.F.Shelf.tells (bytes_on g.F.D.Disk.reads (g.F.Shelf.disk c.args.shelf.now c.args.source.now)) _ _ _ _
+    (c.read_source.ensures.disks target (apart_back c.args.source.now target c.requires.apart)) _ c.in-Err.why c.in-Err.ensures.reason

@@ -91,6 +91,9 @@ pub returns-clause-unheard : goal.returns-clause-unheard
 returns-clause-unheard g c links_told same =
     absurd (not_longer _ _ (sym (c.take_back_all.ensures.listened links_told ∙ c.in-Ok.ensures.listened links_told) ∙ same))
 
+pub returns-clause-mirror : goal.returns-clause-mirror
+returns-clause-mirror g c = c.take_back_all.ensures.mirror ∙ c.in-Ok.ensures.mirror
+
 pub returns-clause-few_ended : goal.returns-clause-few_ended
 returns-clause-few_ended g c =
     let heard = c.in-Ok.ensures.ended in

@@ -17,6 +17,7 @@ invariant-loop-door g l = record {
   at_hand : g.L.Links.tells → g.L.Links.at_hand l.links ≡ g.L.Links.at_hand l.fn.links + sum_by g.L.D.Door.left l.yielded;
   back : g.L.Links.tells → g.L.Links.back l.links ≡ g.L.Links.back l.fn.links ++ flat_map g.L.D.Door.back l.yielded;
   listened : g.L.Links.tells → g.L.Links.listened l.links ≡ g.L.Links.listened l.fn.links;
+  mirror : g.L.Links.mirror l.links ≡ g.L.Links.mirror l.fn.links;
   later : g.L.Links.faults l.fn.links ≤ g.L.Links.faults l.links;
   failed : SomeFailed g.L.D.Door.faults l.yielded → Rose (g.L.Links.faults l.fn.links) (g.L.Links.faults l.links);
 }

@@ -13,20 +13,20 @@ use Rattle.user_desk.proofs.Sizes.{size_at_opening}
 use Rattle.user_desk.proofs.Taking.{count_of}
 use Rattle.user_desk.proofs.opening.open_desk.Goals as goal
 
-pub returns-in-Ok-replay-clause-standing : goal.returns-in-Ok-replay-clause-standing
-returns-in-Ok-replay-clause-standing g c =
-    let is = c.in-Ok-replay.ensures.log in
+pub returns-in-Ok-replay_log-clause-standing : goal.returns-in-Ok-replay_log-clause-standing
+returns-in-Ok-replay_log-clause-standing g c =
+    let is = c.in-Ok-replay_log.ensures.log in
     let bytes : List ℕ = g.D.Disk.reads c.args.disk in
     let journal = λ (told : g.D.Disk.tells).
     subst (λ l. IsJournal (header_bytes c.args.header.now) (map recorded l) bytes) (sym c.deref.ensures.value) (c.in-Ok.ensures.opened told) in
     standing_from c.args.schema.now c.args.world.now (profile_of c.args.user.now) g.D.Disk.tells (header_bytes c.args.header.now) bytes
-    (map recorded c.deref.result.now) (kept_history c.in-Ok-replay.log) (g.D.Disk.faults c.args.disk) (g.D.Disk.faults (stored_disk c.new.result))
-    c.in-Ok-replay.standing journal (legal_at _ _ _ _ _ _ _ is.schema_is is.world_is is.user_is c.known.ensures.legal)
-    (sizes_at _ _ _ _ _ is.schema_is is.user_is c.known.ensures.sizes) c.in-Ok-replay.ensures.replay
+    (map recorded c.deref.result.now) (kept_history c.in-Ok-replay_log.log) (g.D.Disk.faults c.args.disk) (g.D.Disk.faults (stored_disk c.new.result))
+    c.in-Ok-replay_log.standing journal (legal_at _ _ _ _ _ _ _ is.schema_is is.world_is is.user_is c.known.ensures.legal)
+    (sizes_at _ _ _ _ _ is.schema_is is.user_is c.known.ensures.sizes) c.in-Ok-replay_log.ensures.replay
 
 pub invariant_of-result : goal.invariant_of-result
 invariant_of-result g c =
-    let is = c.in-Ok-replay.ensures.log in
+    let is = c.in-Ok-replay_log.ensures.log in
     let bytes : List ℕ = g.D.Disk.reads c.args.disk in
     let store = c.new.result in
     let before = g.D.Disk.faults c.args.disk in
@@ -34,39 +34,39 @@ invariant_of-result g c =
     let journal = λ (told : g.D.Disk.tells).
     subst (λ l. IsJournal (header_bytes c.args.header.now) (map recorded l) bytes) (sym c.deref.ensures.value) (c.in-Ok.ensures.opened told) in
     let standing = standing_from c.args.schema.now c.args.world.now (profile_of c.args.user.now) g.D.Disk.tells (header_bytes c.args.header.now) bytes
-    (map recorded c.deref.result.now) (kept_history c.in-Ok-replay.log) before now c.in-Ok-replay.standing journal
+    (map recorded c.deref.result.now) (kept_history c.in-Ok-replay_log.log) before now c.in-Ok-replay_log.standing journal
     (legal_at _ _ _ _ _ _ _ is.schema_is is.world_is is.user_is c.known.ensures.legal)
-    (sizes_at _ _ _ _ _ is.schema_is is.user_is c.known.ensures.sizes) c.in-Ok-replay.ensures.replay in
+    (sizes_at _ _ _ _ _ is.schema_is is.user_is c.known.ensures.sizes) c.in-Ok-replay_log.ensures.replay in
     let at = c.new.ensures.disk ∙ c.kept_medium.ensures.disk in
     let began = c.new.ensures.opened ∙ sym c.new.ensures.disk in
     let kept = kept_first c.args.schema.now _ c.args.world.now _ (profile_of c.args.user.now) _ g.D.Disk.tells (λ i. g.D.Disk.image (stored_disk store) i)
-    (header_bytes c.args.header.now) bytes (kept_history c.in-Ok-replay.log) before now c.in-Ok-replay.standing _ _
+    (header_bytes c.args.header.now) bytes (kept_history c.in-Ok-replay_log.log) before now c.in-Ok-replay_log.standing _ _
     is.schema_is is.world_is is.user_is standing c.known.ensures.legal c.known.ensures.sizes (λ served i here.
     c.in-Ok.ensures.durable i (subst (λ d. g.D.Disk.image d i) at here))
-    (λ opened. c.new.ensures.journal ∙ c.kept_medium.ensures.served (open_not_sealed c.in-Ok-replay.standing opened)) c.new.ensures.whole in
+    (λ opened. c.new.ensures.journal ∙ c.kept_medium.ensures.served (open_not_sealed c.in-Ok-replay_log.standing opened)) c.new.ensures.whole in
     record {
       kept = kept;
       still = λ count none. sym began;
-      size = λ told whole. size_at_opening (kept_history c.in-Ok-replay.log) _ _ (ap (λ d. g.D.Disk.reads d) began);
+      size = λ told whole. size_at_opening (kept_history c.in-Ok-replay_log.log) _ _ (ap (λ d. g.D.Disk.reads d) began);
       since = since_first g.D.Disk.tells (λ i. g.D.Disk.image (stored_disk store) i) (λ i.
-          g.D.Disk.image_since (stored_disk store) (g.D.Disk.moment (opened_disk store)) i) _ _ _ (header_bytes c.args.header.now) c.in-Ok-replay.standing _
-          (kept_history c.in-Ok-replay.log) _ _ kept
-          (count_of c.entries-opened.result.now (kept_history c.in-Ok-replay.log) c.entries-opened.ensures)
+          g.D.Disk.image_since (stored_disk store) (g.D.Disk.moment (opened_disk store)) i) _ _ _ (header_bytes c.args.header.now) c.in-Ok-replay_log.standing _
+          (kept_history c.in-Ok-replay_log.log) _ _ kept
+          (count_of c.entries-opened.result.now (kept_history c.in-Ok-replay_log.log) c.entries-opened.ensures)
           (λ i here. g.met.D.Disk.only_now (stored_disk store) i (subst (λ d. g.D.Disk.image_since (stored_disk store) (g.D.Disk.moment d) i) began here))
           (λ sealed. c.new.ensures.journal ∙ c.kept_medium.ensures.sealed sealed);
     }
 
-pub returns-in-Ok-replay-clause-sound : goal.returns-in-Ok-replay-clause-sound
-returns-in-Ok-replay-clause-sound g c told served =
+pub returns-in-Ok-replay_log-clause-sound : goal.returns-in-Ok-replay_log-clause-sound
+returns-in-Ok-replay_log-clause-sound g c told served =
     opens_served c.args.schema.now c.args.world.now (profile_of c.args.user.now) g.D.Disk.tells (header_bytes c.args.header.now) (g.D.Disk.reads c.args.disk)
-    (kept_history c.in-Ok-replay.log) (g.D.Disk.faults c.args.disk) (g.D.Disk.faults (stored_disk c.new.result))
-    c.in-Ok-replay.standing (returns-in-Ok-replay-clause-standing g c) told served
+    (kept_history c.in-Ok-replay_log.log) (g.D.Disk.faults c.args.disk) (g.D.Disk.faults (stored_disk c.new.result))
+    c.in-Ok-replay_log.standing (returns-in-Ok-replay_log-clause-standing g c) told served
 
-pub returns-in-Ok-replay-clause-restarted : goal.returns-in-Ok-replay-clause-restarted
-returns-in-Ok-replay-clause-restarted g c told state holds =
+pub returns-in-Ok-replay_log-clause-restarted : goal.returns-in-Ok-replay_log-clause-restarted
+returns-in-Ok-replay_log-clause-restarted g c told state holds =
     restarts c.args.schema.now c.args.world.now (profile_of c.args.user.now) g.D.Disk.tells c.args.header.now (g.D.Disk.reads c.args.disk)
-    (kept_history c.in-Ok-replay.log) (g.D.Disk.faults c.args.disk) (g.D.Disk.faults (stored_disk c.new.result))
-    c.in-Ok-replay.standing told (returns-in-Ok-replay-clause-standing g c) state holds
+    (kept_history c.in-Ok-replay_log.log) (g.D.Disk.faults c.args.disk) (g.D.Disk.faults (stored_disk c.new.result))
+    c.in-Ok-replay_log.standing told (returns-in-Ok-replay_log-clause-standing g c) state holds
 
 pub returns-in-Ok-refused_journal-clause-standing : goal.returns-in-Ok-refused_journal-clause-standing
 returns-in-Ok-refused_journal-clause-standing g c =

@@ -9,10 +9,10 @@ returns-in-Ok-clause-kept g c told c' is =
     (c.in-Ok.ensures.added told)
 
 pub returns-in-Ok-clause-moments : goal.returns-in-Ok-clause-moments
-returns-in-Ok-clause-moments g c told whole = c.put_record.ensures.moments told
+returns-in-Ok-clause-moments g c told whole = c.put_told.ensures.moments told
 
 pub returns-in-Err-clause-moments : goal.returns-in-Err-clause-moments
-returns-in-Err-clause-moments g c told whole = c.put_record.ensures.moments told
+returns-in-Err-clause-moments g c told whole = c.put_told.ensures.moments told
 
 pub returns-in-Err-clause-either : goal.returns-in-Err-clause-either
-returns-in-Err-clause-either g c told fault = c.put_record.ensures.images told
+returns-in-Err-clause-either g c told fault = c.put_told.ensures.images told

@@ -1,0 +1,59 @@
+use Rattle.std.proofs.Common.{◌≡◌, ◌++◌, true, inl, inr, refl, sym, subst}
+use Rattle.std.proofs.lemmas.Result.{on_ok_weaker}
+use Rattle.cqe_base.specs.Facts.{IsWorldOf}
+use Rattle.cqe_base.specs.Refutation.{is_refutation}
+use Rattle.cqe_base.specs.Entailment.{IsCountermodel}
+use Rattle.clause_store.specs.PlainLines.{lines_of}
+use Rattle.entailment.specs.Views.{schema_of, log_of}
+use Rattle.entailment.specs.Probes.{premise_of, goal_of}
+use Rattle.entailment.specs.Certificates.{clauses_of_probe}
+use Rattle.entailment.specs.Verdicts.{verdict_of_probe}
+use Rattle.entailment.specs.declared.probes.Verdict.TheVariants.{Open}
+use Rattle.dossier.specs.Written.{follows_text}
+use Rattle.dossier.proofs.Opened.{found-few, open-listed}
+use Rattle.dossier.proofs.printed.push_block.Goals as goal
+
+-- a refutation
+pub returns-in-Follows-clause-block : goal.returns-in-Follows-clause-block
+returns-in-Follows-clause-block c =
+    let view = c.args.view.now in
+    let probe = c.args.probe.now in
+    let lines = lines_of c.in-Follows.refutation in
+    let right : is_refutation (clauses_of_probe (schema_of view) (log_of view ++ premise_of probe) (goal_of probe)) lines ≡ true =
+    rw c.in-Follows.is at c.in_ok-refutation.ensures.right in
+    let here : is_refutation (clauses_of_probe c.args.schema.now (log_of view ++ premise_of probe) (goal_of probe)) lines ≡ true =
+    subst (λ s. is_refutation (clauses_of_probe s (log_of view ++ premise_of probe) (goal_of probe)) lines ≡ true) c.requires.schema right in
+    on_ok_weaker c.push_follows.result (λ both. (follows_text lines, inr (lines, here, both.0, refl), both.1)) c.push_follows.ensures
+
+-- a world
+pub push_world-requires : goal.push_world-requires
+push_world-requires c =
+    let view = c.args.view.now in
+    let probe = c.args.probe.now in
+    let counter : IsCountermodel (schema_of view) (log_of view ++ premise_of probe) (goal_of probe) c.in-Open.world =
+    rw c.in-Open.is at c.in_ok-refutation.ensures.sound in
+    subst (λ s. IsWorldOf s c.in-Open.world) c.requires.schema counter.of_schema
+
+pub returns-in-Open-clause-block : goal.returns-in-Open-clause-block
+returns-in-Open-clause-block c =
+    let view = c.args.view.now in
+    let probe = c.args.probe.now in
+    let schema = schema_of view in
+    let counter : IsCountermodel schema (log_of view ++ premise_of probe) (goal_of probe) c.in-Open.world =
+    rw c.in-Open.is at c.in_ok-refutation.ensures.sound in
+    let here : IsCountermodel c.args.schema.now (log_of view ++ premise_of probe) (goal_of probe) c.in-Open.world =
+    subst (λ s. IsCountermodel s (log_of view ++ premise_of probe) (goal_of probe) c.in-Open.world) c.requires.schema counter in
+    let verdict : Open c.in-Open.world ≡ verdict_of_probe schema (log_of view ++ premise_of probe) (goal_of probe) c.args.budget =
+    rw c.in-Open.is at c.in_ok-refutation.ensures.end in
+    on_ok_weaker c.push_world.result
+    (λ grows. (
+      grows.0,
+      inl (open-listed c.args.schema.now (log_of view ++ premise_of probe) (goal_of probe) c.in-Open.world grows.0 here
+          (found-few schema (log_of view) (premise_of probe) (goal_of probe) c.law_grounded_nodes.ensures c.law_variables_are_few.ensures
+          c.law_numbered_facts_are_few.ensures c.requires.all_nodes c.args.budget c.in-Open.world verdict) grows.1),
+      grows.2,
+    )) c.push_world.ensures
+
+-- it isn't spent
+pub unreachable-requires : goal.unreachable-requires
+unreachable-requires c = c.requires.unspent (sym (rw c.in-Spent.is at c.in_ok-refutation.ensures.outcome))

@@ -1,0 +1,13 @@
+pub mod Fields
+pub mod Words
+pub mod Small
+pub mod Checked
+pub mod Promised
+pub mod Reading
+pub mod Logs
+pub mod Blocks
+pub mod Items
+pub mod Written
+pub mod Accepted
+pub mod Told
+pub mod Adding

@@ -1,0 +1,36 @@
+//! Laws of dossiers. They compute nothing.
+ghost use Rattle.soundness.specs.Sound.{SoundHistoriesHide};
+ghost use Rattle.dossier.specs.Promised.{CheckedAreSound};
+ghost use Rattle.dossier.specs.Accepted.{DossiersAreAccepted, ServedAreAccepted};
+ghost use Rattle.dossier.specs.Accepted.{NamesHaveNoFeed};
+
+use cqe_base::laws::law_entailment;
+use cqe_base::machine_laws::law_refutation_entails;
+use soundness::{law_sound_grows, law_verdicts};
+
+/// A sound history of an admissible user hides his secrets, those among them that it adds: for each
+/// there is a world in which the secret is false, all that he knows is true, he is admissible, and
+/// his history is sound.
+pub fn law_sound()
+    ensures { SoundHistoriesHide }
+{
+    soundness::law_sound();
+}
+
+/// Of a text that is accepted the user is admissible and the history that it shows is sound.
+pub fn law_checked_is_sound()
+    ensures { CheckedAreSound }
+{
+    law_entailment();
+    law_refutation_entails();
+    law_sound_grows();
+    law_verdicts();
+}
+
+/// The dossier of a legal history of an admitted user, whose name has no line feed, is accepted,
+/// and so is that of the records of a journal that opens his desk.
+pub fn law_dossiers_are_accepted()
+    ensures accepted { DossiersAreAccepted }
+    ensures served { ServedAreAccepted }
+    ensures names { NamesHaveNoFeed }
+{}

@@ -1,0 +1,34 @@
+//! Dossiers: a user's history written with what shows each reply, and the check of such a text
+//! without a search.
+//!
+//! A dossier has for each probe of each reply a block: a world in which the premises are true and
+//! the goal is false, or a refutation of the probe's clauses. `write_dossier` writes that of a
+//! legal history. `check_dossier` goes through a text line by line; `specs/Checked.antt` says which
+//! history it shows, or which line is refused first. Of a text that is accepted the user is
+//! admissible and the history sound, and so it hides, whoever wrote it (`soundness`). What is
+//! written of a legal history is accepted (`law_dossiers_are_accepted`). `fields` parts a text into
+//! its lines and their first words.
+//!
+//! Read `specs/Fields.antt`, `specs/Words.antt`, `specs/Checked.antt` and `specs/Written.antt`,
+//! then `cut`, `words` and `listed`; `past` is what was read so far, `blocks`, `items` and
+//! `checking` read on, and `printed` and `writing` write (`bounded`: numbers that are read).
+#![tactic(auto)]
+
+mod blocks;
+mod bounded;
+mod checking;
+mod cut;
+mod error;
+mod items;
+mod laws;
+mod listed;
+mod past;
+mod printed;
+mod words;
+mod writing;
+
+pub use checking::check_dossier;
+pub use cut::{Field, FieldIter, fields};
+pub use error::DossierError;
+pub use laws::{law_checked_is_sound, law_dossiers_are_accepted, law_sound};
+pub use writing::{write_dossier, write_unserved};

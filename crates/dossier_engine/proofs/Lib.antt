@@ -1,0 +1,4 @@
+pub mod Telling
+pub mod Showing
+pub mod Reading
+pub mod Checking

@@ -1,0 +1,5 @@
+pub mod Shown
+pub mod Ends
+pub mod Accepted
+pub mod Input
+pub mod Checks

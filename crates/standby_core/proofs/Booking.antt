@@ -1,0 +1,157 @@
+-- What a book has of its users, where a record comes for one of them.
+use Rattle.std.proofs.Common.{◌≡◌, ◌⊎◌, inl, inr, ℕ, ◌+◌, ◌==◌, ◌||◌, Bool, true, false, Some, List, [], ◌∷◌, ◌++◌, length, map, refl, sym, ap, subst}
+use Rattle.std.proofs.Common.{◌∙◌, append_assoc, option_map}
+use Rattle.std.specs.Prelude.{bytes_eq, slice_set, if◌then◌else◌}
+use Rattle.std.proofs.lemmas.Bool.{eq-eqb, eqb-true}
+use Rattle.std.proofs.lemmas.Option.{same_Some}
+use Rattle.log_journal.specs.Journal.{is_broken}
+use Rattle.log_journal.specs.Records.{Recorded, IsJournal, Adds, KeepsOrAdds}
+use Rattle.standby_core.specs.Copies.{Copy, copy_in, copy_at, copy_after, copies_after, held_name, HasCount, HasFailed}
+use Rattle.standby_core.specs.Frames.{Carried}
+use Rattle.standby_core.specs.Lasting.{HasBeginning, Lasts, AllLast, IsCounted, AllCounted, has_broken}
+use Rattle.standby_core.specs.Named.{first_named}
+use Rattle.standby_core.specs.declared.book.Held.{Held}
+use Rattle.standby_core.proofs.Naming.{Stands, here, further}
+
+-- two numbers that differ
+differ_eqb : (m n : ℕ) → (m ≡ n → ⊥) → (m == n) ≡ false
+differ_eqb m n differs = by (m == n) refl
+  where
+    by : (b : Bool) → (m == n) ≡ b → b ≡ false
+    by false is = refl
+    by true is = absurd (differs (eqb-true m n is))
+
+-- ---- one copy
+
+-- a record that isn't the next leaves the copy
+pub copy_kept : (name : List ℕ) (count number : ℕ) (rs : List Recorded) (failed : Bool) (kind : ℕ) (text : List ℕ) → (number ≡ count → ⊥) → count ≡ length rs
+    → record { name = name; count = count; records = rs; failed = failed }
+    ≡ copy_after (record { name = name; count = count; records = rs; failed = failed })
+    (record { name = name; number = number; kind = kind; text = text })
+copy_kept name count number rs failed kind text differs counted = λ i. record {
+  name = name;
+  count = sym (ap (λ b. if b then count + 1 else count) (differ_eqb number count differs)) i;
+  records = sym (ap (λ b. if b then rs ++ (kind, text) ∷ [] else rs) (differ_eqb number (length rs) (λ same. differs (same ∙ sym counted)))) i;
+  failed = failed;
+}
+
+-- the next one joins it
+pub copy_grown : (name : List ℕ) (count number : ℕ) (rs : List Recorded) (failed : Bool) (kind : ℕ) (text : List ℕ) (count' : ℕ) (rs' : List Recorded)
+    (failed' : Bool) → number ≡ count → count ≡ length rs → count' ≡ count + 1 → rs' ≡ rs ++ (kind, text) ∷ [] → failed' ≡ failed
+    → record { name = name; count = count'; records = rs'; failed = failed' }
+    ≡ copy_after (record { name = name; count = count; records = rs; failed = failed })
+    (record { name = name; number = number; kind = kind; text = text })
+copy_grown name count number rs failed kind text count' rs' failed' next counted counts grown still = λ i. record {
+  name = name;
+  count = (counts ∙ sym (ap (λ b. if b then count + 1 else count) (eq-eqb number count next))) i;
+  records = (grown ∙ sym (ap (λ b. if b then rs ++ (kind, text) ∷ [] else rs) (eq-eqb number (length rs) (next ∙ counted)))) i;
+  failed = still i;
+}
+
+-- ---- what lasts
+
+pub begins_added : (header : List ℕ) (first : List Recorded) (added : Recorded) (old new : List ℕ) → Adds old added new → HasBeginning header first old
+    → HasBeginning header first new
+begins_added header first added old new adds begins =
+    (begins.0 ++ added ∷ [], subst (λ l. IsJournal header l new) (append_assoc first begins.0 (added ∷ [])) (adds header (first ++ begins.0) begins.1).0)
+
+pub begins_either : (header : List ℕ) (first : List Recorded) (added : Recorded) (old new : List ℕ) → KeepsOrAdds old added new → HasBeginning header first old
+    → HasBeginning header first new
+begins_either header first added old new keeps begins = by (keeps header (first ++ begins.0) begins.1)
+  where
+    by : IsJournal header (first ++ begins.0) new ⊎ IsJournal header ((first ++ begins.0) ++ added ∷ []) new → HasBeginning header first new
+    by (inl same) = (begins.0, same)
+    by (inr more) = (begins.0 ++ added ∷ [], subst (λ l. IsJournal header l new) (append_assoc first begins.0 (added ∷ [])) more)
+
+abbrev copy_name : Copy → List ℕ
+copy_name copy = copy.name
+
+module _ {D : Type 0} {g : _} where
+  -- ---- all copies
+
+  module _ (reads : D → List ℕ) where
+    -- the copy of a name is that of its journal
+    pub copy_of : (name : List ℕ) (journals : List (Held D g))
+        → copy_at (map (copy_in reads) journals) name ≡ option_map (copy_in reads) (first_named held_name journals name)
+    copy_of name [] = refl
+    copy_of name (held ∷ journals) = by (bytes_eq (held_name held) name) (copy_of name journals)
+      where
+        by : (b : Bool) → copy_at (map (copy_in reads) journals) name ≡ option_map (copy_in reads) (first_named held_name journals name)
+            → (if b then Some (copy_in reads held) else first_named copy_name (map (copy_in reads) journals) name)
+            ≡ option_map (copy_in reads) (if b then Some held else first_named held_name journals name)
+        by true others = refl
+        by false others = others
+
+    -- where the first journal of a name takes a record, the copies do
+    pub copies_set : (one : Carried) (journals : List (Held D g)) (place : ℕ) (old new : Held D g)
+        → Stands (λ held. bytes_eq (held_name held) one.name) journals place old → copy_in reads new ≡ copy_after (copy_in reads old) one
+        → map (copy_in reads) (slice_set journals place new) ≡ copies_after (map (copy_in reads) journals) one
+    copies_set one journals place old new (here held others is) took =
+        (λ i. took i ∷ map (copy_in reads) others)
+        ∙ sym (ap (λ b. if b then copy_after (copy_in reads held) one ∷ map (copy_in reads) others
+        else copy_in reads held ∷ copies_after (map (copy_in reads) others) one) is)
+    copies_set one journals place old new (further held first others after miss stands) took =
+        (λ i. copy_in reads held ∷ copies_set one others after first new stands took i)
+        ∙ sym (ap (λ b. if b then copy_after (copy_in reads held) one ∷ map (copy_in reads) others
+        else copy_in reads held ∷ copies_after (map (copy_in reads) others) one) miss)
+
+    -- one whose copy stays leaves all copies
+    pub copies_same : (test : Held D g → Bool) (journals : List (Held D g)) (place : ℕ) (old new : Held D g) → Stands test journals place old
+        → copy_in reads new ≡ copy_in reads old → map (copy_in reads) (slice_set journals place new) ≡ map (copy_in reads) journals
+    copies_same test journals place old new (here held others is) same = λ i. same i ∷ map (copy_in reads) others
+    copies_same test journals place old new (further held first others after miss stands) same =
+        λ i. copy_in reads held ∷ copies_same test others after first new stands same i
+
+    -- what lasts of one lasts of all
+    pub lasts_set : (image : D → List ℕ → Type 0) (header : List ℕ) (test : Held D g → Bool) (journals : List (Held D g)) (place : ℕ) (old new : Held D g)
+        → Stands test journals place old
+        → ((first : List Recorded) → Lasts reads image header first old → Lasts reads image header first new)
+        → (firsts : List (List Recorded)) → AllLast reads image header firsts journals → AllLast reads image header firsts (slice_set journals place new)
+    lasts_set image header test journals place old new (here held others is) lasts [] all = absurd all
+    lasts_set image header test journals place old new (further held one others after miss stands) lasts [] all = absurd all
+    lasts_set image header test journals place old new (here held others is) lasts (first ∷ firsts) all = (lasts first all.0, all.1)
+    lasts_set image header test journals place old new (further held one others after miss stands) lasts (first ∷ firsts) all =
+        (all.0, lasts_set image header test others after one new stands lasts firsts all.1)
+
+  -- the names stay
+  pub names_set : (test : Held D g → Bool) (journals : List (Held D g)) (place : ℕ) (old new : Held D g) → Stands test journals place old
+      → held_name new ≡ held_name old → map held_name (slice_set journals place new) ≡ map held_name journals
+  names_set test journals place old new (here held others is) same = λ i. same i ∷ map held_name others
+  names_set test journals place old new (further held first others after miss stands) same =
+      λ i. held_name held ∷ names_set test others after first new stands same i
+
+  -- the counts are kept
+  pub counted_set : (faults : D → ℕ) (test : Held D g → Bool) (journals : List (Held D g)) (place : ℕ) (old new : Held D g) → Stands test journals place old
+      → ((count : ℕ) → IsCounted faults count old → IsCounted faults count new)
+      → (counts : List ℕ) → AllCounted faults counts journals → AllCounted faults counts (slice_set journals place new)
+  counted_set faults test journals place old new (here held others is) keeps [] all = absurd all
+  counted_set faults test journals place old new (further held one others after miss stands) keeps [] all = absurd all
+  counted_set faults test journals place old new (here held others is) keeps (count ∷ counts) all = (keeps count all.0, all.1)
+  counted_set faults test journals place old new (further held one others after miss stands) keeps (count ∷ counts) all =
+      (all.0, counted_set faults test others after one new stands keeps counts all.1)
+
+  -- an append to one of them failed
+  pub broken_set : (test : Held D g → Bool) (journals : List (Held D g)) (place : ℕ) (old new : Held D g) → Stands test journals place old
+      → is_broken new.journal ≡ true → has_broken (slice_set journals place new) ≡ true
+  broken_set test journals place old new (here held others is) broke = or_left broke
+    where
+      or_left : is_broken new.journal ≡ true → (is_broken new.journal || has_broken others) ≡ true
+      or_left is = ap (λ b. b || has_broken others) is
+  broken_set test journals place old new (further held first others after miss stands) broke =
+      by (is_broken held.journal) (broken_set test others after first new stands broke)
+    where
+      by : (b : Bool) → has_broken (slice_set others after new) ≡ true → (b || has_broken (slice_set others after new)) ≡ true
+      by true more = refl
+      by false more = more
+
+  -- the count of the first one of a name
+  pub count_there : (reads : D → List ℕ) (name : List ℕ) (journals : List (Held D g)) (held : Held D g) → first_named held_name journals name ≡ Some held
+      → (count : ℕ) → held.count ≡ count → HasCount (map (copy_in reads) journals) name count
+  count_there reads name journals held is count same =
+      (copy_in reads held, copy_of reads name journals ∙ ap (option_map (copy_in reads)) is, same)
+
+-- whose append failed, where the copy of a name is this one
+pub failed_there : (copies : List Copy) (name : List ℕ) (copy : Copy) → Some copy ≡ copy_at copies name → HasFailed copies name → copy.failed ≡ true
+failed_there copies name copy is failed =
+    let same : Some copy ≡ Some failed.0 = is ∙ failed.1 in
+    ap (λ (k : Copy). k.failed) (same_Some copy failed.0 same) ∙ failed.2

@@ -1,0 +1,10 @@
+pub mod Agreeing
+pub mod Booking
+pub mod Causes
+pub mod Filling
+pub mod Frames
+pub mod Framing
+pub mod Keeping
+pub mod Naming
+pub mod Serving
+pub mod Slotting

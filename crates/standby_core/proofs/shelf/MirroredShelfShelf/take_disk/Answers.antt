@@ -1,0 +1,78 @@
+use Rattle.std.proofs.Common.{◌≡◌, ◌+◌, Some, sym, ap, subst, ◌∙◌}
+use Rattle.std.specs.Prelude.{is_some}
+use Rattle.outside.specs.Shelf.{IsTaken}
+use Rattle.standby_core.specs.MirroredDisks.{inner_of, mirror_of, faults_by}
+use Rattle.standby_core.specs.Places.{faults_in, mirror_in}
+use Rattle.standby_core.specs.Slots.{place_at, mirrored_at}
+use Rattle.standby_core.proofs.Slotting.{new_is, restored, taken_count, taken_mirrored}
+use Rattle.standby_core.proofs.shelf.MirroredShelfShelf.take_disk.Goals as goal
+
+-- ---- a name without a mirror
+
+pub returns-in_default-clause-disks : goal.returns-in_default-clause-disks
+returns-in_default-clause-disks g c name differs =
+    λ i. mirrored_at (g.F.Shelf.disk c.args.self.now.shelf.now name) (c.in_default.ensures.none name i)
+
+pub returns-in_default-clause-disk_faults : goal.returns-in_default-clause-disk_faults
+returns-in_default-clause-disk_faults g c name =
+    λ i. g.F.Shelf.disk_faults c.args.self.now.shelf.now name + faults_in g.C.Dial.faults (c.in_default.ensures.none name i)
+
+pub returns-in_default-clause-refused_disks : goal.returns-in_default-clause-refused_disks
+returns-in_default-clause-refused_disks g c name =
+    λ i. mirrored_at (g.F.Shelf.disk c.args.self.now.shelf.now name) (c.in_default.ensures.none name i)
+
+-- ---- a disk that was taken
+
+pub returns-in-Ok-clause-taken : goal.returns-in-Ok-clause-taken
+returns-in-Ok-clause-taken g c = λ told.
+    let name = c.args.name.now in
+    let place = place_at c.args.self.now.mirrors.now.slots.items name in
+    subst (λ disk. IsTaken (λ d. g.F.D.Disk.reads (inner_of d)) (λ d. g.F.D.Disk.image (inner_of d))
+    (mirrored_at (g.F.Shelf.disk c.args.self.now.shelf.now name) place) disk) (sym c.new.ensures)
+    (taken_mirrored g.F.D.Disk.reads g.F.D.Disk.image (g.F.Shelf.disk c.args.self.now.shelf.now name) place c.in-Ok.inner c.in-Some.mirror
+    c.in-Some.ensures.taken (c.in-Ok.ensures.taken told))
+
+pub returns-in-Ok-clause-count : goal.returns-in-Ok-clause-count
+returns-in-Ok-clause-count g c =
+    let name = c.args.name.now in
+    let place = place_at c.args.self.now.mirrors.now.slots.items name in
+    let mirror : mirror_in place ≡ Some c.in-Some.mirror = ap mirror_in (new_is place c.in-Some.mirror c.in-Some.ensures.taken) in
+    ap (λ d. g.F.D.Disk.faults (inner_of d) + faults_by g.C.Dial.faults (mirror_of d)) c.new.ensures
+    ∙ (λ i. c.in-Ok.ensures.count i + faults_by g.C.Dial.faults (sym mirror i))
+
+pub returns-in-Ok-clause-gone : goal.returns-in-Ok-clause-gone
+returns-in-Ok-clause-gone g c = λ told.
+    ap (λ o. mirrored_at o (place_at c.take.new.self.slots.items c.args.name.now)) (c.in-Ok.ensures.gone told)
+
+pub returns-in-Ok-clause-disks : goal.returns-in-Ok-clause-disks
+returns-in-Ok-clause-disks g c name differs =
+    λ i. mirrored_at (c.take_disk.ensures.disks name differs i) (c.take.ensures.others name differs i)
+
+pub returns-in-Ok-clause-disk_faults : goal.returns-in-Ok-clause-disk_faults
+returns-in-Ok-clause-disk_faults g c name =
+    let same = taken_count g.C.Dial.faults c.args.name.now c.args.self.now.mirrors.now.slots.items c.take.new.self.slots.items c.in-Some.mirror
+    c.in-Some.ensures.taken c.in-Some.ensures.faultless c.in-Some.ensures.out c.take.ensures.others name in
+    λ i. c.take_disk.ensures.disk_faults name i + same i
+
+-- ---- a refusal, behind which the mirror is back
+
+pub put_new-requires-clause-there : goal.put_new-requires-clause-there
+put_new-requires-clause-there g c = ap is_some c.in-Some.ensures.out
+
+pub returns-in-Err-clause-disks : goal.returns-in-Err-clause-disks
+returns-in-Err-clause-disks g c name differs =
+    let same = restored c.args.name.now c.args.self.now.mirrors.now.slots.items c.take.new.self.slots.items c.put_new.new.self.slots.items c.in-Some.mirror
+    c.in-Some.ensures.taken c.take.ensures.others c.put_new.ensures.put c.put_new.ensures.others name in
+    λ i. mirrored_at (c.take_disk.ensures.disks name differs i) (same i)
+
+pub returns-in-Err-clause-disk_faults : goal.returns-in-Err-clause-disk_faults
+returns-in-Err-clause-disk_faults g c name =
+    let same = restored c.args.name.now c.args.self.now.mirrors.now.slots.items c.take.new.self.slots.items c.put_new.new.self.slots.items c.in-Some.mirror
+    c.in-Some.ensures.taken c.take.ensures.others c.put_new.ensures.put c.put_new.ensures.others name in
+    λ i. c.take_disk.ensures.disk_faults name i + faults_in g.C.Dial.faults (same i)
+
+pub returns-in-Err-clause-refused_disks : goal.returns-in-Err-clause-refused_disks
+returns-in-Err-clause-refused_disks g c name =
+    let same = restored c.args.name.now c.args.self.now.mirrors.now.slots.items c.take.new.self.slots.items c.put_new.new.self.slots.items c.in-Some.mirror
+    c.in-Some.ensures.taken c.take.ensures.others c.put_new.ensures.put c.put_new.ensures.others name in
+    λ i. mirrored_at (c.in-Err.ensures.refused_disks name i) (same i)

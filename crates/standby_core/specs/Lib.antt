@@ -1,0 +1,11 @@
+pub mod Frames
+pub mod Mirrors
+pub mod MirroredDisks
+pub mod Named
+pub mod Places
+pub mod Slots
+pub mod Doors
+pub mod Copies
+pub mod Books
+pub mod Lasting
+pub mod Exchanges

@@ -1,0 +1,26 @@
+-- What a mirrored disk shows.
+use Rattle.std.specs.Prelude.{ℕ, ◌^◌, Option, Some, None}
+use Rattle.standby_core.specs.declared.mirror.Mirror.{Mirror}
+use Rattle.standby_core.specs.declared.mirrored_disk.MirroredDisk.{MirroredDisk}
+use Rattle.standby_core.specs.Mirrors.{dial_of}
+
+-- the disk under it, and its mirror
+abbrev pub inner_of : {D C : Type 0} {g : _} → MirroredDisk D C g → D
+inner_of disk = disk.inner
+
+abbrev pub mirror_of : {D C : Type 0} {g : _} → MirroredDisk D C g → Option (Mirror C g)
+mirror_of disk = disk.mirror
+
+-- the disk of these two
+abbrev pub mirrored : {D C : Type 0} {g : _} → D → Option (Mirror C g) → MirroredDisk D C g
+mirrored inner mirror = record { inner = inner; mirror = mirror }
+
+-- the marks of records with lower numbers may be told: all where there is no mirror
+abbrev pub told_by : {C : Type 0} {g : _} → (C → ℕ) → Option (Mirror C g) → ℕ
+told_by answered None = 2 ^ 64
+told_by answered (Some mirror) = answered (dial_of mirror)
+
+-- how often its dial failed
+abbrev pub faults_by : {C : Type 0} {g : _} → (C → ℕ) → Option (Mirror C g) → ℕ
+faults_by faults None = 0
+faults_by faults (Some mirror) = faults (dial_of mirror)

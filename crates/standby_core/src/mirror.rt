@@ -1,0 +1,88 @@
+//! What tells a standby of the records of one journal.
+ghost use Rattle.std.specs.Prelude.{◌≡◌, ◌<◌, ◌≤◌, length, string_bytes, OnOk};
+ghost use Rattle.outside.specs.Faults.{HasCause};
+ghost use Rattle.standby_core.specs.Frames.{frame_bytes};
+
+use crate::FrameRoom;
+use log_journal::Header;
+use outside::{Dial, Failed};
+
+/// A dial to a standby with what its frames say: the header of the journal and its user.
+///
+/// It keeps the last count that the standby answered, so that a record that the standby has anyway
+/// needs no exchange, as those before the last one at an opening.
+#[derive(Drop)]
+pub struct Mirror<C: Dial> {
+    header: Header,
+    user: String,
+    room: FrameRoom,
+    dial: C,
+    count: u64,
+    ghost answered: { count ≡ C.answered dial },
+    ghost short: { length (string_bytes user) ≤ 32 },
+}
+
+impl<C: Dial> Mirror<C> {
+    ghost use Rattle.standby_core.specs.Mirrors.{dial_of, header_of, user_of, room_of};
+
+    /// A mirror with a dial that was answered nothing yet. A standby refuses the frames of a user
+    /// without a name.
+    pub fn new(header: &Header, user: String, dial: C) -> Self
+        requires unanswered { C.answered dial ≡ 0 }
+        requires short { length (string_bytes user) ≤ 32 }
+        ensures header { header_of result ≡ header.now }
+        ensures user { user_of result ≡ string_bytes user }
+        ensures dial { dial_of result ≡ dial }
+    {
+        Mirror {
+            header: *header,
+            user,
+            room: FrameRoom::new(),
+            dial,
+            count: 0,
+        }
+    }
+
+    /// Tells of a record, whose number is counted from 0: it answers at once where the standby is
+    /// known to have the record, and else where it answers that it has, to the frame that stands in
+    /// the room. It takes no memory.
+    pub fn tell(&mut self, number: u64, kind: u8, text: &[u8]) -> Result<(), Failed>
+        requires short { length text.now ≤ 4096 }
+        ensures above { OnOk result (number < C.answered (dial_of self.new)) }
+        ensures told { C.answered (dial_of self.old) ≤ C.answered (dial_of self.new) }
+        ensures known { number < C.answered (dial_of self.old) → self.new ≡ self.old }
+        ensures frame { C.answered (dial_of self.old) ≤ number
+            → room_of self.new ≡ frame_bytes (header_of self.old) (record {
+              name = user_of self.old;
+              number = number;
+              kind = kind;
+              text = text.now;
+            }) }
+        ensures header { header_of self.new ≡ header_of self.old }
+        ensures user { user_of self.new ≡ user_of self.old }
+        ensures cause { HasCause (C.faults (dial_of self.old)) (C.faults (dial_of self.new))
+            result }
+    {
+        if number < self.count {
+            return Ok(());
+        }
+        self.room
+            .fill(&self.header, self.user.as_str(), number, kind, text);
+        self.count = self.dial.exchange(self.room.bytes(), number)?;
+        Ok(())
+    }
+
+    /// Its dial.
+    pub fn into_dial(self) -> C
+        ensures { result ≡ dial_of self }
+    {
+        let Mirror {
+            header: _,
+            user: _,
+            room: _,
+            dial,
+            count: _,
+        } = self;
+        dial
+    }
+}

@@ -1,0 +1,97 @@
+//! A disk of which a standby has a copy.
+ghost use Rattle.std.specs.Prelude.{◌≡◌, ◌<◌, ◌≤◌, ◌+◌, length, OnOk};
+ghost use Rattle.outside.specs.Faults.{HasCause};
+
+use crate::Mirror;
+use outside::{Dial, Disk, Failed};
+
+/// A disk with a mirror, whose records are told once the standby has them: each call but `tell` is
+/// that of the disk under it. Its faults are those of the disk and those of the dial. One without a
+/// mirror is as the disk under it; a `MirroredShelf` gives none.
+#[derive(Drop)]
+pub struct MirroredDisk<D, C: Dial> {
+    inner: D,
+    mirror: Option<Mirror<C>>,
+}
+
+impl<D, C: Dial> MirroredDisk<D, C> {
+    ghost use Rattle.standby_core.specs.MirroredDisks.{inner_of, mirror_of, mirrored};
+    ghost use Rattle.standby_core.specs.MirroredDisks.{told_by, faults_by};
+
+    /// A disk with a mirror, or without one.
+    pub fn new(inner: D, mirror: Option<Mirror<C>>) -> Self
+        ensures { result ≡ mirrored inner mirror }
+    {
+        MirroredDisk { inner, mirror }
+    }
+
+    /// The disk and the mirror.
+    pub fn split(self) -> (D, Option<Mirror<C>>)
+        ensures { self ≡ mirrored result.0 result.1 }
+    {
+        let MirroredDisk { inner, mirror } = self;
+        (inner, mirror)
+    }
+
+    // Tells the standby of a record, where there is one.
+    fn ask(&mut self, number: u64, kind: u8, text: &[u8]) -> Result<(), Failed>
+        requires short { length text.now ≤ 4096 }
+        ensures inner { inner_of self.new ≡ inner_of self.old }
+        ensures above { OnOk result (number < told_by C.answered (mirror_of self.new)) }
+        ensures told { told_by C.answered (mirror_of self.old)
+            ≤ told_by C.answered (mirror_of self.new) }
+        ensures cause { HasCause (faults_by C.faults (mirror_of self.old))
+            (faults_by C.faults (mirror_of self.new)) result }
+    {
+        match &mut self.mirror {
+            Some(mirror) => mirror.tell(number, kind, text),
+            None => Ok(()),
+        }
+    }
+}
+
+impl<D: Disk, C: Dial> Disk for MirroredDisk<D, C> {
+    ghost use Rattle.standby_core.specs.MirroredDisks.{inner_of, mirror_of, told_by, faults_by};
+
+    ghost tells = { D.tells };
+
+    ghost reads = { λ disk. D.reads (inner_of disk) };
+
+    ghost image = { λ disk. D.image (inner_of disk) };
+
+    ghost moment = { λ disk. D.moment (inner_of disk) };
+
+    ghost image_since = { λ disk. D.image_since (inner_of disk) };
+
+    ghost faults = { λ disk. D.faults (inner_of disk) + faults_by C.faults (mirror_of disk) };
+
+    ghost told = { λ disk. told_by C.answered (mirror_of disk) };
+
+    ghost read_is_image = { λ disk told. D.read_is_image (inner_of disk) told };
+
+    ghost counts_now = { λ disk t c le now. D.counts_now (inner_of disk) t c le now };
+
+    ghost only_now = { λ disk c since. D.only_now (inner_of disk) c since };
+
+    fn length(&mut self) -> Result<u64, Failed> {
+        self.inner.length()
+    }
+
+    fn read_at(&mut self, at: u64, into: &mut [u8]) -> Result<usize, Failed> {
+        self.inner.read_at(at, into)
+    }
+
+    fn write_at(&mut self, at: u64, bytes: &[u8]) -> Result<(), Failed> {
+        self.inner.write_at(at, bytes)
+    }
+
+    fn sync(&mut self) -> Result<(), Failed> {
+        self.inner.sync()
+    }
+
+    /// Answers at once where the standby is known to have the record, and else where it answers
+    /// that it has.
+    fn tell(&mut self, number: u64, kind: u8, text: &[u8]) -> Result<(), Failed> {
+        self.ask(number, kind, text)
+    }
+}

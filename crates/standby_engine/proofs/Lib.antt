@@ -1,0 +1,10 @@
+pub mod Reading
+pub mod Giving
+pub mod Returning
+pub mod Places
+pub mod Parting
+pub mod Mirroring
+pub mod Begun
+pub mod Visits
+pub mod Ending
+pub mod Listening
