@@ -79,6 +79,7 @@ abbrev pub batch_reading : FileNames → ℕ → Option (List ℕ) → Reading
 batch_reading files workers None = runs_batch files workers
 batch_reading files workers (Some standby) = runs_copied_batch files workers standby
 
+-- a batch over these files, where all is said but perhaps a standby
 abbrev pub batch_said : Option FileNames → Option ℕ → Option (List ℕ) → Option Reading
 batch_said (Some files) (Some workers) standby = Some (batch_reading files workers standby)
 batch_said _ _ _ = None
@@ -100,6 +101,7 @@ serve_reading files address workers sessions None = runs_serve files address wor
 serve_reading files address workers sessions (Some standby) =
     runs_copied_serve files address workers sessions standby
 
+-- a server over these files, where all is said but perhaps a standby
 abbrev pub serve_said : Option FileNames → Option (List ℕ) → Option ℕ → Option ℕ
     → Option (List ℕ) → Option Reading
 serve_said (Some files) (Some address) (Some workers) (Some sessions) standby =

@@ -68,6 +68,7 @@ pub fn top<
 where
     F::D: Send,
     requires inside { NoneOut (F.is_out shelf.old) }
+    ensures inside { NoneOut (F.is_out shelf.new) }
     ensures promise { Promise (map string_bytes words.now)
         (scene_of (shelf_of F.Shelf F.D.Disk shelf.old shelf.new)
         (input_of S.Source source.old source.new) (output_of K.Sink sink.old sink.new)

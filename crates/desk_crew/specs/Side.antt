@@ -74,6 +74,7 @@ abbrev pub place_journal : {D : Type 0} {g h : _} → Option (DeskPlace D g h) �
 place_journal None = []
 place_journal (Some place) = journal_seated place
 
+-- the name of the journal of an opening
 abbrev pub opening_journal : {D : Type 0} {g h : _} → DeskOpening D g h → Text
 opening_journal opening = place_journal opening.place
 
@@ -86,6 +87,7 @@ abbrev pub place_faults : {D : Type 0} {g h : _} → (D → ℕ) → Option (Des
 place_faults faults None = 0
 place_faults faults (Some place) = faults (disk_seated place)
 
+-- the count of faults of the disk of an opening
 abbrev pub opening_faults : {D : Type 0} {g h : _} → (D → ℕ) → DeskOpening D g h → ℕ
 opening_faults faults opening = place_faults faults opening.place
 

@@ -22,12 +22,12 @@ lines_in text = ended_parts 10 text
 abbrev pub WordAndRest : Type 0
 WordAndRest = Text × Text
 
--- the first word of a line and what stands behind the blank that follows it; where nothing does,
--- the whole line is the word
+-- a word and the rest of its line; where nothing stands behind the word, the whole line is the word
 abbrev pub by_rest : Text → WordAndRest → WordAndRest
 by_rest line (word, []) = (line, [])
 by_rest line (word, b ∷ rest) = (word, b ∷ rest)
 
+-- the first word of a line, and what stands behind the blank that follows it
 abbrev pub first_word : Text → WordAndRest
 first_word line =
     by_rest line (before_first (λ b. b == 32) line, after_first (λ b. b == 32) line)

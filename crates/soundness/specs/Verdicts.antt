@@ -20,10 +20,11 @@ abbrev pub verdicts_of : DatabaseSchema → UserProfile → List Signed → Form
 verdicts_of schema user log query =
     map (λ probe. entails schema probe.premises probe.goal) (probes user log query)
 
--- whether some of the first verdicts says yes, and whether some of the others does
+-- whether some of so many first verdicts says yes
 abbrev pub first_found : ℕ → List Bool → Bool
 first_found count verdicts = list_any (λ verdict. verdict) (take count verdicts)
 
+-- whether some verdict behind so many says yes
 abbrev pub others_found : ℕ → List Bool → Bool
 others_found count verdicts = list_any (λ verdict. verdict) (drop count verdicts)
 

@@ -18,6 +18,7 @@ pub record Copy : Type 0 where
   pub records : List Recorded
   pub failed : Bool
 
+-- the copy that a journal is, as its disk reads
 abbrev pub copy_in : {D : Type 0} {g : _} → (D → List ℕ) → Held D g → Copy
 copy_in reads held = record {
   name = string_bytes held.name;

@@ -81,6 +81,7 @@ TookOne one copies copies' old new (Err (Take why)) =
     IsRefusedFor why copies one × RefusedLeaves why copies copies' one × (new ≡ old)
 TookOne one copies copies' old new (Err end) = ⊥
 
+-- a frame stood in a room, and this came of it
 abbrev pub Took : Header → List ℕ → List Copy → List Copy → List ℕ → List ℕ
     → Result (Unit {0}) StandbyEnd → Type 0
 Took header room copies copies' old new result =

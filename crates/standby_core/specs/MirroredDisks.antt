@@ -4,10 +4,11 @@ use Rattle.standby_core.specs.declared.mirror.Mirror.{Mirror}
 use Rattle.standby_core.specs.declared.mirrored_disk.MirroredDisk.{MirroredDisk}
 use Rattle.standby_core.specs.Mirrors.{dial_of}
 
--- the disk under it, and its mirror
+-- the disk under it
 abbrev pub inner_of : {D C : Type 0} {g : _} → MirroredDisk D C g → D
 inner_of disk = disk.inner
 
+-- its mirror, where it has one
 abbrev pub mirror_of : {D C : Type 0} {g : _} → MirroredDisk D C g → Option (Mirror C g)
 mirror_of disk = disk.mirror
 

@@ -28,7 +28,7 @@ pub(crate) struct Slot<C: Dial> {
 impl<C: Dial + Drop> Slot<C> {
     ghost use Rattle.standby_core.specs.Slots.{slot_name};
 
-    // Takes the mirror, where it wasn't taken yet.
+    /// Takes the mirror, where it wasn't taken yet.
     pub(crate) fn take(&mut self) -> Option<Mirror<C>>
         ensures taken { result ≡ new_in (Some self.old.place) }
         ensures out { IfSome result (λ mirror. self.new.place ≡ Place.Out) }
@@ -46,7 +46,7 @@ impl<C: Dial + Drop> Slot<C> {
         }
     }
 
-    // Puts a mirror back that wasn't used.
+    /// Puts a mirror back that wasn't used.
     pub(crate) fn put_new(&mut self, mirror: Mirror<C>)
         requires { C.faults (dial_of mirror) ≡ 0 }
         ensures put { self.new.place ≡ Place.New mirror }
@@ -55,7 +55,7 @@ impl<C: Dial + Drop> Slot<C> {
         let _before = mem::replace(&mut self.place, Place::New(mirror));
     }
 
-    // Puts a mirror back, or none.
+    /// Puts a mirror back, or none.
     pub(crate) fn put_back(&mut self, mirror: Option<Mirror<C>>)
         ensures put { self.new.place ≡ place_with mirror }
         ensures name { slot_name self.new ≡ slot_name self.old }

@@ -43,12 +43,13 @@ place_refusal (Refused journal disk why) = Some (Journal why)
 abbrev pub given_journal : {D : Type 0} → Given D → List ℕ
 given_journal given = string_bytes given.journal
 
--- the journals among places that were opened, in order, with the names of their disks
+-- the journals among places that were opened, in order
 abbrev pub journals_in : {D : Type 0} {g : _} → List (Place D g) → List (Held D g)
 journals_in [] = []
 journals_in (Opened journal held ∷ places) = held ∷ journals_in places
 journals_in (Refused journal disk why ∷ places) = journals_in places
 
+-- the names of their disks
 abbrev pub names_in : {D : Type 0} {g : _} → List (Place D g) → List (List ℕ)
 names_in [] = []
 names_in (Opened journal held ∷ places) = string_bytes journal ∷ names_in places

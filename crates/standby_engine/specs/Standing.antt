@@ -118,11 +118,12 @@ LeavesCopies header journals users LinksFault =
     ⊎ KeepsJournals journals
 LeavesCopies header journals users end = KeepsJournals journals
 
--- the standby came to its end over the links and the journals
+-- the standby served
 abbrev pub IsServed : CopyEnd → Type 0
 IsServed (Done refusals broken) = Unit {0}
 IsServed end = ⊥
 
+-- the standby served, and an append to a copy failed
 abbrev pub IsBroken : CopyEnd → Type 0
 IsBroken (Done refusals broken) = broken ≡ true
 IsBroken end = ⊥

@@ -11,6 +11,7 @@ pub(crate) struct Bell {
 }
 
 impl Bell {
+    /// A bell that was never rung, where nobody sleeps.
     pub(crate) fn new() -> Bell {
         Bell {
             rings: AtomicU64::new(0),

@@ -1,14 +1,28 @@
-use Rattle.std.proofs.Common.{sym, ap, subst, ◌∙◌}
+use Rattle.std.proofs.Common.{ℕ, List, sym, ap, subst, ◌∙◌}
+use Rattle.std.specs.Prelude.{Option, Some, None}
+use Rattle.command_words.specs.Readings.{Reading}
 use Rattle.outside.specs.Faults.{Rose}
+use Rattle.outside.specs.Shelf.{NoneOut}
 use Rattle.outside.specs.Streams.{AppendsUnless}
 use Rattle.cqe_top.specs.Complaints.{complaint_of}
+use Rattle.cqe_top.specs.Copied.{counted_with}
 use Rattle.cqe_top.specs.Promise.{Does}
 use Rattle.cqe_top.specs.Reports.{status_of}
-use Rattle.cqe_top.specs.Scene.{scene_of, shelf_of, input_of, output_of, links_of}
+use Rattle.cqe_top.specs.declared.end.CommandEnd.{CommandEnd}
+use Rattle.cqe_top.specs.Scene.{Scene, scene_of, shelf_of, input_of, output_of, links_of}
 use Rattle.cqe_top.proofs.command.top.Goals as goal
+
+-- exchanges that are counted as faults of disks take none of them out
+left_inside : (s : Scene) (read : Option Reading) (end : CommandEnd) → Does s read end → NoneOut s.shelf.is_out'
+left_inside s read end does = by does.exchanges does.always.shelf.inside
+  where
+    by : (exchanges : Option (List ℕ → ℕ)) → NoneOut (counted_with s exchanges).shelf.is_out' → NoneOut s.shelf.is_out'
+    by None none = none
+    by (Some failed) none = none
 
 pub returns : goal.returns
 returns g c = record {
+  inside = left_inside _ _ _ c.run-end.ensures.command.2;
   promise = record {
     end = c.run-end.result;
     of_status = c.status_of.ensures ∙ ap status_of c.report_of-report.ensures;
