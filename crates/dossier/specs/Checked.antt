@@ -82,7 +82,7 @@ module _ (schema : DatabaseSchema) (world : FactSet) (user : UserProfile) where
       if is_beyond schema world user entries purpose (length text) sentence then None
       else Some sentence
 
-  -- that of a text of at most 4,096 bytes
+  -- the sentence that a text of at most 4,096 bytes reads as, within the limits behind these items
   abbrev pub sentence_in : History → Purpose → Text → Option Formula
   sentence_in entries purpose text =
       if nat_le (length text) 4096 then within_limits entries purpose text (reading schema text)
@@ -190,6 +190,8 @@ module _ (schema : DatabaseSchema) (world : FactSet) (name : Text) (user : UserP
 
   -- ---- lines
 
+  -- the first line: `dossier` and the name, the method and the word `open` of this user; one that
+  -- says closed or sealed shows no admission
   abbrev pub head_line : FieldSaid → Result Awaited DossierError
   head_line field =
       if not (bytes_eq field.word (codes "dossier")) then Err (refused.Form field.line)
@@ -200,6 +202,7 @@ module _ (schema : DatabaseSchema) (world : FactSet) (name : Text) (user : UserP
       then Err (refused.Admission field.line)
       else Err (refused.Form field.line)
 
+  -- the line of the admission, which for refusal is right only where what the user knows is true
   abbrev pub admission_line : FieldSaid → Result Awaited DossierError
   admission_line field =
       if not (is_alone field (codes "admission")) then Err (refused.Form field.line)
@@ -207,6 +210,7 @@ module _ (schema : DatabaseSchema) (world : FactSet) (name : Text) (user : UserP
       then awaited_for [] admitting (probes_against (known user) (guarded user)) []
       else Err (refused.Admission field.line)
 
+  -- the first line of a block: `open` and the facts of a world, or `follows`
   abbrev pub block_line : Showing → FieldSaid → Result Awaited DossierError
   block_line showing field =
       if bytes_eq field.word (codes "open")
@@ -215,6 +219,7 @@ module _ (schema : DatabaseSchema) (world : FactSet) (name : Text) (user : UserP
       then follows_block field.line showing showing.task
       else Err (refused.Form field.line)
 
+  -- a line within a refutation: one more line of it, or its end
   abbrev pub step_line : Showing → List RefutationLine → FieldSaid → Result Awaited DossierError
   step_line showing lines field =
       if bytes_eq field.word (codes "line")
@@ -222,6 +227,7 @@ module _ (schema : DatabaseSchema) (world : FactSet) (name : Text) (user : UserP
       else if is_alone field (codes "end") then refutation_end field.line showing lines
       else Err (refused.Form field.line)
 
+  -- a line behind the items: one more item, `ask` or `protect`, or the end with their number
   abbrev pub item_line : History → FieldSaid → Result Awaited DossierError
   item_line entries field =
       if bytes_eq field.word (codes "ask")

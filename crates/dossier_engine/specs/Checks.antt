@@ -41,7 +41,7 @@ module _ (schema : DatabaseSchema) (world : FactSet) (name : Text) (user : UserP
       else Err NotUtf8
 
   -- they are accepted with so many items: the user is admissible, and the history that they show is
-  -- sound and hides
+  -- sound and hides soundly
   pub record AcceptsBytes (bytes : List ℕ) (count : ℕ) : Type 0 where
     pub accepted : IsAccepted schema world name user bytes count
     pub shown : checked_bytes bytes ≡ Ok accepted.entries
