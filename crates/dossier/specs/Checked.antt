@@ -75,12 +75,12 @@ abbrev pub head_rest : Text → UserProfile → Text → Text
 head_rest name user standing =
     codes "1 " ++ name ++ codes " " ++ method_word user.method ++ codes " " ++ standing
 
-module _ (schema : DatabaseSchema) (world : FactSet) (user : UserProfile) where
+module _ (schema : DatabaseSchema) (user : UserProfile) where
   -- the sentence that a text reads as, where it isn't beyond the limits behind these items
   abbrev pub within_limits : History → Purpose → Text → Result Formula Refusal → Option Formula
   within_limits entries purpose text (Err why) = None
   within_limits entries purpose text (Ok sentence) =
-      if is_beyond schema world user entries purpose (length text) sentence then None
+      if is_beyond schema user entries purpose (length text) sentence then None
       else Some sentence
 
   -- the sentence that a text of at most 4,096 bytes reads as, within the limits behind these items
@@ -89,13 +89,13 @@ module _ (schema : DatabaseSchema) (world : FactSet) (user : UserProfile) where
       if nat_le (length text) 4096 then within_limits entries purpose text (reading schema text)
       else None
 
+-- what is awaited behind one more item
+abbrev pub behind_item : History → Formula → Mark → ℕ → Awaited
+behind_item entries query mark size =
+    item (entries ++ record { query = query; mark = mark; length = size } ∷ [])
+
 module _ (schema : DatabaseSchema) (world : FactSet) (name : Text) (user : UserProfile) where
   -- ---- tasks
-
-  -- what is awaited behind one more item
-  abbrev pub behind_item : History → Formula → Mark → ℕ → Awaited
-  behind_item entries query mark size =
-      item (entries ++ record { query = query; mark = mark; length = size } ∷ [])
 
   -- the mark that verdicts on all probes of a query give
   abbrev pub mark_shown : History → Formula → List Bool → Mark
@@ -174,7 +174,7 @@ module _ (schema : DatabaseSchema) (world : FactSet) (name : Text) (user : UserP
   ask_line line entries (Some mark) [] = Err (refused.Form line)
   ask_line line entries (Some mark) (b ∷ text) =
       asked line entries mark (length (b ∷ text))
-      (sentence_in schema world user entries Asking (b ∷ text))
+      (sentence_in schema user entries Asking (b ∷ text))
 
   -- a sentence that is to be added
   abbrev pub added : ℕ → History → ℕ → Option Formula → Result Awaited DossierError
@@ -187,7 +187,7 @@ module _ (schema : DatabaseSchema) (world : FactSet) (name : Text) (user : UserP
   protect_line line entries [] = Err (refused.Form line)
   protect_line line entries (b ∷ text) =
       added line entries (length (b ∷ text))
-      (sentence_in schema world user entries Protecting (b ∷ text))
+      (sentence_in schema user entries Protecting (b ∷ text))
 
   -- ---- lines
 

@@ -7,7 +7,8 @@ use Rattle.cqe_base.specs.Censor.{guarded_with, safe_with, admission_budget}
 use Rattle.entailment.specs.GroundSentences.{sentence_of}
 use Rattle.dossier.specs.Logs.{past_schema, past_user, past_history}
 use Rattle.dossier.specs.Items.{goal_probe}
-use Rattle.dossier.specs.Written.{IsBlock, AreUnspent, Grows}
+use Rattle.dossier.specs.Written.{IsBlock}
+use Rattle.dossier.specs.Adding.{AreUnspent, Grows}
 use Rattle.dossier.proofs.Added.{guard-at}
 use Rattle.dossier.proofs.Pushed.{open-unspent}
 use Rattle.dossier.proofs.writing.push_addition.Goals as goal
