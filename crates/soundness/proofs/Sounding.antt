@@ -58,7 +58,8 @@ module _ (schema : DatabaseSchema) (world : FactSet) (user : UserProfile) where
           → HasCountermodel schema (log user before) g
       by (inl old) = all g old
       by (inr e) =
-          subst (HasCountermodel schema (log user before)) (sym e) (entails-false schema (log user before) (guarded_with (user_at user before) s, true) unentailed)
+          subst (HasCountermodel schema (log user before)) (sym e)
+          (entails-false schema (log user before) (guarded_with (user_at user before) s, true) unentailed)
 
   item_shields : (before : History) (item : AnsweredQuery) → IsSoundItem schema world user before item
       → AllShielded (user_at user before).secrets (log user before)

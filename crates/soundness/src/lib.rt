@@ -1,9 +1,9 @@
 //! Sound histories: what is claimed of a history whose marks were checked without a search and
 //! without a budget.
 //!
-//! `specs/Sound.antt` says when a history is sound. The laws say that legal histories are sound, and
-//! that a sound history hides soundly: in the other world the same marks are right, and nothing is
-//! said of budgets, nor of replies. `specs/Verdicts.antt` leads from verdicts on the probes of a
+//! `specs/Sound.antt` says when a history is sound. The laws say that legal histories are sound,
+//! and that a sound history hides soundly: in the other world the same marks are right, and nothing
+//! is said of budgets, nor of replies. `specs/Verdicts.antt` leads from verdicts on the probes of a
 //! query to its mark. The crate has no code.
 #![tactic(auto)]
 
