@@ -65,7 +65,8 @@ addition_probe user entries secret = record {
   goal = (guarded_with (user_at user entries) secret, true);
 }
 
--- whether in a world the premises of a probe are true and its goal is false
+-- whether in a world the premises of a probe are true and its goal is false; that the facts that a
+-- text lists are of the schema, `facts_listed` says
 abbrev pub is_countermodel : DatabaseSchema → Probe → FactSet → Bool
 is_countermodel schema probe other =
     all_hold_in schema other probe.premises && not (holds_in schema other probe.goal)
