@@ -7,7 +7,7 @@ use Rattle.cqe_base.specs.Formula.{Formula, nodes, is_sentence_of}
 use Rattle.cqe_base.specs.Entailment.{are_sentences_of}
 use Rattle.cqe_base.specs.History.{UserProfile, AnsweredQuery, History, known, log, signed_nodes}
 use Rattle.cqe_base.specs.History.{view_size, is_user_of, is_history_of, is_added, user_at}
-use Rattle.cqe_base.specs.Censor.{guarded, guarded_with}
+use Rattle.cqe_base.specs.Censor.{guarded, guard_by}
 use Rattle.cqe_base.specs.Secrecies.{HasPairs}
 use Rattle.cqe_base.specs.Run.{is_full, is_too_large, is_too_large_secret, has_all_secrets}
 
@@ -91,8 +91,9 @@ AmendedFitProbes =
 -- nodes
 pub record FitsAddition (schema : DatabaseSchema) (user : UserProfile) (secret : Formula) :
     Type 0 where
-  pub goal_sentence : is_sentence_of schema (guarded_with user secret) ≡ true
-  pub goal_nodes : nodes schema (guarded_with user secret) ≤ 40000
+  pub goal_sentence : is_sentence_of schema
+      (guard_by user.method (user.secrets ++ secret ∷ []) secret) ≡ true
+  pub goal_nodes : nodes schema (guard_by user.method (user.secrets ++ secret ∷ []) secret) ≤ 40000
 
 -- a sentence that isn't too large for a secret fits what the log is probed against with it
 abbrev pub SmallSecretsFit : Type 0

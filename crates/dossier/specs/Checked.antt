@@ -16,8 +16,7 @@ use Rattle.cqe_base.specs.Reading.{Refusal, reading}
 use Rattle.cqe_base.specs.Entailment.{holds_in, all_hold_in}
 use Rattle.cqe_base.specs.History.{UserProfile, History, known, log, user_at}
 use Rattle.cqe_base.specs.Refutation.{RefutationLine, is_refutation}
-use Rattle.cqe_base.specs.Censor.{Probe, guarded, guarded_with, probes}
-use Rattle.cqe_base.specs.Censor.{probes_against, knows_truth_by}
+use Rattle.cqe_base.specs.Censor.{Probe, guarded, guard_by, probes, probes_against, knows_truth_by}
 use Rattle.entailment.specs.Certificates.{clauses_of_probe}
 use Rattle.audit_print.specs.Said.{method_word}
 use Rattle.user_desk.specs.Entries.{kind_of}
@@ -62,7 +61,7 @@ pub data Awaited : Type 0 where
 abbrev pub addition_probe : UserProfile → History → Formula → Probe
 addition_probe user entries secret = record {
   premises = log user entries;
-  goal = (guarded_with (user_at user entries) secret, true);
+  goal = (guard_by user.method ((user_at user entries).secrets ++ secret ∷ []) secret, true);
 }
 
 -- whether in a world the premises of a probe are true and its goal is false
