@@ -42,7 +42,7 @@ pub record KeepsSizesAt (schema : DatabaseSchema) (user : UserProfile) (before :
       → is_too_large_secret schema user before entry.query ≡ false
   pub secret_room : is_added entry.mark ≡ true → has_all_secrets user before ≡ false
 
--- each item of a history came within the limits
+-- each item did
 abbrev pub KeepsSizes : DatabaseSchema → UserProfile → History → Type 0
 KeepsSizes schema user entries =
     (before : History) (entry : AnsweredQuery) (after : History) → entries ≡ before ++ entry ∷ after
@@ -79,8 +79,7 @@ abbrev pub LimitsFitProbes : Type 0
 LimitsFitProbes = (schema : DatabaseSchema) (user : UserProfile) → KeepsLimits schema user
     → FitsProbes schema user
 
--- a user who keeps the limits fits his probes at the end of a history within the limits, too, with
--- what it adds to his secrets
+-- and so does he at the end of a history within the limits, with what it adds to his secrets
 abbrev pub AmendedFitProbes : Type 0
 AmendedFitProbes =
     (schema : DatabaseSchema) (user : UserProfile) (entries : History)
@@ -95,7 +94,7 @@ pub record FitsAddition (schema : DatabaseSchema) (user : UserProfile) (secret :
       (guard_by user.method (user.secrets ++ secret ∷ []) secret) ≡ true
   pub goal_nodes : nodes schema (guard_by user.method (user.secrets ++ secret ∷ []) secret) ≤ 40000
 
--- a sentence that isn't too large for a secret fits what the log is probed against with it
+-- a sentence that isn't too large for a secret is such a one
 abbrev pub SmallSecretsFit : Type 0
 SmallSecretsFit =
     (schema : DatabaseSchema) (user : UserProfile) (entries : History) (secret : Formula)

@@ -19,12 +19,12 @@ use Rattle.cqe_base.proofs.Disjunctions.{disjunction_false, guard_sentence}
 use Rattle.cqe_base.proofs.Worlds.{entails-true, entails-false}
 use Rattle.cqe_base.proofs.Outcomes.{outcome-Open}
 use Rattle.cqe_base.proofs.Legal.{each-push}
-use Rattle.cqe_base.proofs.Guarding.{guarded-push}
-use Rattle.cqe_base.proofs.Shielding.{HasCountermodel, table_shields}
-use Rattle.cqe_base.proofs.MarksAgain.{table_again, told_true, disjunction_then}
-use Rattle.cqe_base.proofs.Secrets.{opened}
+use Rattle.cqe_base.proofs.Secrets.{HasCountermodel, opened}
 use Rattle.soundness.specs.Sound.{is_settled, unspent_mark, entails_with, IsSoundItem, IsSound, IsSoundThere, SoundHistoriesHide, EmptyHistoryIsSound}
 use Rattle.soundness.specs.Sound.{SoundHistoriesGrow, LegalHistoriesAreSound}
+use Rattle.soundness.proofs.Guarding.{guarded-push}
+use Rattle.soundness.proofs.Shielding.{table_shields}
+use Rattle.soundness.proofs.MarksAgain.{table_again, told_true, disjunction_then}
 
 module _ (schema : DatabaseSchema) (world : FactSet) (user : UserProfile) where
   -- each sentence that is guarded where these are the secrets is false in some world in which the premises are true

@@ -72,7 +72,7 @@ pub record HidesSoundly (schema : DatabaseSchema) (user : UserProfile) (entries 
       × ((secret : Formula) → Contains (user_at user entries).secrets secret
       → true_in schema other secret ≡ false)
 
--- a sound history of an admissible user hides his secrets soundly
+-- a sound history of an admissible user hides his secrets
 abbrev pub SoundHistoriesHide : Type 0
 SoundHistoriesHide =
     (schema : DatabaseSchema) (world : FactSet) (user : UserProfile) (entries : History)
