@@ -89,6 +89,7 @@ torn_whole at piece bytes le =
 begins_within : (at : ℕ) (bytes : List ℕ) → nat_le at (length bytes) ≡ true → at ≤ length bytes
 begins_within at bytes is = grind (arith, nat_tests)
 
+-- a crash may leave the bytes as a write leaves them
 pub torn_overwritten : (at : ℕ) (piece bytes : List ℕ)
     → Torn at (length piece) bytes (overwritten bytes at piece)
 torn_overwritten at piece bytes = by_test (nat_le at (length bytes)) (begins_within at bytes)
@@ -125,6 +126,7 @@ pub bytes_are_image : (first : List ℕ) (calls : List Call) (bytes : List ℕ)
 bytes_are_image first calls bytes kept =
     subst (λ b. IsImage first calls b) (sym kept) (run_kept first (λ d. d ≡ first) calls refl)
 
+-- an image of all calls is one since any of them
 pub image_counts : (first : List ℕ) (calls : List Call) (t : ℕ) (c : List ℕ) → t ≤ length calls
     → IsImage first calls c → IsImageSince first calls t c
 image_counts first calls t c le is = (
@@ -135,6 +137,7 @@ image_counts first calls t c le is = (
       (sym (take_all (length calls) calls (omega arith))) is,
 )
 
+-- an image since the last call is one of all calls
 pub image_only : (first : List ℕ) (calls : List Call) (c : List ℕ)
     → IsImageSince first calls (length calls) c → IsImage first calls c
 image_only first calls c since =
