@@ -35,8 +35,8 @@ pub fn law_dossiers_are_accepted()
     ensures names { NamesHaveNoFeed }
 {}
 
-/// A user with these records has one dossier. So it tells nothing that the policy, the user and the
-/// records don't; it shows no fact that these don't show.
+/// A user with these records has at most one dossier. So it shows no fact that the schema, the user
+/// and the records don't.
 pub fn law_dossiers_are_one()
     ensures { DossiersAreOne }
 {
