@@ -335,7 +335,8 @@ module _ (directory header : List ℕ) {D : Type 0} {g : _} (told : Type 0) (Dis
         first = began_with;
         opened = opened_with;
         leaves = λ c here. begins_with header began_with lasts.more (copy_in Disk.reads h) c lasts.grew (as_begun c (leaves_copied c here));
-        moments = stood_along (HasBeginning header began_with) (begins_with header began_with lasts.more (copy_in Disk.reads h) lasts.grew);
+        moments = stood_along (HasBeginning header began_with)
+            (λ c some. begins_with header began_with lasts.more (copy_in Disk.reads h) c lasts.grew some);
       }
 
       pub has_copied : count_of held.journal ≡ length began_with → held_name h ≡ held_name held
