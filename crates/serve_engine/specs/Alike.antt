@@ -9,8 +9,8 @@ use Rattle.session_core.specs.Alike.{flight_in}
 use Rattle.serve_engine.specs.Served.{Member, SessionMarks, Served}
 
 module _ (schema : DatabaseSchema) (world : FactSet) where
-  -- A user as a world has him that is alike: he has the same standing and the same history, and an
-  -- append failed where one did. The entry in flight has the mark of the rule there.
+  -- A user as an alike world has him: with the same standing and the same history, and an append
+  -- failed where one did. The entry in flight has the mark of the rule there.
   abbrev pub member_in : Member → Member
   member_in member = record member {
     in_flight = flight_in schema world member.profile member.history member.in_flight;
