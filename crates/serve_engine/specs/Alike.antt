@@ -22,19 +22,18 @@ module _ (schema : DatabaseSchema) (world : FactSet) where
     in_flight = flight_in schema world member.profile member.history marks.in_flight;
   }
 
-module _ (schema : DatabaseSchema) (world : FactSet) (users : List User) (members : List Member)
-  where
-    -- The same bytes serve a connection in other worlds, whoever the users are there: without a login
-    -- in each world; else in each one that is alike to who is logged in in the end, where he is as
-    -- that world has him.
-    pub record IsServedAlike (visit : Visit) (marks : SessionMarks) : Type 0 where
-      pub without_login : marks.who ≡ None → (other : FactSet) (there : List Member)
-          → Served schema other users there visit marks
-      pub by_user : (place : ℕ) (member : Member) → marks.who ≡ Some place
-          → slice_get members place ≡ Some member
-          → (other : FactSet) → IsAlike schema member.profile member.history world other
-          → (there : List Member) → slice_get there place ≡ Some (member_in schema other member)
-          → Served schema other users there visit (marks_in schema other member marks)
+-- The same bytes serve a connection in other worlds, whoever the users are there: without a login
+-- in each world; else in each one that is alike to who is logged in in the end, where he is as that
+-- world has him.
+pub record IsServedAlike (schema : DatabaseSchema) (world : FactSet) (users : List User)
+    (members : List Member) (visit : Visit) (marks : SessionMarks) : Type 0 where
+  pub without_login : marks.who ≡ None → (other : FactSet) (there : List Member)
+      → Served schema other users there visit marks
+  pub by_user : (place : ℕ) (member : Member) → marks.who ≡ Some place
+      → slice_get members place ≡ Some member
+      → (other : FactSet) → IsAlike schema member.profile member.history world other
+      → (there : List Member) → slice_get there place ≡ Some (member_in schema other member)
+      → Served schema other users there visit (marks_in schema other member marks)
 
 -- The bytes that served a connection serve it so.
 abbrev pub BytesComeAgain : Type 0
