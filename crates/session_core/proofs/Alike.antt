@@ -17,10 +17,6 @@ use Rattle.session_core.specs.Alike.{flight_in}
 same_mark : {a b : Mark} → marked a ≡ marked b → a ≡ b
 same_mark is = cc
 
--- so do texts that read as the same sentence
-same_sentence : {a b : Formula} → Ok {X = Formula} {E = Refusal} a ≡ Ok b → a ≡ b
-same_sentence is = cc
-
 module _ (schema : DatabaseSchema) (world other : FactSet) (user : UserProfile) where
   -- the mark is the one of the rule, and in the other world the reply is the mark of the rule there
   abbrev Marks : History → Mark → Formula → Reply → Type 0
@@ -36,7 +32,8 @@ module _ (schema : DatabaseSchema) (world other : FactSet) (user : UserProfile) 
   marks entries standing_open true text read query mark is said = absurd cc
   marks entries standing_open false text (Err refusal) query mark is said = absurd cc
   marks entries standing_open false text (Ok found) query mark is said =
-      subst (λ (q : Formula). Marks entries mark q (reply_by schema other user entries standing_open false Asking text (Ok found))) (same_sentence is)
+      let same : found ≡ query = cc in
+      subst (λ (q : Formula). Marks entries mark q (reply_by schema other user entries standing_open false Asking text (Ok found))) same
       (by (is_full entries (length text)) (is_too_large schema user entries found) said)
     where
       by : (full large : Bool) → answer_by full large (mark_after schema world user entries found) ≡ marked mark
