@@ -1,5 +1,6 @@
 //! A disk: what its calls promise of the bytes that it reads, and of what a crash may leave.
-ghost use Rattle.std.specs.Prelude.{◌≡◌, ◌⊎◌, ◌<◌, ◌≤◌, ◌^◌, List, ℕ, length, IfOk, OnOk, OnErr};
+ghost use Rattle.std.specs.Prelude.{◌≡◌, ◌⊎◌, ◌<◌, ◌≤◌, ◌+◌, ◌^◌, List, ℕ, length, IfOk, OnOk};
+ghost use Rattle.std.specs.Prelude.{OnErr};
 ghost use Rattle.outside.specs.Disk.{Holds, Fills, Torn, Follows, Only, Elapses};
 ghost use Rattle.outside.specs.Faults.{HasCause};
 
@@ -97,6 +98,7 @@ pub trait Disk {
         requires low { 1 ≤ kind }
         requires high { kind ≤ 5 }
         requires short { length text.now ≤ 4096 }
+        requires few { number + 1 < 2 ^ 64 }
         ensures may_be_told { OnOk result (number < told self.new) }
         ensures told { told self.old ≤ told self.new }
         ensures reads { reads self.new ≡ reads self.old }

@@ -1,5 +1,5 @@
 //! What tells a standby of the records of one journal.
-ghost use Rattle.std.specs.Prelude.{◌≡◌, ◌<◌, ◌≤◌, length, string_bytes, OnOk};
+ghost use Rattle.std.specs.Prelude.{◌≡◌, ◌<◌, ◌≤◌, ◌+◌, ◌^◌, length, string_bytes, OnOk};
 ghost use Rattle.outside.specs.Faults.{HasCause};
 ghost use Rattle.standby_core.specs.Frames.{frame_bytes};
 
@@ -48,6 +48,7 @@ impl<C: Dial> Mirror<C> {
     /// the room. It takes no memory.
     pub fn tell(&mut self, number: u64, kind: u8, text: &[u8]) -> Result<(), Failed>
         requires short { length text.now ≤ 4096 }
+        requires few { number + 1 < 2 ^ 64 }
         ensures above { OnOk result (number < C.answered (dial_of self.new)) }
         ensures told { C.answered (dial_of self.old) ≤ C.answered (dial_of self.new) }
         ensures known { number < C.answered (dial_of self.old) → self.new ≡ self.old }

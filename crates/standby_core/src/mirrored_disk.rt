@@ -1,5 +1,5 @@
 //! A disk of which a standby has a copy.
-ghost use Rattle.std.specs.Prelude.{◌≡◌, ◌<◌, ◌≤◌, ◌+◌, length, OnOk};
+ghost use Rattle.std.specs.Prelude.{◌≡◌, ◌<◌, ◌≤◌, ◌+◌, ◌^◌, length, OnOk};
 ghost use Rattle.outside.specs.Faults.{HasCause};
 
 use crate::Mirror;
@@ -36,6 +36,7 @@ impl<D, C: Dial> MirroredDisk<D, C> {
     // Tells the standby of a record, where there is one.
     fn ask(&mut self, number: u64, kind: u8, text: &[u8]) -> Result<(), Failed>
         requires short { length text.now ≤ 4096 }
+        requires few { number + 1 < 2 ^ 64 }
         ensures inner { inner_of self.new ≡ inner_of self.old }
         ensures above { OnOk result (number < told_by C.answered (mirror_of self.new)) }
         ensures told { told_by C.answered (mirror_of self.old)
