@@ -1,8 +1,12 @@
 -- What links in memory show.
-use Rattle.std.specs.Prelude.{ℕ, ◌+◌, List, [], ◌∷◌, ◌++◌, length, map, string_bytes}
+use Rattle.std.specs.Prelude.{ℕ, ◌+◌, List, [], ◌∷◌, ◌++◌, length, map, string_bytes, bytes_eq}
+use Rattle.std.specs.Prelude.{if◌then◌else◌}
 use Rattle.std.specs.List.{sum_by}
 use Rattle.outside.specs.Visits.{Visit, Place, place_of, one_if_any}
+use Rattle.outside.specs.Dials.{Exchange}
+use Rattle.outside.specs.MemoryDials.{dial_name, dial_exchanged, dial_faults}
 use Rattle.outside.specs.MemoryDoors.{visits_of}
+use Rattle.outside.specs.declared.memory_dial.MemoryDial.{MemoryDial}
 use Rattle.outside.specs.declared.memory_door.DoorBack.{DoorBack}
 use Rattle.outside.specs.declared.memory_links.Listened.{Listened}
 use Rattle.outside.specs.declared.memory_links.MemoryLinks.{MemoryLinks}
@@ -49,6 +53,27 @@ links_listened links = places_of links.places.items
 abbrev pub links_faults : MemoryLinks → ℕ
 links_faults links = links.faults
 
--- the faults of the dials that were hung up
-abbrev pub links_mirror : MemoryLinks → ℕ
-links_mirror links = links.mirror
+-- how many dials aren't hung up
+abbrev pub links_dialling : MemoryLinks → ℕ
+links_dialling links = links.dials_out
+
+-- what dials exchanged, one behind the other
+abbrev pub exchanged_among : List MemoryDial → List Exchange
+exchanged_among [] = []
+exchanged_among (dial ∷ dials) = dial_exchanged dial ++ exchanged_among dials
+
+-- what the dials exchanged that were hung up
+abbrev pub links_exchanged : MemoryLinks → List Exchange
+links_exchanged links = exchanged_among links.dials_back.items
+
+-- the faults of a dial that count for a name: all where it is its own, and else none
+abbrev pub faults_for : List ℕ → MemoryDial → ℕ
+faults_for name dial = if bytes_eq name (dial_name dial) then dial_faults dial else 0
+
+-- the faults of dials that count for a name
+abbrev pub faults_among : List MemoryDial → List ℕ → ℕ
+faults_among dials name = sum_by (faults_for name) dials
+
+-- the faults under a name of the dials that were hung up
+abbrev pub links_exchange_faults : MemoryLinks → List ℕ → ℕ
+links_exchange_faults links name = faults_among links.dials_back.items name
