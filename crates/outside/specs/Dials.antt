@@ -1,5 +1,7 @@
 -- What dials exchange with a standby.
 use Rattle.std.specs.Prelude.{◌≡◌, ◌⊎◌, ◌∷◌, ◌++◌, [], ℕ, List, Option, Some, None, Result, Ok, Err}
+use Rattle.std.specs.Prelude.{bytes_eq, if◌then◌else◌}
+use Rattle.std.specs.List.{sum_by}
 
 -- An exchange: the address that was called, the frame that was given, the number that the answer had
 -- to be above, and the number that was answered, if one was.
@@ -26,3 +28,11 @@ IsNext one old new = new ≡ old ++ one ∷ []
 -- it did, or no further one came
 abbrev pub MayBeNext : Exchange → List Exchange → List Exchange → Type 0
 MayBeNext one old new = (new ≡ old) ⊎ IsNext one old new
+
+-- the faults of one of several dials that count for a name: all where it is its own, and else none
+abbrev pub faults_for : {X : Type 0} → (X → List ℕ) → (X → ℕ) → List ℕ → X → ℕ
+faults_for own faults name dial = if bytes_eq name (own dial) then faults dial else 0
+
+-- the faults of several dials that count for a name
+abbrev pub faults_under : {X : Type 0} → (X → List ℕ) → (X → ℕ) → List X → List ℕ → ℕ
+faults_under own faults dials name = sum_by (faults_for own faults name) dials

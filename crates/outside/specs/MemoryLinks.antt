@@ -1,9 +1,8 @@
 -- What links in memory show.
-use Rattle.std.specs.Prelude.{ℕ, ◌+◌, List, [], ◌∷◌, ◌++◌, length, map, string_bytes, bytes_eq}
-use Rattle.std.specs.Prelude.{if◌then◌else◌}
+use Rattle.std.specs.Prelude.{ℕ, ◌+◌, List, [], ◌∷◌, ◌++◌, length, map, string_bytes}
 use Rattle.std.specs.List.{sum_by}
 use Rattle.outside.specs.Visits.{Visit, Place, place_of, one_if_any}
-use Rattle.outside.specs.Dials.{Exchange}
+use Rattle.outside.specs.Dials.{Exchange, faults_under}
 use Rattle.outside.specs.MemoryDials.{dial_name, dial_exchanged, dial_faults}
 use Rattle.outside.specs.MemoryDoors.{visits_of}
 use Rattle.outside.specs.declared.memory_dial.MemoryDial.{MemoryDial}
@@ -66,14 +65,10 @@ exchanged_among (dial ∷ dials) = dial_exchanged dial ++ exchanged_among dials
 abbrev pub links_exchanged : MemoryLinks → List Exchange
 links_exchanged links = exchanged_among links.dials_back.items
 
--- the faults of a dial that count for a name: all where it is its own, and else none
-abbrev pub faults_for : List ℕ → MemoryDial → ℕ
-faults_for name dial = if bytes_eq name (dial_name dial) then dial_faults dial else 0
-
--- the faults of dials that count for a name
+-- the faults of dials, by their names
 abbrev pub faults_among : List MemoryDial → List ℕ → ℕ
-faults_among dials name = sum_by (faults_for name) dials
+faults_among dials = faults_under dial_name dial_faults dials
 
--- the faults under a name of the dials that were hung up
+-- the faults of the dials that were hung up, by their names
 abbrev pub links_exchange_faults : MemoryLinks → List ℕ → ℕ
-links_exchange_faults links name = faults_among links.dials_back.items name
+links_exchange_faults links = faults_among links.dials_back.items
