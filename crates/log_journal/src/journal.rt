@@ -116,6 +116,7 @@ impl<D: Disk> Journal<D> {
         // Behind Ok its mark may be told, and those that might be before it still may.
         ensures may_be_told { OnOk result (count_of self.old < D.told (disk_of self.new)) }
         ensures told { D.told (disk_of self.old) ≤ D.told (disk_of self.new) }
+        ensures origin { D.origin (disk_of self.new) ≡ D.origin (disk_of self.old) }
 
         // The count is that of the records.
         ensures number { D.tells → is_broken self.old ≡ false
@@ -203,6 +204,7 @@ fn put_told<D: Disk>(
         → KeepsOrAdds (D.reads disk.old) (kind, text.now) c }
     ensures may_be_told { OnOk result (number < D.told disk.new) }
     ensures told { D.told disk.old ≤ D.told disk.new }
+    ensures origin { D.origin disk.new ≡ D.origin disk.old }
     ensures next { D.tells → OnOk result (length (records (D.reads disk.new)) ≡ number + 1) }
     ensures grown { D.tells → OnOk result (records (D.reads disk.new)
         ≡ records (D.reads disk.old) ++ (kind, text.now) ∷ []) }
@@ -240,6 +242,7 @@ fn put_record<D: Disk>(
     ensures moments { D.tells → (c : List ℕ) → D.image_since disk.new (D.moment disk.old) c
         → KeepsOrAdds (D.reads disk.old) (kind, text.now) c }
     ensures told { D.told disk.old ≤ D.told disk.new }
+    ensures origin { D.origin disk.new ≡ D.origin disk.old }
     ensures cause { HasCause (D.faults disk.old) (D.faults disk.new) result }
 {
     fill_start(room, kind, text);
