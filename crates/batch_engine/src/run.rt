@@ -116,6 +116,7 @@ where
     requires distinct { has_duplicate (journals seats.items) ≡ false }
     requires out { AllOut (journals seats.items) (F.is_out shelf.old) }
     requires later { AreLater F.D.faults (F.disk_faults shelf.old) seats.items }
+    requires own { AreOwn F.D.origin (F.lent shelf.old).origin seats.items }
     requires spare { vec_len answers < vec_capacity answers }
     ensures ended { (lines : List Answer) → AreNumbered lines
         → All (λ line. line.number < count) lines → IsPermutation lines answers.items
@@ -185,6 +186,7 @@ where
     requires distinct { has_duplicate (journals seats.items) ≡ false }
     requires out { AllOut (journals seats.items) (F.is_out shelf.old) }
     requires later { AreLater F.D.faults (F.disk_faults shelf.old) seats.items }
+    requires own { AreOwn F.D.origin (F.lent shelf.old).origin seats.items }
     requires empty { room.items ≡ [] }
     requires refusals { length seats.items ≤ vec_capacity room }
     ensures answered { IsAnswered registry.now.schema.now registry.now.world.now
