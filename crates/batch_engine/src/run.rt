@@ -12,7 +12,7 @@ ghost use Rattle.log_journal.specs.Opening.{header_bytes};
 ghost use Rattle.desk_crew.specs.Crew.{named_user, seat_name, IsSeatServed};
 ghost use Rattle.outside.specs.Shelf.{AllOut, AllIn, NoneOut, NoneFell, SomeRose, SameBeside};
 ghost use Rattle.desk_crew.specs.Shelved.{journals, journals_on};
-ghost use Rattle.desk_crew.specs.Shelved.{AreLater, AreBack};
+ghost use Rattle.desk_crew.specs.Shelved.{AreLater, AreOwn, AreBack};
 ghost use Rattle.desk_crew.specs.Registered.{AllKeepLimits, SeatsKeepLimits};
 ghost use Rattle.desk_crew.specs.Registered.{registered_journals, HaveOwnNames};
 ghost use Rattle.batch_engine.specs.BatchOf.{items_of};

@@ -10,8 +10,8 @@ use Rattle.user_desk.specs.declared.standing.DeskError.{DeskError}
 use Rattle.desk_crew.specs.Crew.{seat_journal, seat_disk, disk_seated, AreReopened}
 use Rattle.desk_crew.specs.Seats.{DeskSeat}
 use Rattle.desk_crew.specs.Shelved.{AreOwn}
-use Rattle.desk_crew.specs.Side.{DeskPlace, DeskOpening, AtDisk, IfAtDisk, IsAtDisk, place_journal, place_origin, IsOwn, OpeningsOwn, IsShut, IsClosedDisk, IsClosedOf}
-use Rattle.desk_crew.specs.Side.{IsTried, IsTriedFrom, IsSeatOn, AreSeatsFrom}
+use Rattle.desk_crew.specs.Side.{DeskPlace, DeskOpening, AtDisk, IfAtDisk, IsAtDisk, place_journal, place_origin, OpeningsOwn, IsShut}
+use Rattle.desk_crew.specs.Side.{IsClosedDisk, IsClosedOf, IsTried, IsTriedFrom, IsSeatOn, AreSeatsFrom}
 
 -- one more of which something holds
 pub all_more : {X : Type 0} (P : X → Type 0) (xs : List X) (x : X) → AllByRecursion P xs → P x → AllByRecursion P (xs ++ x ∷ [])

@@ -17,7 +17,8 @@ exchanged_push (first ∷ dials) dial =
     ∙ sym (append_assoc (dial_exchanged first) (exchanged_among dials) (dial_exchanged dial))
 
 -- with a further dial comes what it exchanged
-pub exchanged_more : (dials new : List MemoryDial) (dial : MemoryDial) → new ≡ dials ++ dial ∷ [] → exchanged_among new ≡ exchanged_among dials ++ dial_exchanged dial
+pub exchanged_more : (dials new : List MemoryDial) (dial : MemoryDial) → new ≡ dials ++ dial ∷ []
+    → exchanged_among new ≡ exchanged_among dials ++ dial_exchanged dial
 exchanged_more dials new dial is = ap exchanged_among is ∙ exchanged_push dials dial
 
 module _ {X : Type 0} (own : X → List ℕ) (faults : X → ℕ) (dials new : List X) (dial : X) (is : new ≡ dials ++ dial ∷ []) where

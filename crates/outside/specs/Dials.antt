@@ -3,8 +3,8 @@ use Rattle.std.specs.Prelude.{◌≡◌, ◌⊎◌, ◌∷◌, ◌++◌, [], ℕ
 use Rattle.std.specs.Prelude.{bytes_eq, if◌then◌else◌}
 use Rattle.std.specs.List.{sum_by}
 
--- An exchange: the address that was called, the frame that was given, the number that the answer had
--- to be above, and the number that was answered, if one was.
+-- An exchange: the address that was called, the frame that was given, the number that the answer
+-- had to be above, and the number that was answered, if one was.
 pub record Exchange : Type 0 where
   pub address : List ℕ
   pub frame : List ℕ

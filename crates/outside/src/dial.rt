@@ -7,8 +7,8 @@ use crate::Failed;
 
 /// What gives frames to the standby at an address and takes its answers.
 pub trait Dial {
-    /// Whether clauses are told what it exchanges: over memory they are, over a real socket they are
-    /// not.
+    /// Whether clauses are told what it exchanges: over memory they are, over a real socket they
+    /// are not.
     ghost tells: { Type 0 };
 
     /// The address that it calls. No call changes it.

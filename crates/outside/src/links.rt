@@ -222,8 +222,8 @@ pub trait Links {
         ensures listened { tells → listened self.new ≡ listened self.old }
         ensures faults { faults self.new ≡ faults self.old };
 
-    /// Takes a dial back that `dial` gave. Its faults are added to the second count of its name, and
-    /// to no other. It takes no memory.
+    /// Takes a dial back that `dial` gave. Its faults are added to the second count of its name,
+    /// and to no other. It takes no memory.
     fn hang_up(&mut self, dial: Self::Dial)
         requires { 0 < dialling self.old }
         ensures dialling { dialling self.old ≡ dialling self.new + 1 }

@@ -4,8 +4,8 @@ ghost use Rattle.std.specs.Prelude.{◌≡◌, ◌++◌, ◌∷◌, [], map, str
 use crate::{Dial, Failed, Plan};
 use std::alloc::{AllocError, Global};
 
-/// A frame that a dial in memory was answered, and what its answer had to be above: it was one above
-/// that.
+/// A frame that a dial in memory was answered, and what its answer had to be above: it was one
+/// above that.
 #[derive(Drop)]
 pub struct Answered {
     pub frame: Vec<u8>,

@@ -6,7 +6,7 @@ use Rattle.std.proofs.lemmas.Bool.{eq-eqb, eqb-true}
 use Rattle.std.proofs.lemmas.Option.{same_Some}
 use Rattle.log_journal.specs.Journal.{is_broken}
 use Rattle.log_journal.specs.Records.{Recorded, IsJournal, Adds, KeepsOrAdds}
-use Rattle.standby_core.specs.Copies.{Copy, copy_in, copy_at, copy_after, copies_after, held_name, HasCount, HasFailed}
+use Rattle.standby_core.specs.Copies.{Copy, copy_in, copy_at, copy_after, copies_after, held_name, held_origin, HasCount, HasFailed}
 use Rattle.standby_core.specs.Frames.{Carried}
 use Rattle.standby_core.specs.Lasting.{HasBeginning, Lasts, AllLast, IsCounted, AllCounted, has_broken}
 use Rattle.standby_core.specs.Named.{first_named}
@@ -119,6 +119,14 @@ module _ {D : Type 0} {g : _} where
   names_set test journals place old new (here held others is) same = λ i. same i ∷ map held_name others
   names_set test journals place old new (further held first others after miss stands) same =
       λ i. held_name held ∷ names_set test others after first new stands same i
+
+  -- and where their disks come from
+  pub origins_set : (origin : D → List (List ℕ)) (test : Held D g → Bool) (journals : List (Held D g)) (place : ℕ) (old new : Held D g)
+      → Stands test journals place old → held_origin origin new ≡ held_origin origin old
+      → map (held_origin origin) (slice_set journals place new) ≡ map (held_origin origin) journals
+  origins_set origin test journals place old new (here held others is) same = λ i. same i ∷ map (held_origin origin) others
+  origins_set origin test journals place old new (further held first others after miss stands) same =
+      λ i. held_origin origin held ∷ origins_set origin test others after first new stands same i
 
   -- the counts are kept
   pub counted_set : (faults : D → ℕ) (test : Held D g → Bool) (journals : List (Held D g)) (place : ℕ) (old new : Held D g) → Stands test journals place old

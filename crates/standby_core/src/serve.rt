@@ -3,7 +3,7 @@ ghost use Rattle.std.specs.Prelude.{◌≡◌, ◌⊎◌, ◌≤◌, List, ℕ, 
 ghost use Rattle.outside.specs.Faults.{Rose};
 ghost use Rattle.log_journal.specs.Records.{Recorded};
 ghost use Rattle.standby_core.specs.Books.{copies_in};
-ghost use Rattle.standby_core.specs.Copies.{held_name};
+ghost use Rattle.standby_core.specs.Copies.{held_name, held_origin};
 ghost use Rattle.standby_core.specs.Exchanges.{Serves, IsAnswered, Took, IsTaking};
 ghost use Rattle.standby_core.specs.Frames.{Carried, IsFrame};
 ghost use Rattle.standby_core.specs.Lasting.{AllLast, AllCounted, has_broken};
@@ -51,6 +51,8 @@ pub fn serve_standby<R: Wait, D: Disk, S: Source, K: Sink>(
         → AllLast D.reads D.image own firsts book.new.journals.items }
     ensures names { map held_name book.new.journals.items
         ≡ map held_name book.old.journals.items }
+    ensures origins { map (held_origin D.origin) book.new.journals.items
+        ≡ map (held_origin D.origin) book.old.journals.items }
     ensures counted { (counts : List ℕ) → AllCounted D.faults counts book.old.journals.items
         → AllCounted D.faults counts book.new.journals.items }
     ensures broke { (result ≡ StandbyEnd.Take TakeError.DiskFault)
@@ -99,6 +101,8 @@ fn take_frame<D: Disk, K: Sink>(
         → AllLast D.reads D.image own firsts book.new.journals.items }
     ensures names { map held_name book.new.journals.items
         ≡ map held_name book.old.journals.items }
+    ensures origins { map (held_origin D.origin) book.new.journals.items
+        ≡ map (held_origin D.origin) book.old.journals.items }
     ensures counted { (counts : List ℕ) → AllCounted D.faults counts book.old.journals.items
         → AllCounted D.faults counts book.new.journals.items }
     ensures broke { (result ≡ Err (StandbyEnd.Take TakeError.DiskFault))

@@ -4,7 +4,8 @@ use Rattle.outside.specs.Shelf.{AllOut}
 use Rattle.cqe_base.specs.Schema.{has_duplicate}
 use Rattle.log_journal.specs.Opening.{header_bytes}
 use Rattle.list_sums.proofs.Lent.{lent_whole}
-use Rattle.desk_crew.specs.Side.{DeskOpening, place_of, is_shut, HasPlace, opening_journals, OpeningsLater, OpeningsOwn, KeepsOpening, IsKnown, IsTried, AreTried}
+use Rattle.desk_crew.specs.Side.{DeskOpening, place_of, is_shut, HasPlace, opening_journals}
+use Rattle.desk_crew.specs.Side.{OpeningsLater, OpeningsOwn, KeepsOpening, IsKnown, IsTried, AreTried}
 use Rattle.desk_crew.proofs.Giving.{CanPutBack, WerePutBack}
 use Rattle.desk_crew.proofs.Owning.{tried_own}
 use Rattle.desk_crew.proofs.Placing.{all_tried, all_placed, can_tried, returned_tried, seats_tried}
