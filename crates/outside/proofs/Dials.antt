@@ -22,7 +22,7 @@ pub exchanged_more : (dials new : List MemoryDial) (dial : MemoryDial) → new �
 exchanged_more dials new dial is = ap exchanged_among is ∙ exchanged_push dials dial
 
 module _ {X : Type 0} (own : X → List ℕ) (faults : X → ℕ) (dials new : List X) (dial : X) (is : new ≡ dials ++ dial ∷ []) where
-  faults_more : (name : List ℕ) → faults_under own faults new name ≡ faults_under own faults dials name + faults_for own faults name dial
+  pub faults_more : (name : List ℕ) → faults_under own faults new name ≡ faults_under own faults dials name + faults_for own faults name dial
   faults_more name =
       let whole = ap (λ l. faults_under own faults l name) is in
       let parts = sum_by-append (faults_for own faults name) dials (dial ∷ []) in

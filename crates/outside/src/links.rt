@@ -206,7 +206,8 @@ pub trait Links {
     fn dial(&mut self, alloc: Global, address: &str, name: &str) -> Result<Self::Dial, AllocError>
         ensures address { IfOk result (λ dial. Self.Dial.address dial ≡ address.now) }
         ensures name { IfOk result (λ dial. Self.Dial.name dial ≡ name.now) }
-        ensures fresh { tells → IfOk result (λ dial. Self.Dial.exchanged dial ≡ []) }
+        ensures fresh { Self.Dial.tells
+            → IfOk result (λ dial. Self.Dial.exchanged dial ≡ []) }
         ensures whole { IfOk result (λ dial. Self.Dial.faults dial ≡ 0) }
         ensures unanswered { IfOk result (λ dial. Self.Dial.answered dial ≡ 0) }
         ensures dialling { OnOk result (dialling self.new ≡ dialling self.old + 1) }
