@@ -24,7 +24,7 @@ all_behind : {X : Type 0} (P : X → Type 0) (xs ys : List X) → AllByRecursion
 all_behind P [] ys first second = second
 all_behind P (x ∷ xs) ys first second = (first.0, all_behind P xs ys first.1 second)
 
-all_weaker : {X : Type 0} (P Q : X → Type 0) → ((x : X) → P x → Q x) → (xs : List X) → AllByRecursion P xs → AllByRecursion Q xs
+pub all_weaker : {X : Type 0} (P Q : X → Type 0) → ((x : X) → P x → Q x) → (xs : List X) → AllByRecursion P xs → AllByRecursion Q xs
 all_weaker P Q weaker [] all = tt
 all_weaker P Q weaker (x ∷ xs) all = (weaker x all.0, all_weaker P Q weaker xs all.1)
 

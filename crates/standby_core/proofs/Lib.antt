@@ -11,3 +11,4 @@ pub mod Making
 pub mod Naming
 pub mod Serving
 pub mod Slotting
+pub mod There
