@@ -333,7 +333,8 @@ module _ {F D : Type 0} (Shelf : ShelfGhosts F D) (Disk : DiskGhosts D) (old new
     of_reading (Some (runs_audit its user json)) e does same =
         of_audit user json e (subst (λ (f : FileNames). OfAudit (scene_of shelf input output links) f user json e) same does.command).ends
     of_reading (Some (runs_serve its address workers limit)) e does same =
-        of_serve address workers limit e (subst (λ (f : FileNames). OfServe (scene_of shelf input output links) f address workers limit e) same does.command).ends
+        of_serve address workers limit e
+        (subst (λ (f : FileNames). OfServe (scene_of shelf input output links) f address workers limit e) same does.command).ends
     of_reading (Some (runs_dossier its user)) e does same =
         of_dossier user e (subst (λ (f : FileNames). OfDossier (scene_of shelf input output links) f user e) same does.command).ends
     of_reading None e does uses = absurd uses

@@ -86,8 +86,8 @@ pub record KeepsDoors (links : LinksScene) : Type 0 where
   pub back : links.tells → links.back' ≡ links.back
   pub listened : links.tells → links.listened' ≡ links.listened
 
--- `batch` with a standby at this address, as `OfBatch`: it listens nowhere, and opens connections to
--- the standby, or leaves the links alone
+-- `batch` with a standby at this address, as `OfBatch`: it listens nowhere, and opens connections
+-- to the standby, or leaves the links alone
 pub record OfCopiedBatch (s : Scene) (files : FileNames) (standby : Text) (end : CommandEnd)
     : Type 0 where
   pub ends : BatchEnds s.shelf s.input s.output files end

@@ -68,8 +68,8 @@ abbrev pub NoNewMoments : {D : Type 0} → (D → ℕ) → (D → ℕ → List �
 NoNewMoments moment since image old new =
     (name : List ℕ) → NoNewSince moment since image (old name) (new name)
 
--- What stays the same of a shelf, so that who lent it something knows what he has back: the names of
--- the references by which it reaches that, what says where the disks come from that it was lent,
+-- What stays the same of a shelf, so that who lent it something knows what he has back: the names
+-- of the references by which it reaches that, what says where the disks come from that it was lent,
 -- one by one, and the same of the disk of each name.
 pub record Lent : Type 0 where
   pub names : List ℕ

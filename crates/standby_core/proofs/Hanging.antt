@@ -141,6 +141,7 @@ module _ {C : Type 0} {g : _} (own address : C → List ℕ) (exchanged : C → 
       let texts = slot_texts own address slot in
       let made = map (slot_texts own address) slots in
       all_behind (IsCallAmong (texts ∷ made)) (exchanged_among exchanged slots) (exchanged_in exchanged slot.place)
-      (all_weaker (IsCallAmong made) (IsCallAmong (texts ∷ made)) (λ one is. (suc is.0, is.1, is.2, is.3)) (exchanged_among exchanged slots) (calls_among slots))
+      (all_weaker (IsCallAmong made) (IsCallAmong (texts ∷ made)) (λ one is. (suc is.0, is.1, is.2, is.3)) (exchanged_among exchanged slots)
+      (calls_among slots))
       (all_weaker (IsCallBy texts) (IsCallAmong (texts ∷ made)) (λ one is. (0, texts, refl, is)) (exchanged_in exchanged slot.place)
       (calls_in texts slot.place (same slot)))

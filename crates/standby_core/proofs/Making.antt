@@ -1,5 +1,6 @@
 -- Mirrors that are made, one for each user.
-use Rattle.std.proofs.Common.{◌≡◌, ℕ, suc, ◌+◌, ◌<◌, ◌||◌, Bool, true, false, Option, Some, None, List, [], ◌∷◌, ◌++◌, length, take, map, get_or, refl, sym, ap, ◌∙◌}
+use Rattle.std.proofs.Common.{◌≡◌, ℕ, suc, ◌+◌, ◌<◌, ◌||◌, Bool, true, false, Option, Some, None}
+use Rattle.std.proofs.Common.{List, [], ◌∷◌, ◌++◌, length, take, map, get_or, refl, sym, ap, ◌∙◌}
 use Rattle.std.proofs.Common.{arith, option_map}
 use Rattle.std.specs.Prelude.{bytes_eq, string_bytes, if◌then◌else◌}
 use Rattle.std.specs.List.{AllByRecursion, sum_by}

@@ -1,5 +1,6 @@
 -- What stands under the names of mirrors, where one is taken or put back.
-use Rattle.std.proofs.Common.{◌≡◌, ℕ, zero, suc, Bool, true, false, Option, Some, None, List, [], ◌∷◌, ◌++◌, get_or, take, drop, map, refl, sym, ap, subst, ◌∙◌, option_map}
+use Rattle.std.proofs.Common.{◌≡◌, ℕ, zero, suc, Bool, true, false, Option, Some, None, List, []}
+use Rattle.std.proofs.Common.{◌∷◌, ◌++◌, get_or, take, drop, map, refl, sym, ap, subst, ◌∙◌, option_map}
 use Rattle.std.specs.Prelude.{bytes_eq, position, slice_set, is_some, IfNone}
 use Rattle.std.specs.Cmp.Lexicographic.{same_text}
 use Rattle.std.proofs.lemmas.Option.{none-some, same_Some}

@@ -58,7 +58,8 @@ module _ {C : Type 0} {g : _} where
   all_there [] distinct none = refl
   all_there (slot ∷ slots) distinct none =
       let parts = or_parts (contains_text (map slot_name slots) (slot_name slot)) (has_duplicate (map slot_name slots)) distinct in
-      let here : there_in slot.place ≡ 1 = is_there slot.place (first (bytes_eq (slot_name slot) (slot_name slot)) (text_is (slot_name slot)) (none (slot_name slot))) in
+      let here : there_in slot.place ≡ 1 =
+      is_there slot.place (first (bytes_eq (slot_name slot) (slot_name slot)) (text_is (slot_name slot)) (none (slot_name slot))) in
       let sums = sum_by-cons (λ (s : Slot C g). there_in s.place) slot slots in
       let rest = all_there slots parts.1 (λ name. later name (bytes_eq (slot_name slot) name) refl parts.0 (none name)) in
       omega (arith, here, sums, rest)

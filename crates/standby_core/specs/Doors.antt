@@ -4,8 +4,8 @@ use Rattle.outside.specs.Shelf.{SameNames}
 use Rattle.outside.specs.declared.links.Links.{Ghosts as LinksGhosts}
 
 -- Of the links' doors and connections all is as it was, and their count of faults too: of links
--- that only dial and hang up, the dials alone may be others, with what they exchanged and the second
--- count.
+-- that only dial and hang up, the dials alone may be others, with what they exchanged and the
+-- second count.
 pub record KeepsDoors {L D C S K : Type 0} (Links : LinksGhosts L D C S K) (old new : L) :
     Type 0 where
   pub faults : Links.faults new ≡ Links.faults old

@@ -42,7 +42,8 @@ copied_serve-end-requires-clause-names g c κs within =
     ∙ c.in-Ok.ensures.names
 
 pub mirrors_for-requires : goal.mirrors_for-requires
-mirrors_for-requires g c κs within = ap has_duplicate (ap (λ users. map (λ user. string_bytes user.name) users) c.as_slice.ensures.value) ∙ c.in-Ok.ensures.names
+mirrors_for-requires g c κs within =
+    ap has_duplicate (ap (λ users. map (λ user. string_bytes user.name) users) c.as_slice.ensures.value) ∙ c.in-Ok.ensures.names
 
 pub copied_batch-end-requires-clause-there : goal.copied_batch-end-requires-clause-there
 copied_batch-end-requires-clause-there g c κs within =

@@ -28,7 +28,8 @@ use Rattle.cqe_top.specs.declared.end.CommandEnd.TheVariants as ends
 use Rattle.cqe_top.specs.declared.over_files.Task.TheVariants.{OfUser}
 use Rattle.cqe_top.proofs.Causes.{files_cause, init_cause, batch_cause, audit_cause, dossier_cause, check_cause, migrate_cause, serve_cause, standby_cause}
 use Rattle.cqe_top.proofs.Finding.{is_named, one_named, named_at, nobody_named}
-use Rattle.cqe_top.proofs.Good.{unread, nobody_called, init_succeeds, batch_succeeds, audit_succeeds, dossier_succeeds, check_succeeds, migrate_succeeds, nobody_there}
+use Rattle.cqe_top.proofs.Good.{unread, nobody_called, init_succeeds, batch_succeeds, audit_succeeds, dossier_succeeds, check_succeeds, migrate_succeeds}
+use Rattle.cqe_top.proofs.Good.{nobody_there}
 use Rattle.cqe_top.proofs.Over.{serve_over, init_caused, some_rose, same_journals, touches_over, init_over, others_over, bytes_over, images_over, batch_over}
 use Rattle.cqe_top.proofs.Over.{batch_left, serve_left, one_of, silent_end, silent_dossier, counts_over, counted_over, moments_over}
 use Rattle.cqe_top.proofs.Over.{copies_left, copies_served, durable_over, migrate_over, migrate_caused, counts_both, at_one_of}
