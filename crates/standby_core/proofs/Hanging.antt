@@ -1,5 +1,5 @@
 -- Dials that are hung up, one after the other.
-use Rattle.std.proofs.Common.{◌≡◌, ℕ, suc, ◌+◌, ◌||◌, Bool, true, false, Option, Some, None, List, [], ◌∷◌, ◌++◌, length, map, refl, sym, ap, subst, ◌∙◌}
+use Rattle.std.proofs.Common.{◌≡◌, ℕ, suc, ◌+◌, ◌||◌, Bool, true, false, Option, Some, None, List, [], ◌∷◌, ◌++◌, length, map, get_or, refl, sym, ap, subst, ◌∙◌}
 use Rattle.std.proofs.Common.{arith, append_assoc, append-nil, All, option_map}
 use Rattle.std.specs.Prelude.{bytes_eq, if◌then◌else◌}
 use Rattle.std.specs.List.{AllByRecursion, slice_get, sum_by}
@@ -119,6 +119,28 @@ module _ {C : Type 0} {g : _} where
         by : (b : Bool) → bytes_eq name (slot_name slot) ≡ b → now name ≡ before name + (if b then at_slot slot else 0)
         by true is = subst (λ n. now n ≡ before n + at_slot slot) (sym (same_text name (slot_name slot) (sym is))) own
         by false is = let same = others name is in omega (arith, same)
+
+-- ---- a dial that is hung up, of the mirror in a place
+
+module _ {C : Type 0} {g : _} (own : C → List ℕ) (dial : C) (mirror : Mirror C g) (is : dial ≡ dial_of mirror) (slot : Slot C g) where
+  -- it has the name of its place
+  pub dial_named : (address : C → List ℕ) → mirror_in (Some slot.place) ≡ Some mirror → own (dial_of slot.made.value) ≡ slot_name slot
+      → texts_or own address (slot_texts own address slot) (mirror_in (Some slot.place)) ≡ slot_texts own address slot → own dial ≡ slot_name slot
+  dial_named address here named same =
+      ap own is ∙ ap first (subst (λ m. texts_or own address (slot_texts own address slot) m ≡ slot_texts own address slot) here same) ∙ named
+    where
+      first : List (List ℕ) → List ℕ
+      first texts = get_or texts 0 []
+
+  -- what is counted under the name
+  pub hung_faults : (faults : C → ℕ) (before now : List ℕ → ℕ) → faults (dial_of mirror) ≡ faults_in faults (Some slot.place) → own dial ≡ slot_name slot
+      → now (own dial) ≡ before (own dial) + faults dial → now (slot_name slot) ≡ before (slot_name slot) + faults_in faults (Some slot.place)
+  hung_faults faults before now count named hung =
+      subst (λ n. now n ≡ before n + faults_in faults (Some slot.place)) named (hung ∙ ap (λ k. before (own dial) + k) (ap faults is ∙ count))
+
+  -- and under all others
+  pub hung_others : (before now : List ℕ → ℕ) → own dial ≡ slot_name slot → SameOthers (own dial) before now → SameOthers (slot_name slot) before now
+  hung_others before now named others = subst (λ n. SameOthers n before now) named others
 
 -- ---- what the dials exchanged
 
