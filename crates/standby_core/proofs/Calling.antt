@@ -42,7 +42,7 @@ failed_so address header one frame result all all' is same (inl kept) = inl kept
 failed_so address header one frame result all all' is same (inr next) =
     inr (next ∙ (λ i. all ++ record { address = address; frame = is i; above = one.number; answer = same i } ∷ []))
 
--- it comes from where it came from
+-- and what says where its disk comes from stays the same
 pub texts_kept : {C : Type 0} {g : _} (own address : C → List ℕ) (old new : Mirror C g) → header_of new ≡ header_of old → user_of new ≡ user_of old
     → own (dial_of new) ≡ own (dial_of old) → address (dial_of new) ≡ address (dial_of old) → texts_of own address new ≡ texts_of own address old
 texts_kept own address old new header user named called =
