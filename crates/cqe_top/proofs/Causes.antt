@@ -3,6 +3,7 @@ use Rattle.std.proofs.Common.{◌≡◌, ℕ, List, Bool, true, false, refl, sym
 use Rattle.std.specs.Prelude.{Vec, Option, None, if◌then◌else◌}
 use Rattle.std.specs.declared.alloc.Global.{Global}
 use Rattle.std.specs.Borrow.{Bor}
+use Rattle.cqe_base.specs.Schema.{Text}
 use Rattle.cqe_base.specs.declared.user.User.{User}
 use Rattle.user_desk.specs.declared.standing.DeskError.{DeskError}
 use Rattle.audit_engine.specs.declared.end.AuditEnd.{AuditEnd}
@@ -17,8 +18,11 @@ use Rattle.dossier_engine.specs.declared.end.CheckEnd.TheVariants as check_end
 use Rattle.dossier_engine.specs.declared.end.DossierEnd.{DossierEnd}
 use Rattle.dossier_engine.specs.declared.end.DossierEnd.TheVariants as dossier_end
 use Rattle.outside.specs.Shelf.{SomeRose}
+use Rattle.init_engine.specs.Ends.{EndsInit}
 use Rattle.init_engine.specs.declared.end.InitEnd.{InitEnd}
 use Rattle.init_engine.specs.declared.end.InitEnd.TheVariants as init_end
+use Rattle.log_journal.specs.Names.{journal_name}
+use Rattle.migrate_engine.specs.Ends.{EndsMigrate}
 use Rattle.migrate_engine.specs.declared.end.MigrateEnd.{MigrateEnd}
 use Rattle.migrate_engine.specs.declared.end.MigrateEnd.TheVariants as migrate_end
 use Rattle.selfrun_engine.specs.declared.end.SelfrunEnd.{SelfrunEnd}
@@ -36,6 +40,7 @@ use Rattle.cqe_top.specs.declared.end.FilesEnd.{FilesEnd}
 use Rattle.cqe_top.specs.declared.end.FilesEnd.TheVariants as files_end
 use Rattle.cqe_top.specs.declared.report.Report.{Report}
 use Rattle.cqe_top.specs.declared.report.Report.TheVariants as report
+use Rattle.cqe_top.specs.Init.{change_on}
 use Rattle.cqe_top.specs.Promise.{OfReading, Does, Always}
 use Rattle.cqe_top.specs.Reports.{report_of, answers_report, has_refusal, FaultsHaveCauses}
 use Rattle.cqe_top.specs.Scene.{Scene, HasRisen}
@@ -75,22 +80,22 @@ module _ (s : Scene) where
   case_cause case_end.WriteFault read write = has_cause _ (write refl)
   case_cause case_end.Memory read write = has_cause _ tt
 
-  pub init_cause : (users : Vec User Global) (end : InitEnd) → (end ≡ init_end.ShelfFault → HasRisen s.shelf.faults)
-      → (end ≡ init_end.DiskFault → SomeRose s.shelf.disk_faults s.shelf.disk_faults') → FaultsHaveCauses s (ends.Init users end)
-  init_cause users init_end.Done shelf disk = has_cause _ tt
-  init_cause users (init_end.Refused user why) shelf disk = has_cause _ tt
-  init_cause users init_end.DiskFault shelf disk = has_cause _ (disk refl)
-  init_cause users init_end.ShelfFault shelf disk = has_cause _ (shelf refl)
-  init_cause users init_end.Memory shelf disk = has_cause _ tt
+  pub init_cause : (header directory : List ℕ) (names : List Text) (users : Vec User Global) (end : InitEnd)
+      → EndsInit s.shelf.tells s.shelf.Disk header directory names (change_on s.shelf) end → FaultsHaveCauses s (ends.Init users end)
+  init_cause header directory names users init_end.Done ended = has_cause _ tt
+  init_cause header directory names users (init_end.Refused user why) ended = has_cause _ tt
+  init_cause header directory names users init_end.DiskFault (user, ended) = has_cause _ (journal_name directory ended.name, ended.reason)
+  init_cause header directory names users init_end.ShelfFault (user, ended) = has_cause _ ended.reason
+  init_cause header directory names users init_end.Memory ended = has_cause _ tt
 
-  pub migrate_cause : (users : Vec User Global) (end : MigrateEnd) → (end ≡ migrate_end.ShelfFault → HasRisen s.shelf.faults)
-      → (end ≡ migrate_end.DiskFault → SomeRose s.shelf.disk_faults s.shelf.disk_faults') → FaultsHaveCauses s (ends.Migrate users end)
-  migrate_cause users migrate_end.Done shelf disk = has_cause _ tt
-  migrate_cause users (migrate_end.Refused user why) shelf disk = has_cause _ tt
-  migrate_cause users (migrate_end.NotEmpty user) shelf disk = has_cause _ tt
-  migrate_cause users migrate_end.DiskFault shelf disk = has_cause _ (disk refl)
-  migrate_cause users migrate_end.ShelfFault shelf disk = has_cause _ (shelf refl)
-  migrate_cause users migrate_end.Memory shelf disk = has_cause _ tt
+  pub migrate_cause : (header from to : List ℕ) (names : List Text) (users : Vec User Global) (end : MigrateEnd)
+      → EndsMigrate s.shelf.tells s.shelf.Disk header from to names (change_on s.shelf) end → FaultsHaveCauses s (ends.Migrate users end)
+  migrate_cause header from to names users migrate_end.Done ended = has_cause _ tt
+  migrate_cause header from to names users (migrate_end.Refused user why) ended = has_cause _ tt
+  migrate_cause header from to names users (migrate_end.NotEmpty user) ended = has_cause _ tt
+  migrate_cause header from to names users migrate_end.DiskFault (user, ended) = has_cause _ (journal_name to ended.name, ended.reason.1)
+  migrate_cause header from to names users migrate_end.ShelfFault (user, ended) = has_cause _ ended.reason
+  migrate_cause header from to names users migrate_end.Memory ended = has_cause _ tt
 
   -- asks that were answered to their end
   answers_cause : (users : Vec User Global) (refusals : Vec (Option DeskError) Global) (is_refused is_broken : Bool) → has_refusal refusals.items ≡ is_refused

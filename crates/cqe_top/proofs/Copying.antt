@@ -1,32 +1,24 @@
 -- A shelf whose disks a standby copies shows the journals of the shelf that it was lent, where the faults of each disk are counted with those of its dial.
-use Rattle.std.proofs.Common.{◌≡◌, ◌⊎◌, ℕ, ◌+◌, ◌≤◌, ◌<◌, List, [], ◌∷◌, Option, Some, None, map, refl, sym, subst, ap, ◌∙◌, arith}
+use Rattle.std.proofs.Common.{◌≡◌, ℕ, ◌+◌, ◌≤◌, List, [], ◌∷◌, Option, Some, None, refl, sym, subst, ap, ◌∙◌, arith}
 use Rattle.std.specs.Prelude.{option_map}
 use Rattle.outside.specs.Faults.{Rose}
 use Rattle.outside.specs.Visits.{Visit, Place as Listened}
-use Rattle.outside.specs.Shelf.{SameNames, SameBeside, NoneFell, SomeRose, bytes_on, image_on, since_on, is_among}
+use Rattle.outside.specs.Shelf.{SameNames, SameBeside, NoneOut, NoneFell, SomeRose, bytes_on, image_on, since_on}
 use Rattle.outside.specs.declared.disk.Disk.{Ghosts as DiskGhosts}
 use Rattle.outside.specs.declared.shelf.Shelf.{Ghosts as ShelfGhosts}
 use Rattle.cqe_base.specs.Schema.{Text}
-use Rattle.desk_crew.specs.Shelved.{journals_by}
+use Rattle.desk_crew.specs.Shelved.{Journals, journals_by}
 use Rattle.log_journal.specs.Names.{journal_name}
 use Rattle.standby_core.specs.MirroredDisks.{inner_of}
-use Rattle.standby_core.specs.Places.{faults_in}
-use Rattle.standby_core.specs.Slots.{place_at, mirrored_at}
+use Rattle.standby_core.specs.Slots.{slots_of, place_at, mirrored_at, dial_faults}
+use Rattle.standby_core.specs.declared.mirrored_disk.MirroredDisk.{MirroredDisk}
+use Rattle.standby_core.specs.declared.mirrors.Mirrors.{Mirrors}
 use Rattle.standby_core.specs.declared.slot.Place.{Place}
-use Rattle.standby_core.specs.declared.slot.Slot.{Slot}
 use Rattle.standby_core.specs.Doors as doors
-use Rattle.command_words.specs.Readings.{FileNames}
-use Rattle.cqe_base.specs.declared.user.User.{User}
-use Rattle.desk_crew.specs.Crew.{named_user}
 use Rattle.outside.specs.declared.links.Links.{Ghosts as LinksGhosts}
-use Rattle.policy_files.specs.Memory.{policy_value_of}
-use Rattle.policy_files.specs.declared.policy.Policy.{Policy}
 use Rattle.cqe_top.specs.Copied.{KeepsDoors}
-use Rattle.cqe_top.specs.Files.{TouchesOnlyJournals, journals_of}
-use Rattle.cqe_top.specs.Scene.{ShelfScene, shelf_of, links_of}
-use Rattle.cqe_top.specs.Steps.{copied_counts, copied_journals}
-use Rattle.policy_files.specs.Users.{names_of}
-use Rattle.cqe_top.proofs.Users.{names_are, batch_names_are}
+use Rattle.cqe_top.specs.Scene.{links_of}
+use Rattle.cqe_top.specs.Steps.{KeepsOthers, copied_counts, copied_journals}
 
 -- ---- one disk with its mirror
 
@@ -60,90 +52,99 @@ none_more n m is = omega (arith, is)
 
 -- ---- all of them
 
--- the shelf and the mirrors as they were lent, by what the shelf with mirrors has of them
-module _ {F D C : Type 0} {g : _} (Shelf : ShelfGhosts F D) (Disk : DiskGhosts D) (faults : C → ℕ) (lent old new : F) (was : lent ≡ old)
-    (lent_slots slots slots' : List (Slot C g)) (were : lent_slots ≡ slots) (fresh : (name : Text) → faults_in faults (place_at slots name) ≡ 0) where
-  -- the exchanges that failed for the disk of a name
-  abbrev failed : Text → ℕ
-  failed name = faults_in faults (place_at slots' name)
+-- the disks that a shelf with mirrors shows, and the counts of their faults with those of the dials
+abbrev disks_with : {F D C : Type 0} {g : _} → ShelfGhosts F D → F → Mirrors C g → Text → Option (MirroredDisk D C g)
+disks_with Shelf shelf mirrors name = mirrored_at (Shelf.disk shelf name) (place_at (slots_of mirrors) name)
 
-  mirrors_copied : (directory : Text)
-      → journals_by (λ d. Disk.reads (inner_of d)) (λ d. Disk.image (inner_of d)) (λ d. Disk.moment (inner_of d)) (λ d. Disk.image_since (inner_of d)) directory
-      (λ name. mirrored_at (Shelf.disk old name) (place_at slots name)) (λ name. mirrored_at (Shelf.disk new name) (place_at slots' name))
-      (λ name. Shelf.disk_faults old name + faults_in faults (place_at slots name))
-      (λ name. Shelf.disk_faults new name + faults_in faults (place_at slots' name))
-      ≡ copied_journals Shelf Disk directory old new failed
-  mirrors_copied directory = λ i. record {
-    bytes = λ name. bytes_under Disk.reads (Shelf.disk old (journal_name directory name)) (place_at slots (journal_name directory name)) i;
-    image_before = λ name. image_under Disk.image (Shelf.disk old (journal_name directory name)) (place_at slots (journal_name directory name)) i;
-    before = λ name. none_more (Shelf.disk_faults old (journal_name directory name)) (faults_in faults (place_at slots (journal_name directory name)))
-        (fresh (journal_name directory name)) i;
-    now = λ name. copied_counts (Shelf.disk_faults new) failed (journal_name directory name);
-    reads = λ name. bytes_under Disk.reads (Shelf.disk new (journal_name directory name)) (place_at slots' (journal_name directory name)) i;
-    image = λ name. image_under Disk.image (Shelf.disk new (journal_name directory name)) (place_at slots' (journal_name directory name)) i;
-    began = λ name. moment_under Disk.moment (Shelf.disk old (journal_name directory name)) (place_at slots (journal_name directory name)) i;
-    ended = λ name. moment_under Disk.moment (Shelf.disk new (journal_name directory name)) (place_at slots' (journal_name directory name)) i;
-    since = λ name. since_under Disk.image_since (Shelf.disk new (journal_name directory name)) (place_at slots' (journal_name directory name)) i;
-  }
+abbrev counts_with : {F D C : Type 0} {g : _} → ShelfGhosts F D → (C → ℕ) → F → Mirrors C g → Text → ℕ
+counts_with Shelf faults shelf mirrors name = copied_counts (Shelf.disk_faults shelf) (dial_faults faults mirrors) name
 
-  pub same_copied : (directory : Text)
-      → journals_by (λ d. Disk.reads (inner_of d)) (λ d. Disk.image (inner_of d)) (λ d. Disk.moment (inner_of d)) (λ d. Disk.image_since (inner_of d)) directory
-      (λ name. mirrored_at (Shelf.disk lent name) (place_at lent_slots name)) (λ name. mirrored_at (Shelf.disk new name) (place_at slots' name))
-      (λ name. Shelf.disk_faults lent name + faults_in faults (place_at lent_slots name))
-      (λ name. Shelf.disk_faults new name + faults_in faults (place_at slots' name))
-      ≡ copied_journals Shelf Disk directory old new failed
-  same_copied directory =
-      (λ i. journals_by (λ d. Disk.reads (inner_of d)) (λ d. Disk.image (inner_of d)) (λ d. Disk.moment (inner_of d)) (λ d. Disk.image_since (inner_of d))
-      directory (λ name. mirrored_at (Shelf.disk (was i) name) (place_at (were i) name)) (λ name. mirrored_at (Shelf.disk new name) (place_at slots' name))
-      (λ name. Shelf.disk_faults (was i) name + faults_in faults (place_at (were i) name))
-      (λ name. Shelf.disk_faults new name + faults_in faults (place_at slots' name))) ∙ mirrors_copied directory
+-- what stands under the name of a journal
+abbrev place_of : {C : Type 0} {g : _} → Mirrors C g → Text → Text → Option (Place C g)
+place_of mirrors directory name = place_at (slots_of mirrors) (journal_name directory name)
 
-  before : (name : Text) → mirrored_at (Shelf.disk lent name) (place_at lent_slots name) ≡ mirrored_at (Shelf.disk old name) (place_at slots name)
-  before name = λ i. mirrored_at (Shelf.disk (was i) name) (place_at (were i) name)
+-- its journals
+abbrev journals_with : {F D C : Type 0} {g : _} → ShelfGhosts F D → DiskGhosts D → (C → ℕ) → Text → F → Mirrors C g → F → Mirrors C g → Journals
+journals_with Shelf Disk faults directory old mirrors new mirrors' =
+    journals_by (λ d. Disk.reads (inner_of d)) (λ d. Disk.image (inner_of d)) (λ d. Disk.moment (inner_of d)) (λ d. Disk.image_since (inner_of d)) directory
+    (disks_with Shelf old mirrors) (disks_with Shelf new mirrors') (counts_with Shelf faults old mirrors) (counts_with Shelf faults new mirrors')
 
-  counts_before : (name : Text) → Shelf.disk_faults lent name + faults_in faults (place_at lent_slots name) ≡ Shelf.disk_faults old name
-  counts_before name =
-      (λ i. Shelf.disk_faults (was i) name + faults_in faults (place_at (were i) name))
-      ∙ none_more (Shelf.disk_faults old name) (faults_in faults (place_at slots name)) (fresh name)
+-- A shelf and mirrors by which no exchange had failed were lent to a shelf with mirrors, and both are back as that left them.
+pub record Returns {F C : Type 0} {g : _} (faults : C → ℕ) (old lent left new : F) (mirrors lent' left' new' : Mirrors C g) : Type 0 where
+  pub was : lent ≡ old
+  pub were : lent' ≡ mirrors
+  pub is : new ≡ left
+  pub are : new' ≡ left'
+  pub fresh : (name : Text) → dial_faults faults mirrors name ≡ 0
 
-  -- a disk that the shelf with mirrors has as before, the lent shelf has as before
-  same_disk : (name : Text) → mirrored_at (Shelf.disk new name) (place_at slots' name) ≡ mirrored_at (Shelf.disk old name) (place_at slots name)
-      → Shelf.disk new name ≡ Shelf.disk old name
-  same_disk name same =
-      sym (lent_disk (Shelf.disk new name) (place_at slots' name)) ∙ ap (option_map inner_of) same ∙ lent_disk (Shelf.disk old name) (place_at slots name)
+module _ {F C : Type 0} {g : _} {faults : C → ℕ} {old lent left new : F} {mirrors lent' left' new' : Mirrors C g}
+    (back : Returns faults old lent left new mirrors lent' left' new') where
+  -- what holds of both shelves holds of what was lent
+  pub returned : (P : F → F → Type 0) → P lent left → P old new
+  returned P is = subst (λ shelf. P shelf new) back.was (subst (P lent) (sym back.is) is)
 
-  pub disks_under : (names : List Text)
-      → SameBeside names (λ name. mirrored_at (Shelf.disk lent name) (place_at lent_slots name))
-      (λ name. mirrored_at (Shelf.disk new name) (place_at slots' name)) → SameBeside names (Shelf.disk old) (Shelf.disk new)
-  disks_under names same name other = same_disk name (same name other ∙ before name)
+  module _ {D : Type 0} (Shelf : ShelfGhosts F D) where
+    counts_before : (name : Text) → counts_with Shelf faults lent lent' name ≡ Shelf.disk_faults old name
+    counts_before name = (λ i. counts_with Shelf faults (back.was i) (back.were i) name) ∙ none_more (Shelf.disk_faults old name) _ (back.fresh name)
 
-  -- the counts beside those of the dials
-  pub counts_under : (names : List Text)
-      → SameBeside names (λ name. Shelf.disk_faults lent name + faults_in faults (place_at lent_slots name))
-      (λ name. Shelf.disk_faults new name + faults_in faults (place_at slots' name))
-      → SameBeside names (Shelf.disk_faults old) (copied_counts (Shelf.disk_faults new) failed)
-  counts_under names same name other = same name other ∙ counts_before name
+    counts_behind : (name : Text) → counts_with Shelf faults left left' name ≡ counts_with Shelf faults new new' name
+    counts_behind name = λ i. counts_with Shelf faults (sym back.is i) (sym back.are i) name
 
-  pub all_counts_under : SameNames (λ name. Shelf.disk_faults lent name + faults_in faults (place_at lent_slots name))
-      (λ name. Shelf.disk_faults new name + faults_in faults (place_at slots' name))
-      → SameNames (Shelf.disk_faults old) (copied_counts (Shelf.disk_faults new) failed)
-  all_counts_under same name = same name ∙ counts_before name
+    -- a disk that the shelf with mirrors has as before, the lent shelf has as before
+    same_disk : (name : Text) → disks_with Shelf left left' name ≡ disks_with Shelf lent lent' name → Shelf.disk new name ≡ Shelf.disk old name
+    same_disk name same =
+        ap (λ shelf. Shelf.disk shelf name) back.is ∙ sym (lent_disk (Shelf.disk left name) (place_at (slots_of left') name)) ∙ ap (option_map inner_of) same
+        ∙ lent_disk (Shelf.disk lent name) (place_at (slots_of lent') name) ∙ ap (λ shelf. Shelf.disk shelf name) back.was
 
-  -- a count that rose on the shelf with mirrors rose by the disk or by its dial
-  pub some_rose_under : SomeRose (λ name. Shelf.disk_faults lent name + faults_in faults (place_at lent_slots name))
-      (λ name. Shelf.disk_faults new name + faults_in faults (place_at slots' name))
-      → SomeRose (Shelf.disk_faults old) (copied_counts (Shelf.disk_faults new) failed)
-  some_rose_under rose = (
-    rose.0,
-    subst (λ n. Rose n (Shelf.disk_faults new rose.0 + faults_in faults (place_at slots' rose.0))) (counts_before rose.0) rose.1,
-  )
+    -- what a run leaves of the shelf with mirrors, it leaves of the lent one
+    pub others_back : (journals : List Text) → SameBeside journals (disks_with Shelf lent lent') (disks_with Shelf left left')
+        → SameBeside journals (counts_with Shelf faults lent lent') (counts_with Shelf faults left left') → NoneOut (Shelf.is_out left)
+        → NoneFell (counts_with Shelf faults lent lent') (counts_with Shelf faults left left') → SameNames (Shelf.file lent) (Shelf.file left)
+        → Shelf.looked left ≡ Shelf.looked lent → Shelf.faults lent ≤ Shelf.faults left
+        → KeepsOthers Shelf journals old new (copied_counts (Shelf.disk_faults new) (dial_faults faults new'))
+    others_back journals disks counted inside fell files looked later = record {
+      disks = λ name other. same_disk name (disks name other);
+      other_counts = λ name other. sym (counts_behind name) ∙ counted name other ∙ counts_before name;
+      inside = returned (λ was is. NoneOut (Shelf.is_out is)) inside;
+      counts = λ name. subst (λ n. n ≤ counts_with Shelf faults new new' name) (counts_before name)
+          (subst (λ n. counts_with Shelf faults lent lent' name ≤ n) (counts_behind name) (fell name));
+      files = returned (λ was is. SameNames (Shelf.file was) (Shelf.file is)) files;
+      looked = returned (λ was is. Shelf.looked is ≡ Shelf.looked was) looked;
+      later = returned (λ was is. Shelf.faults was ≤ Shelf.faults is) later;
+    }
 
-  -- and none fell
-  pub none_fell_under : NoneFell (λ name. Shelf.disk_faults lent name + faults_in faults (place_at lent_slots name))
-      (λ name. Shelf.disk_faults new name + faults_in faults (place_at slots' name))
-      → NoneFell (Shelf.disk_faults old) (copied_counts (Shelf.disk_faults new) failed)
-  none_fell_under fell name =
-      subst (λ n. n ≤ Shelf.disk_faults new name + faults_in faults (place_at slots' name)) (counts_before name) (fell name)
+    -- a count that rose on the shelf with mirrors rose by the disk or by its dial
+    pub some_rose_back : SomeRose (counts_with Shelf faults lent lent') (counts_with Shelf faults left left')
+        → SomeRose (Shelf.disk_faults old) (copied_counts (Shelf.disk_faults new) (dial_faults faults new'))
+    some_rose_back (name, rose) = (
+      name,
+      subst (λ n. Rose n (counts_with Shelf faults new new' name)) (counts_before name)
+          (subst (λ n. Rose (counts_with Shelf faults lent lent' name) n) (counts_behind name) rose),
+    )
+
+    -- where the shelf with mirrors is as it was, so is the lent one
+    pub none_changed : left ≡ lent → left' ≡ lent' → SameNames (Shelf.disk old) (Shelf.disk new)
+        × SameNames (Shelf.disk_faults old) (copied_counts (Shelf.disk_faults new) (dial_faults faults new'))
+    none_changed same alike = (
+      λ name. ap (λ shelf. Shelf.disk shelf name) (back.is ∙ same ∙ back.was),
+      λ name. sym (counts_behind name) ∙ (λ i. counts_with Shelf faults (same i) (alike i) name) ∙ counts_before name,
+    )
+
+    -- its journals are those of the lent shelf, where exchanges that failed are counted
+    pub journals_back : (Disk : DiskGhosts D) (directory : Text) → journals_with Shelf Disk faults directory lent lent' left left'
+        ≡ copied_journals Shelf Disk directory old new (dial_faults faults new')
+    journals_back Disk directory =
+        (λ i. journals_with Shelf Disk faults directory (back.was i) (back.were i) (sym back.is i) (sym back.are i)) ∙ (λ i. record {
+          bytes = λ name. bytes_under Disk.reads (Shelf.disk old (journal_name directory name)) (place_of mirrors directory name) i;
+          image_before = λ name. image_under Disk.image (Shelf.disk old (journal_name directory name)) (place_of mirrors directory name) i;
+          before = λ name. none_more (Shelf.disk_faults old (journal_name directory name)) _ (back.fresh (journal_name directory name)) i;
+          now = λ name. counts_with Shelf faults new new' (journal_name directory name);
+          reads = λ name. bytes_under Disk.reads (Shelf.disk new (journal_name directory name)) (place_of new' directory name) i;
+          image = λ name. image_under Disk.image (Shelf.disk new (journal_name directory name)) (place_of new' directory name) i;
+          began = λ name. moment_under Disk.moment (Shelf.disk old (journal_name directory name)) (place_of mirrors directory name) i;
+          ended = λ name. moment_under Disk.moment (Shelf.disk new (journal_name directory name)) (place_of new' directory name) i;
+          since = λ name. since_under Disk.image_since (Shelf.disk new (journal_name directory name)) (place_of new' directory name) i;
+        })
 
 -- ---- what was lent is back
 
@@ -164,12 +165,6 @@ shelf_back x now old new lent rule = rule (sym (ap first_name lent))
 pub mirrors_back : {X : Type 0} (x now : X) (old new : List ℕ) → new ≡ old → (second_name old ≡ second_name new → x ≡ now) → x ≡ now
 mirrors_back x now old new lent rule = rule (sym (ap second_name lent))
 
-pub lent_one : {X : Type 0} (P : X → Type 0) (x now : X) → x ≡ now → P now → P x
-lent_one P x now is p = subst P (sym is) p
-
-pub lent_two : {X Y : Type 0} (P : X → Y → Type 0) (x now : X) (y left : Y) → x ≡ now → y ≡ left → P now left → P x y
-lent_two P x now y left is are p = subst (λ a. P a y) (sym is) (subst (λ b. P now b) (sym are) p)
-
 -- ---- the scene of a call with a standby
 
 -- links that only dialled and hung up keep their doors
@@ -186,92 +181,44 @@ doors_kept Links old new kept = record {
   listened = kept.listened;
 }
 
-module _ {F D : Type 0} (Shelf : ShelfGhosts F D) (Disk : DiskGhosts D) (old mid new : F)
-    (disks : SameNames (Shelf.disk old) (Shelf.disk mid)) (counts : SameNames (Shelf.disk_faults old) (Shelf.disk_faults mid))
-    (failed : Text → ℕ) (files : FileNames) where
-  -- the shelf's scene, where exchanges that failed are counted with the faults of the disks
-  abbrev pub counted_shelf : ShelfScene
-  counted_shelf = record (shelf_of Shelf Disk old new) { disk_faults' = copied_counts (Shelf.disk_faults new) failed }
-
-  -- its journals are those behind the files
-  pub same_counted : copied_journals Shelf Disk files.directory mid new failed ≡ journals_of counted_shelf files
-  same_counted =
-      λ i. journals_by Disk.reads Disk.image Disk.moment Disk.image_since files.directory (λ name. disks name i) (Shelf.disk new) (λ name. counts name i)
-      (copied_counts (Shelf.disk_faults new) failed)
-
-  -- no disk but the journals of the policy's users was touched, and no other count changed
-  pub touches_counted : (policy : Policy) (users : List User) → users ≡ policy.users.items
-      → SameBeside (map (journal_name files.directory) (map (λ user. user.name) (map named_user users))) (Shelf.disk mid) (Shelf.disk new)
-      → SameBeside (map (journal_name files.directory) (map (λ user. user.name) (map named_user users))) (Shelf.disk_faults mid)
-      (copied_counts (Shelf.disk_faults new) failed)
-      → TouchesOnlyJournals counted_shelf files (policy_value_of policy)
-  touches_counted policy users are touched counted = (
-    λ name none. touched name (ap (λ ns. is_among (map (journal_name files.directory) ns) name) names ∙ none) ∙ disks name,
-    λ name none. counted name (ap (λ ns. is_among (map (journal_name files.directory) ns) name) names ∙ none) ∙ counts name,
-  )
-    where
-      names : map (λ user. user.name) (map named_user users) ≡ names_of (policy_value_of policy).users
-      names = ap (λ us. map (λ user. user.name) (map named_user us)) are ∙ batch_names_are policy.users.items ∙ names_are policy.users.items
-
-  -- a count that rose behind the files rose in the call
-  pub some_rose_counted : SomeRose (Shelf.disk_faults mid) (copied_counts (Shelf.disk_faults new) failed)
-      → SomeRose (Shelf.disk_faults old) (copied_counts (Shelf.disk_faults new) failed)
-  some_rose_counted rose = (rose.0, subst (λ n. Rose n (copied_counts (Shelf.disk_faults new) failed rose.0)) (counts rose.0) rose.1)
-
-  -- and none fell
-  pub none_fell_counted : NoneFell (Shelf.disk_faults mid) (copied_counts (Shelf.disk_faults new) failed)
-      → NoneFell (Shelf.disk_faults old) (copied_counts (Shelf.disk_faults new) failed)
-  none_fell_counted fell name = subst (λ n. n ≤ copied_counts (Shelf.disk_faults new) failed name) (counts name) (fell name)
-
 -- ---- links that dialled, served, and hung up
 
--- so many connections were given, and so many doors ended, that the limit is reached
-abbrev Reaches : (given ended given' ended' workers sessions : ℕ) → Type 0
-Reaches given ended given' ended' workers sessions = (given + sessions + ended ≤ given' + ended') × (given + sessions < given' + workers)
+-- what links tell of connections
+pub record Told : Type 0 where
+  pub given : ℕ
+  pub left : ℕ
+  pub at_hand : ℕ
+  pub ended : ℕ
+  pub back : List Visit
+  pub listened : List Listened
 
-module _ {L Door Dial In Out : Type 0} (Links : LinksGhosts L Door Dial In Out) (old mid new last : L) (first : doors.KeepsDoors Links old mid)
+abbrev pub told_by : {L Door Dial In Out : Type 0} → LinksGhosts L Door Dial In Out → L → Told
+told_by Links links = record {
+  given = Links.given links;
+  left = Links.left links;
+  at_hand = Links.at_hand links;
+  ended = Links.ended links;
+  back = Links.back links;
+  listened = Links.listened links;
+}
+
+told_same : {L Door Dial In Out : Type 0} {Links : LinksGhosts L Door Dial In Out} {old new : L} → doors.KeepsDoors Links old new → Links.tells
+    → told_by Links new ≡ told_by Links old
+told_same kept told = λ i. record {
+  given = kept.given told i;
+  left = kept.left told i;
+  at_hand = kept.at_hand told i;
+  ended = kept.ended i;
+  back = kept.back told i;
+  listened = kept.listened told i;
+}
+
+module _ {L Door Dial In Out : Type 0} {Links : LinksGhosts L Door Dial In Out} {old mid new last : L} (first : doors.KeepsDoors Links old mid)
     (behind : doors.KeepsDoors Links new last) where
-  -- What holds of the links as they served holds of the whole call.
-  pub record Between : Type 1 where
-    pub rose : Rose (Links.faults mid) (Links.faults new) → Rose (Links.faults old) (Links.faults last)
-    pub served : Links.tells → (P : ℕ → ℕ → List Visit → List Visit → Type 0) → P (Links.given mid) (Links.given new) (Links.back mid) (Links.back new)
-        → P (Links.given old) (Links.given last) (Links.back old) (Links.back last)
-    pub heard : Links.tells → (P : List Listened → List Listened → Type 0) → P (Links.listened mid) (Links.listened new)
-        → P (Links.listened old) (Links.listened last)
-    pub unheard : Links.tells → Links.listened last ≡ Links.listened old → Links.listened new ≡ Links.listened mid
-    pub ended : Links.tells → (workers sessions : ℕ) → (Links.at_hand new ≡ 0)
-        ⊎ Reaches (Links.given mid) (Links.ended mid) (Links.given new) (Links.ended new) workers sessions
-        → (Links.at_hand last ≡ 0)
-        ⊎ Reaches (Links.given old) (Links.ended old) (Links.given last) (Links.ended last) workers sessions
-    pub left : Links.tells → (Links.left mid ≡ Links.at_hand mid → Links.left new ≡ Links.at_hand new) → Links.left old ≡ Links.at_hand old
-        → Links.left last ≡ Links.at_hand last
-    pub left_all : Links.tells → (Links.left mid ≡ Links.at_hand mid → Links.given new + Links.left new ≡ Links.given mid + Links.left mid)
-        → Links.left old ≡ Links.at_hand old → Links.given last + Links.left last ≡ Links.given old + Links.left old
+  -- what holds of the links as they served holds of the whole call
+  pub told_over : Links.tells → (P : Told → Told → Type 0) → P (told_by Links mid) (told_by Links new) → P (told_by Links old) (told_by Links last)
+  told_over told P is =
+      subst (λ (was : Told). P was (told_by Links last)) (told_same first told) (subst (P (told_by Links mid)) (sym (told_same behind told)) is)
 
-  pub served_between : Between
-  served_between = record {
-    rose = λ rose. subst (λ n. Rose n (Links.faults last)) first.faults (subst (λ n. Rose (Links.faults mid) n) (sym behind.faults) rose);
-    served = λ told P is.
-        subst (λ n. P n (Links.given last) (Links.back old) (Links.back last)) (first.given told)
-        (subst (λ n. P (Links.given mid) n (Links.back old) (Links.back last)) (sym (behind.given told))
-        (subst (λ b. P (Links.given mid) (Links.given new) b (Links.back last)) (first.back told)
-        (subst (λ b. P (Links.given mid) (Links.given new) (Links.back mid) b) (sym (behind.back told)) is)));
-    heard = λ told P is.
-        subst (λ l. P l (Links.listened last)) (first.listened told) (subst (λ l. P (Links.listened mid) l) (sym (behind.listened told)) is);
-    unheard = λ told same. sym (behind.listened told) ∙ same ∙ sym (first.listened told);
-    ended = λ told workers sessions is.
-        subst (λ n. (n ≡ 0) ⊎ Reaches (Links.given old) (Links.ended old) (Links.given last) (Links.ended last) workers sessions) (sym (behind.at_hand told))
-        (subst (λ n. (Links.at_hand new ≡ 0) ⊎ Reaches n (Links.ended old) (Links.given last) (Links.ended last) workers sessions) (first.given told)
-        (subst (λ n. (Links.at_hand new ≡ 0) ⊎ Reaches (Links.given mid) n (Links.given last) (Links.ended last) workers sessions) first.ended
-        (subst (λ n. (Links.at_hand new ≡ 0) ⊎ Reaches (Links.given mid) (Links.ended mid) n (Links.ended last) workers sessions) (sym (behind.given told))
-        (subst (λ n. (Links.at_hand new ≡ 0) ⊎ Reaches (Links.given mid) (Links.ended mid) (Links.given new) n workers sessions) (sym behind.ended) is))));
-    left = λ told served all.
-        behind.left told ∙ served (first.left told ∙ all ∙ sym (first.at_hand told)) ∙ sym (behind.at_hand told);
-    left_all = λ told served all.
-        let is = served (first.left told ∙ all ∙ sym (first.at_hand told)) in
-        let a = behind.given told in
-        let b = behind.left told in
-        let d = first.given told in
-        let e = first.left told in
-        omega (arith, is, a, b, d, e);
-  }
+  pub rose_over : Rose (Links.faults mid) (Links.faults new) → Rose (Links.faults old) (Links.faults last)
+  rose_over rose = subst (λ n. Rose n (Links.faults last)) first.faults (subst (Rose (Links.faults mid)) (sym behind.faults) rose)

@@ -62,6 +62,7 @@ use Rattle.cqe_top.specs.Scene.{Scene, ShelfScene, IsUntouched, HasRisen, SameIn
 use Rattle.cqe_top.specs.Steps.{reading_over, reading_copied}
 use Rattle.cqe_top.specs.declared.copied.CopiedTask.{CopiedTask}
 use Rattle.cqe_top.specs.declared.copied.CopiedTask.TheVariants as copied
+use Rattle.cqe_top.specs.declared.of_all.AllTask.TheVariants as of_all
 use Rattle.cqe_top.specs.declared.over_files.Task.{Task}
 use Rattle.cqe_top.specs.declared.over_files.Task.TheVariants as task
 use Rattle.cqe_top.specs.declared.over_files.UserTask.{UserTask}
@@ -422,14 +423,14 @@ pub unread : (s : Scene) (files : FileNames) (task : Task) (end : FilesEnd) → 
     → SameInput s.input
     → SameOutput s.output → SameLinks s.links
     → OfReading s (Some (reading_over files task)) (ends.Files end)
-unread s files task.Init end is cause input output links = record {
+unread s files (task.OfAll of_all.Init) end is cause input output links = record {
   ends = is;
   succeeds = λ told says shelf. read_succeeds s files (CanBeMade (journals_of s.shelf files)) end (is.refused told) cause says shelf;
   reads_nothing = input;
   writes_nothing = output;
   listens_nowhere = links;
 }
-unread s files (task.Batch workers) end is cause input output links = record {
+unread s files (task.OfAll (of_all.Batch workers)) end is cause input output links = record {
   ends = (is, input, output);
   succeeds = λ told in_told out_told script says shelf read write.
       read_succeeds s files (CanBeOpened (journals_of s.shelf files)) end (is.refused told) cause says shelf;
@@ -456,20 +457,20 @@ unread s files (task.OfUser name user_task.Check) end is cause input output link
           read_succeeds s two (CanBeChecked s.input.left name.now) end (unread_two.refused told) cause says shelf;
       listens_nowhere = links;
     }
-unread s files (task.Migrate to) end is cause input output links = record {
+unread s files (task.OfAll (of_all.Migrate to)) end is cause input output links = record {
   ends = is;
   succeeds = λ told says shelf. read_succeeds s files (CanMove s files to.now) end (is.refused told) cause says shelf;
   reads_nothing = input;
   writes_nothing = output;
   listens_nowhere = links;
 }
-unread s files (task.Serve listening) end is cause input output links = record {
+unread s files (task.OfAll (of_all.Serve listening)) end is cause input output links = record {
   ends = (is, links);
   succeeds = λ told links_told says shelf links. read_succeeds s files (CanBeOpened (journals_of s.shelf files)) end (is.refused told) cause says shelf;
   reads_nothing = input;
   writes_nothing = output;
 }
-unread s files (task.Standby copying) end is cause input output links = record {
+unread s files (task.OfAll (of_all.Standby copying)) end is cause input output links = record {
   ends = (is, links);
   succeeds = λ told links_told says shelf links. read_succeeds s files (CanBeCopied (journals_of s.shelf files)) end (is.refused told) cause says shelf;
   reads_nothing = input;

@@ -1,16 +1,22 @@
 -- Steps of the proof: what functions of this crate promise one another. Nothing of the promise
 -- stands here.
-use Rattle.std.specs.Prelude.{◌≡◌, ℕ, ◌+◌, ◌^◌, ◌≤◌, false, List, bytes_eq, Option, None}
+use Rattle.std.specs.Prelude.{◌≡◌, ℕ, ◌+◌, ◌^◌, ◌≤◌, true, false, List, bytes_eq, Option, None}
 use Rattle.std.specs.Prelude.{Result, Err}
+use Rattle.std.specs.List.{list_all}
 use Rattle.cqe_base.specs.Facts.{FactSet}
-use Rattle.cqe_base.specs.Schema.{Text}
+use Rattle.cqe_base.specs.Schema.{Text, has_duplicate, is_schema_name}
 use Rattle.command_words.specs.Readings.{Reading, FileNames, names_of_files, runs_case, runs_init}
 use Rattle.command_words.specs.Readings.{runs_batch, runs_audit, runs_selfrun, runs_serve}
 use Rattle.command_words.specs.Readings.{runs_migrate, runs_dossier, runs_check}
 use Rattle.command_words.specs.Readings.{runs_copied_batch, runs_copied_serve, runs_standby}
+use Rattle.desk_crew.specs.Registered.{AllKeepLimits}
 use Rattle.desk_crew.specs.Shelved.{Journals, journals_by}
+use Rattle.init_engine.specs.Disks.{user_names}
+use Rattle.log_journal.specs.Opening.{header_bytes}
+use Rattle.outside.specs.Shelf.{SameNames, SameBeside, NoneOut, NoneFell}
 use Rattle.outside.specs.declared.disk.Disk.{Ghosts as DiskGhosts}
 use Rattle.outside.specs.declared.shelf.Shelf.{Ghosts as ShelfGhosts}
+use Rattle.policy_files.specs.Memory.{policy_value_of}
 use Rattle.policy_files.specs.declared.error.PolicyError.{PolicyError}
 use Rattle.policy_files.specs.declared.error.FactsError.{FactsError}
 use Rattle.policy_files.specs.Policies.{PolicyValue}
@@ -18,14 +24,18 @@ use Rattle.cqe_top.specs.declared.end.FileKind.{FileKind}
 use Rattle.cqe_top.specs.declared.end.FilesEnd.{FilesEnd}
 use Rattle.cqe_top.specs.declared.end.FilesEnd.TheVariants.{Missing, ShelfFault, Policy}
 use Rattle.cqe_top.specs.declared.end.FilesEnd.TheVariants.{Facts, Memory}
+use Rattle.cqe_top.specs.declared.files.Inputs.{Inputs}
+use Rattle.cqe_top.specs.declared.of_all.AllTask.{AllTask}
+use Rattle.cqe_top.specs.declared.of_all.AllTask.TheVariants.{Init, Batch, Migrate, Serve, Standby}
 use Rattle.cqe_top.specs.declared.over_files.Task.{Task}
+use Rattle.cqe_top.specs.declared.over_files.Task.TheVariants.{OfAll, OfUser}
+use Rattle.cqe_top.specs.declared.over_files.UserTask.TheVariants.{Audit, Dossier, Check}
 use Rattle.cqe_top.specs.declared.copied.CopiedTask.{CopiedTask}
 use Rattle.cqe_top.specs.declared.copied.CopiedTask.TheVariants as copied
-use Rattle.cqe_top.specs.declared.over_files.Task.TheVariants.{Init, Batch, OfUser, Migrate, Serve}
-use Rattle.cqe_top.specs.declared.over_files.Task.TheVariants.{Standby}
-use Rattle.cqe_top.specs.declared.over_files.UserTask.TheVariants.{Audit, Dossier, Check}
 use Rattle.cqe_top.specs.declared.part.Part.{Part}
 use Rattle.cqe_top.specs.declared.part.Part.TheVariants.{Case, Selfrun, OverFiles, Copied}
+use Rattle.cqe_top.specs.Files.{both, said_on, LooksAtBoth}
+use Rattle.cqe_top.specs.Scene.{shelf_of}
 
 -- ---- why one file wasn't read
 
@@ -53,19 +63,42 @@ abbrev pub IsShelfFault : FilesEnd → Type 0
 IsShelfFault (ShelfFault kind) = Unit {0}
 IsShelfFault end = ⊥
 
+-- ---- files that were read
+
+-- each user keeps the limits, and their names are proper and differ
+pub record AreKept (inputs : Inputs) : Type 0 where
+  pub limits : AllKeepLimits inputs.policy.schema inputs.policy.users.items
+  pub names : has_duplicate (user_names inputs.policy.users.items) ≡ false
+  pub proper : list_all is_schema_name (user_names inputs.policy.users.items) ≡ true
+
+-- The files of these names were read, from a shelf as it was to the shelf as it is: they say these
+-- inputs, both were looked at, and no disk was touched.
+pub record WereRead {F D : Type 0} (Shelf : ShelfGhosts F D) (Disk : DiskGhosts D)
+    (files : FileNames) (inputs : Inputs) (old new : F) : Type 0 where
+  pub says : Shelf.tells → said_on (shelf_of Shelf Disk old new) files
+      ≡ both (policy_value_of inputs.policy) inputs.world (header_bytes inputs.header)
+  pub looks : Shelf.tells → LooksAtBoth (shelf_of Shelf Disk old new) files
+  pub disks : SameNames (Shelf.disk old) (Shelf.disk new)
+  pub counts : SameNames (Shelf.disk_faults old) (Shelf.disk_faults new)
+  pub later : Shelf.faults old ≤ Shelf.faults new
+
 -- ---- what is done over files, as the words say it
+
+-- the reading that a task for all users stands for
+abbrev pub reading_of_all : FileNames → AllTask → Reading
+reading_of_all files Init = runs_init files
+reading_of_all files (Batch workers) = runs_batch files workers
+reading_of_all files (Migrate to) = runs_migrate files to.now
+reading_of_all files (Serve listening) =
+    runs_serve files listening.address.now listening.workers listening.sessions
+reading_of_all files (Standby copying) = runs_standby files copying.address.now copying.sessions
 
 -- the reading that a task over these files stands for
 abbrev pub reading_over : FileNames → Task → Reading
-reading_over files Init = runs_init files
-reading_over files (Batch workers) = runs_batch files workers
+reading_over files (OfAll task) = reading_of_all files task
 reading_over files (OfUser user (Audit json)) = runs_audit files user.now json
 reading_over files (OfUser user Dossier) = runs_dossier files user.now
 reading_over files (OfUser user Check) = runs_check files.policy files.facts user.now
-reading_over files (Migrate to) = runs_migrate files to.now
-reading_over files (Serve listening) =
-    runs_serve files listening.address.now listening.workers listening.sessions
-reading_over files (Standby copying) = runs_standby files copying.address.now copying.sessions
 
 -- the reading that a task with a standby at an address stands for
 abbrev pub reading_copied : FileNames → CopiedTask → Text → Reading
@@ -95,18 +128,22 @@ pub record ServesBounds (workers sessions : ℕ) : Type 0 where
 
 -- the numbers of a batch and of a server are within them, and journals are moved to another
 -- directory than that of these files
-abbrev pub KeepsBounds : FileNames → Task → Type 0
-KeepsBounds files Init = Unit {0}
-KeepsBounds files (Batch workers) = WorkersBounds workers
-KeepsBounds files (OfUser user task) = Unit {0}
-KeepsBounds files (Migrate to) = bytes_eq files.directory to.now ≡ false
-KeepsBounds files (Serve listening) = ServesBounds listening.workers listening.sessions
-KeepsBounds files (Standby copying) = copying.sessions ≤ 2 ^ 30
+abbrev pub KeepsAllBounds : FileNames → AllTask → Type 0
+KeepsAllBounds files Init = Unit {0}
+KeepsAllBounds files (Batch workers) = WorkersBounds workers
+KeepsAllBounds files (Migrate to) = bytes_eq files.directory to.now ≡ false
+KeepsAllBounds files (Serve listening) = ServesBounds listening.workers listening.sessions
+KeepsAllBounds files (Standby copying) = copying.sessions ≤ 2 ^ 30
 
 -- so are those of a batch and of a server with a standby
 abbrev pub KeepsCopiedBounds : CopiedTask → Type 0
 KeepsCopiedBounds (copied.Batch workers) = WorkersBounds workers
 KeepsCopiedBounds (copied.Serve listening) = ServesBounds listening.workers listening.sessions
+
+-- a task for one user has no number
+abbrev pub KeepsBounds : FileNames → Task → Type 0
+KeepsBounds files (OfAll task) = KeepsAllBounds files task
+KeepsBounds files (OfUser user task) = Unit {0}
 
 -- ---- journals that a standby copies
 
@@ -120,3 +157,16 @@ abbrev pub copied_journals : {F D : Type 0} → ShelfGhosts F D → DiskGhosts D
 copied_journals Shelf Disk directory old new failed =
     journals_by Disk.reads Disk.image Disk.moment Disk.image_since directory (Shelf.disk old)
     (Shelf.disk new) (Shelf.disk_faults old) (copied_counts (Shelf.disk_faults new) failed)
+
+-- What a run over these journals leaves of a shelf, with these counts of faults behind it: no other
+-- disk was touched and no other count changed, all disks are back and no count fell, and the files
+-- are what they were, of which none was looked at.
+pub record KeepsOthers {F D : Type 0} (Shelf : ShelfGhosts F D) (journals : List Text)
+    (old new : F) (count : Text → ℕ) : Type 0 where
+  pub disks : SameBeside journals (Shelf.disk old) (Shelf.disk new)
+  pub other_counts : SameBeside journals (Shelf.disk_faults old) count
+  pub inside : NoneOut (Shelf.is_out new)
+  pub counts : NoneFell (Shelf.disk_faults old) count
+  pub files : SameNames (Shelf.file old) (Shelf.file new)
+  pub looked : Shelf.looked new ≡ Shelf.looked old
+  pub later : Shelf.faults old ≤ Shelf.faults new

@@ -2,7 +2,7 @@
 ghost use Rattle.std.specs.Prelude.{◌≡◌, ◌⊎◌, ◌≤◌, ◌<◌, ◌+◌, ◌++◌, ◌∷◌, ◌^◌, [], List, ℕ, Some};
 ghost use Rattle.std.specs.Prelude.{map};
 ghost use Rattle.outside.specs.Faults.{Rose};
-ghost use Rattle.outside.specs.Shelf.{SameNames, SameBeside, NoneOut, NoneFell, SomeRose};
+ghost use Rattle.outside.specs.Shelf.{SameNames, NoneOut, SomeRose};
 ghost use Rattle.outside.specs.Visits.{place_of};
 ghost use Rattle.batch_engine.specs.Batch as batch;
 ghost use Rattle.command_words.specs.Readings.{names_of_files};
@@ -15,8 +15,8 @@ ghost use Rattle.serve_engine.specs.Serving.{IsDone};
 ghost use Rattle.standby_core.specs.Slots.{dial_faults};
 ghost use Rattle.cqe_top.specs.Promise.{Does};
 ghost use Rattle.cqe_top.specs.Scene.{scene_of, shelf_of, input_of, output_of, links_of};
-ghost use Rattle.cqe_top.specs.Steps.{reading_copied, KeepsCopiedBounds, copied_journals};
-ghost use Rattle.cqe_top.specs.Steps.{copied_counts};
+ghost use Rattle.cqe_top.specs.Steps.{reading_copied, KeepsCopiedBounds, KeepsOthers};
+ghost use Rattle.cqe_top.specs.Steps.{copied_counts, copied_journals};
 ghost use Rattle.batch_engine.specs.declared.run.BatchEnd.{BatchEnd};
 ghost use Rattle.serve_engine.specs.declared.run.ServeEnd.{ServeEnd};
 
@@ -28,7 +28,7 @@ use desk_crew::Registry;
 use outside::{Dial, Gate, Links, Shelf, Sink, Source};
 use serve_engine::{Listening, ServeEnd, run_serve};
 use standby_core::{MirroredShelf, Mirrors, hang_up_all, mirrors_for};
-use std::alloc::{AllocError, Global};
+use std::alloc::Global;
 use std::sync::Wait;
 use std::thread::Threads;
 use user_desk::laws::law_openings;
@@ -77,23 +77,18 @@ where
         Ok(inputs) => inputs,
         Err(end) => return CommandEnd::Files(end),
     };
+    let users = inputs.policy.users.as_slice();
+    let header = &inputs.header;
+    let directory = files.journals;
     let registry = Registry {
         schema: &inputs.policy.schema,
         world: &inputs.world,
-        users: inputs.policy.users.as_slice(),
-        header: &inputs.header,
-        directory: files.journals,
+        users,
+        header,
+        directory,
     };
-    let mut mirrors = match mirrors_for(
-        alloc,
-        links,
-        standby,
-        registry.header,
-        registry.directory,
-        registry.users,
-    ) {
-        Ok(mirrors) => mirrors,
-        Err(AllocError) => return CommandEnd::Files(FilesEnd::Memory),
+    let Ok(mut mirrors) = mirrors_for(alloc, links, standby, header, directory, users) else {
+        return CommandEnd::Files(FilesEnd::Memory);
     };
     match task {
         CopiedTask::Batch(workers) => {
@@ -170,17 +165,8 @@ where
         (copied_journals F.Shelf F.D.Disk registry.now.directory.now shelf.old shelf.new
         (dial_faults C.faults mirrors.new))
         (map named_user registry.now.users.now) result }
-    ensures disks { SameBeside
-        (registered_journals registry.now.directory.now registry.now.users.now) (F.disk shelf.old)
-        (F.disk shelf.new) }
-    ensures inside { NoneOut (F.is_out shelf.new) }
-    ensures files { SameNames (F.file shelf.old) (F.file shelf.new) }
-    ensures looked { F.looked shelf.new ≡ F.looked shelf.old }
-    ensures counts { NoneFell (F.disk_faults shelf.old)
-        (copied_counts (F.disk_faults shelf.new) (dial_faults C.faults mirrors.new)) }
-    ensures other_counts { SameBeside
-        (registered_journals registry.now.directory.now registry.now.users.now)
-        (F.disk_faults shelf.old)
+    ensures others { KeepsOthers F.Shelf
+        (registered_journals registry.now.directory.now registry.now.users.now) shelf.old shelf.new
         (copied_counts (F.disk_faults shelf.new) (dial_faults C.faults mirrors.new)) }
     ensures unopened { batch.IsUnopened result → SameNames (F.disk shelf.old) (F.disk shelf.new)
         × SameNames (F.disk_faults shelf.old)
@@ -188,7 +174,6 @@ where
     ensures silent { batch.IsSilent result → sink.new ≡ sink.old }
     ensures left { S.tells → IsRest (S.left source.old) (S.left source.new) }
     ensures held { S.held source.new ≡ S.held source.old }
-    ensures shelf_later { F.faults shelf.old ≤ F.faults shelf.new }
     ensures source_later { S.faults source.old ≤ S.faults source.new }
     ensures sink_later { K.faults sink.old ≤ K.faults sink.new }
     ensures read_cause { result ≡ BatchEnd.ReadFault
@@ -275,21 +260,11 @@ where
         ≤ L.given links.new + L.ended links.new)
         × (L.given links.old + listening.entry.sessions
         < L.given links.new + listening.entry.workers)) }
-    ensures disks { SameBeside
-        (registered_journals registry.now.directory.now registry.now.users.now) (F.disk shelf.old)
-        (F.disk shelf.new) }
-    ensures inside { NoneOut (F.is_out shelf.new) }
-    ensures files { SameNames (F.file shelf.old) (F.file shelf.new) }
-    ensures looked { F.looked shelf.new ≡ F.looked shelf.old }
-    ensures counts { NoneFell (F.disk_faults shelf.old)
-        (copied_counts (F.disk_faults shelf.new) (dial_faults C.faults mirrors.new)) }
-    ensures other_counts { SameBeside
-        (registered_journals registry.now.directory.now registry.now.users.now)
-        (F.disk_faults shelf.old)
+    ensures others { KeepsOthers F.Shelf
+        (registered_journals registry.now.directory.now registry.now.users.now) shelf.old shelf.new
         (copied_counts (F.disk_faults shelf.new) (dial_faults C.faults mirrors.new)) }
     ensures out { L.out links.new ≡ L.out links.old }
     ensures mirror { L.mirror links.new ≡ L.mirror links.old }
-    ensures shelf_later { F.faults shelf.old ≤ F.faults shelf.new }
     ensures links_later { L.faults links.old ≤ L.faults links.new }
     ensures shelf_cause { result ≡ ServeEnd.ShelfFault
         → Rose (F.faults shelf.old) (F.faults shelf.new) }

@@ -13,10 +13,10 @@ ghost use Rattle.outside.specs.Shelf.{Looks, SameNames};
 ghost use Rattle.policy_files.specs.Memory.{policy_value_of};
 ghost use Rattle.policy_files.specs.Policy.{policy_in};
 ghost use Rattle.policy_files.specs.Facts.{facts_of};
-ghost use Rattle.cqe_top.specs.Files.{both, header_for, said_on, LooksInOrder, LooksAtBoth};
-ghost use Rattle.cqe_top.specs.Files.{IsWhyUnread};
+ghost use Rattle.cqe_top.specs.Files.{header_for, LooksInOrder, IsWhyUnread};
 ghost use Rattle.cqe_top.specs.Scene.{shelf_of};
 ghost use Rattle.cqe_top.specs.Steps.{RefusesFile, RefusesPolicy, RefusesFacts, IsShelfFault};
+ghost use Rattle.cqe_top.specs.Steps.{AreKept, WereRead};
 
 use crate::end::{FileKind, FilesEnd};
 use command_words::Files;
@@ -42,17 +42,9 @@ pub(crate) fn read_files<'w, F: Shelf>(
     shelf: &mut F,
     files: &Files<'w>,
 ) -> Result<Inputs, FilesEnd<'w>>
-    ensures read { F.tells → IfOk result (λ inputs.
-        said_on (shelf_of F.Shelf F.D.Disk shelf.old shelf.new) (names_of_files files.now)
-        ≡ both (policy_value_of inputs.policy) inputs.world (header_bytes inputs.header)) }
-    ensures limits { IfOk result (λ inputs. All (λ user. KeepsLimits inputs.policy.schema
-        (profile_of user)) inputs.policy.users.items) }
-    ensures names { IfOk result (λ inputs.
-        has_duplicate (user_names inputs.policy.users.items) ≡ false) }
-    ensures proper { IfOk result (λ inputs.
-        list_all is_schema_name (user_names inputs.policy.users.items) ≡ true) }
-    ensures both { F.tells → OnOk result (LooksAtBoth
-        (shelf_of F.Shelf F.D.Disk shelf.old shelf.new) (names_of_files files.now)) }
+    ensures read { IfOk result (λ inputs. WereRead F.Shelf F.D.Disk (names_of_files files.now)
+        inputs shelf.old shelf.new) }
+    ensures kept { IfOk result (λ inputs. AreKept inputs) }
     ensures refused { IfErr result (λ end. F.tells → IsWhyUnread
         (shelf_of F.Shelf F.D.Disk shelf.old shelf.new) (names_of_files files.now) end) }
     ensures looks { F.tells → LooksInOrder

@@ -17,6 +17,7 @@ mod copied;
 mod end;
 mod files;
 pub mod laws;
+mod of_all;
 mod over_files;
 mod part;
 mod report;

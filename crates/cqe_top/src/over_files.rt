@@ -1,6 +1,5 @@
 //! The commands that stand on a policy file and a facts file.
-ghost use Rattle.std.specs.Prelude.{◌≡◌, ◌<◌, Some, bytes_eq, length, position, string_bytes};
-ghost use Rattle.std.specs.Prelude.{IfSome};
+ghost use Rattle.std.specs.Prelude.{◌≡◌, Some, bytes_eq, find, option_map, string_bytes};
 ghost use Rattle.command_words.specs.Readings.{names_of_files};
 ghost use Rattle.outside.specs.Shelf.{NoneOut};
 ghost use Rattle.cqe_top.specs.Promise.{OfReading, Always};
@@ -10,37 +9,24 @@ ghost use Rattle.cqe_top.specs.Steps.{reading_over, KeepsBounds};
 
 use crate::end::CommandEnd;
 use crate::files::read_files;
+use crate::of_all::{AllTask, run_of_all};
 use audit_engine::run_audit;
-use batch_engine::run_batch;
 use command_words::Files;
 use cqe_base::user::User;
 use desk_crew::Registry;
 use dossier_engine::{law_written_are_accepted, run_check, run_dossier};
-use init_engine::run_init;
-use migrate_engine::run_migrate;
 use outside::{Gate, Links, Shelf, Sink, Source};
-use serve_engine::{Listening, run_serve};
-use standby_engine::{Copying, run_standby};
 use std::alloc::Global;
 use std::sync::Wait;
 use std::thread::Threads;
-use user_desk::laws::law_openings;
 
 /// What is done over files.
 #[derive(Clone, Copy)]
 pub(crate) enum Task<'w> {
-    /// The journals of all users are made.
-    Init,
-    /// A batch is answered by so many workers, 1 to 64.
-    Batch(u32),
+    /// Something is done for all users.
+    OfAll(AllTask<'w>),
     /// Something is done for the user of this name.
     OfUser(&'w str, UserTask),
-    /// The old journals of all users are moved to this directory, which is another.
-    Migrate(&'w str),
-    /// Connections are served.
-    Serve(Listening<'w>),
-    /// The journals of another program are copied.
-    Standby(Copying<'w>),
 }
 
 /// What is done for one user.
@@ -93,6 +79,14 @@ where
         Ok(inputs) => inputs,
         Err(end) => return CommandEnd::Files(end),
     };
+    let (name, task) = match task {
+        Task::OfAll(task) => {
+            return run_of_all(
+                rt, alloc, inputs, files, task, shelf, source, sink, links, gate,
+            );
+        }
+        Task::OfUser(name, task) => (name, task),
+    };
     let registry = Registry {
         schema: &inputs.policy.schema,
         world: &inputs.world,
@@ -100,79 +94,30 @@ where
         header: &inputs.header,
         directory: files.journals,
     };
+    let Some(user) = user_named(registry.users, name) else {
+        return CommandEnd::Nobody;
+    };
     match task {
-        Task::Init => {
-            let end = run_init(
-                alloc,
-                registry.users,
-                registry.header,
-                registry.directory,
-                shelf,
-            );
-            CommandEnd::Init(inputs.policy.users, end)
+        UserTask::Audit(json) => {
+            CommandEnd::Audit(name, run_audit(alloc, &registry, user, json, shelf, sink))
         }
-        Task::Batch(workers) => {
-            let end = run_batch(rt, alloc, &registry, workers, shelf, source, sink, gate);
-            CommandEnd::Batch(inputs.policy.users, end)
+        UserTask::Dossier => {
+            registry.schema.known();
+            law_written_are_accepted();
+            CommandEnd::Dossier(name, run_dossier(alloc, &registry, user, shelf, sink))
         }
-        Task::OfUser(name, task) => {
-            let Some(place) = place_of(registry.users, name) else {
-                return CommandEnd::Nobody;
-            };
-            let user = &inputs.policy.users[place];
-            match task {
-                UserTask::Audit(json) => {
-                    CommandEnd::Audit(name, run_audit(alloc, &registry, user, json, shelf, sink))
-                }
-                UserTask::Dossier => {
-                    registry.schema.known();
-                    law_written_are_accepted();
-                    CommandEnd::Dossier(name, run_dossier(alloc, &registry, user, shelf, sink))
-                }
-                UserTask::Check => {
-                    let schema = registry.schema;
-                    let world = registry.world;
-                    CommandEnd::Check(run_check(alloc, schema, world, user, source, sink))
-                }
-            }
-        }
-        Task::Migrate(to) => {
-            let end = run_migrate(
-                alloc,
-                registry.users,
-                registry.header,
-                registry.directory,
-                to,
-                shelf,
-            );
-            CommandEnd::Migrate(inputs.policy.users, end)
-        }
-        Task::Serve(listening) => {
-            law_openings();
-            let end = run_serve(rt, alloc, &registry, shelf, links, listening, gate);
-            CommandEnd::Serve(inputs.policy.users, end)
-        }
-        Task::Standby(copying) => {
-            let end = run_standby(
-                rt,
-                alloc,
-                registry.users,
-                registry.header,
-                registry.directory,
-                shelf,
-                links,
-                copying,
-            );
-            CommandEnd::Standby(inputs.policy.users, end)
+        UserTask::Check => {
+            let schema = registry.schema;
+            let world = registry.world;
+            CommandEnd::Check(run_check(alloc, schema, world, user, source, sink))
         }
     }
 }
 
-/// The place of the user who has this name.
-fn place_of(users: &[User], name: &str) -> Option<usize>
-    ensures place { result
-        ≡ position (λ user. bytes_eq (string_bytes user.name) name.now) users.now }
-    ensures within { IfSome result (λ place. place < length users.now) }
+/// The user who has this name.
+fn user_named<'u>(users: &'u [User], name: &str) -> Option<&'u User>
+    ensures { option_map (λ user. user.now) result
+        ≡ find (λ user. bytes_eq (string_bytes user.name) name.now) users.now }
 {
-    users.iter().position(|user| user.name.as_str() == name)
+    users.iter().find(|user| user.name.as_str() == name)
 }

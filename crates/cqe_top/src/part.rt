@@ -5,6 +5,7 @@ ghost use Rattle.command_words.specs.declared.command.Command.{Command};
 ghost use Rattle.cqe_top.specs.Steps.{reading_of_part};
 
 use crate::copied::CopiedTask;
+use crate::of_all::AllTask;
 use crate::over_files::{Task, UserTask};
 use command_words::{BatchWords, Command, Files, SelfrunWords, ServeWords};
 use serve_engine::Listening;
@@ -29,7 +30,7 @@ pub(crate) fn part_of<'w>(command: Command<'w>) -> Part<'w>
 {
     match command {
         Command::Case => Part::Case,
-        Command::Init(files) => Part::OverFiles(files, Task::Init),
+        Command::Init(files) => Part::OverFiles(files, Task::OfAll(AllTask::Init)),
         Command::Batch(words) => batch_part(words),
         Command::Audit(words) => {
             let task = Task::OfUser(words.user, UserTask::Audit(words.json));
@@ -37,7 +38,9 @@ pub(crate) fn part_of<'w>(command: Command<'w>) -> Part<'w>
         }
         Command::Selfrun(words) => Part::Selfrun(words),
         Command::Serve(words) => serve_part(words),
-        Command::Migrate(words) => Part::OverFiles(words.files, Task::Migrate(words.to)),
+        Command::Migrate(words) => {
+            Part::OverFiles(words.files, Task::OfAll(AllTask::Migrate(words.to)))
+        }
         Command::Dossier(words) => {
             Part::OverFiles(words.files, Task::OfUser(words.user, UserTask::Dossier))
         }
@@ -55,7 +58,7 @@ pub(crate) fn part_of<'w>(command: Command<'w>) -> Part<'w>
                 address: words.listen,
                 sessions: words.sessions,
             };
-            Part::OverFiles(words.files, Task::Standby(copying))
+            Part::OverFiles(words.files, Task::OfAll(AllTask::Standby(copying)))
         }
     }
 }
@@ -64,7 +67,7 @@ fn batch_part<'w>(words: BatchWords<'w>) -> Part<'w>
     ensures { reading_of_part result ≡ reading_in (Command.Batch words.entry) }
 {
     match words.standby {
-        None => Part::OverFiles(words.files, Task::Batch(words.workers)),
+        None => Part::OverFiles(words.files, Task::OfAll(AllTask::Batch(words.workers))),
         Some(standby) => Part::Copied(words.files, CopiedTask::Batch(words.workers), standby),
     }
 }
@@ -79,7 +82,7 @@ fn serve_part<'w>(words: ServeWords<'w>) -> Part<'w>
         sessions: words.sessions,
     };
     match words.standby {
-        None => Part::OverFiles(words.files, Task::Serve(listening)),
+        None => Part::OverFiles(words.files, Task::OfAll(AllTask::Serve(listening))),
         Some(standby) => Part::Copied(words.files, CopiedTask::Serve(listening), standby),
     }
 }

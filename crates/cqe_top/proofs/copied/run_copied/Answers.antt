@@ -1,179 +1,104 @@
-use Rattle.std.proofs.Common.{◌≡◌, ◌⊎◌, ◌≤◌, ◌++◌, ◌∷◌, [], ℕ, Some, inr, refl, sym, ap, subst, ◌∙◌, map, sum_by, arith}
-use Rattle.outside.proofs.Rises.{rose_since}
-use Rattle.cqe_base.specs.Schema.{Text, has_duplicate}
+use Rattle.std.proofs.Common.{◌≡◌, ◌⊎◌, ◌≤◌, ◌<◌, ◌+◌, ◌++◌, ◌∷◌, [], Some, inr, refl, sym, subst, ◌∙◌, sum_by, arith, rules}
 use Rattle.command_words.specs.Readings.{names_of_files}
-use Rattle.desk_crew.specs.Crew.{named_user}
 use Rattle.log_journal.specs.Opening.{header_bytes}
-use Rattle.policy_files.specs.Memory.{policy_value_of}
-use Rattle.standby_core.specs.Slots.{dial_faults, RisesAtLeast}
-use Rattle.cqe_top.specs.Batch.{RunsBatch}
-use Rattle.serve_engine.specs.Serving as serving
 use Rattle.outside.specs.Visits.{place_of}
+use Rattle.serve_engine.specs.Serving as serving
+use Rattle.standby_core.specs.Slots.{dial_faults, RisesAtLeast}
+use Rattle.cqe_top.specs.Batch.{RunsBatch, AnswersOverFiles}
 use Rattle.cqe_top.specs.Copied.{counted_with}
 use Rattle.cqe_top.specs.Files.{journals_of}
 use Rattle.cqe_top.specs.Promise.{Does}
-use Rattle.cqe_top.specs.Scene.{Scene, scene_of, shelf_of, input_of, output_of, links_of}
-use Rattle.cqe_top.specs.Serve.{RunsServe}
+use Rattle.cqe_top.specs.Scene.{SameDisks, scene_of, shelf_of, input_of, output_of, links_of}
+use Rattle.cqe_top.specs.Serve.{RunsServe, ServesOverFiles}
 use Rattle.cqe_top.specs.Steps.{reading_copied}
-use Rattle.cqe_top.specs.declared.copied.CopiedTask.TheVariants as copied
 use Rattle.cqe_top.specs.declared.end.CommandEnd.TheVariants as ends
 use Rattle.cqe_top.specs.declared.end.FilesEnd.TheVariants as files_end
 use Rattle.cqe_top.proofs.Causes.{files_cause, batch_cause, serve_cause, plainly}
-use Rattle.cqe_top.proofs.Copying.{doors_kept, served_between, same_counted, touches_counted, some_rose_counted, none_fell_counted}
+use Rattle.cqe_top.proofs.Copying.{doors_kept, told_over, rose_over}
 use Rattle.cqe_top.proofs.Good.{unread_copied, doors_same, batch_succeeds}
-use Rattle.cqe_top.proofs.Over.{batch_left, batch_over, serve_left, serve_over}
+use Rattle.cqe_top.proofs.Over.{between, over_read, says, rose_behind, answers_over, serves_over}
 use Rattle.cqe_top.proofs.Serving.{serve_succeeds, served_out}
-use Rattle.cqe_top.proofs.Users.{batch_names_are}
-use Rattle.cqe_top.proofs.copied.run_copied.Given.{Over}
+use Rattle.cqe_top.proofs.Users.{own_names}
 use Rattle.cqe_top.proofs.copied.run_copied.Goals as goal
-use Rattle.cqe_top.proofs.copied.run_copied.Goals.{In-Err, After-drop-inputs-in-Err-mirrors_for-4, After-drop-inputs-in-Batch-4, After-drop-inputs-5}
 
 pub copied_batch-end-requires-clause-names : goal.copied_batch-end-requires-clause-names
-copied_batch-end-requires-clause-names g c κs within =
-    ap has_duplicate (ap (λ users. map (λ user. user.name) (map named_user users)) c.as_slice.ensures.value ∙ batch_names_are c.in-Ok.inputs.policy.users.items)
-    ∙ c.in-Ok.ensures.names
+copied_batch-end-requires-clause-names g c κs within = own_names _ _ c.as_slice-users.ensures.value c.in-Ok.ensures.kept.names
 
 pub copied_serve-end-requires-clause-names : goal.copied_serve-end-requires-clause-names
-copied_serve-end-requires-clause-names g c κs within =
-    ap has_duplicate (ap (λ users. map (λ user. user.name) (map named_user users)) c.as_slice.ensures.value ∙ batch_names_are c.in-Ok.inputs.policy.users.items)
-    ∙ c.in-Ok.ensures.names
+copied_serve-end-requires-clause-names g c κs within = own_names _ _ c.as_slice-users.ensures.value c.in-Ok.ensures.kept.names
 
 -- ---- files that weren't read
-
-abbrev unread_scene : (g : Over) → In-Err g → Scene
-unread_scene g c =
-    scene_of (shelf_of g.F.Shelf g.F.D.Disk c.args.shelf.now c.read_files.new.shelf) (input_of g.S.Source c.args.source.now c.args.source.now)
-    (output_of g.K.Sink c.args.sink.now c.args.sink.now) (links_of g.L.Links c.args.links.now c.args.links.now)
 
 pub returns-in-Err : goal.returns-in-Err
 returns-in-Err g c = record {
   does =
-      let scene = unread_scene g c in
+      let scene = scene_of (shelf_of g.F.Shelf g.F.D.Disk c.args.shelf.now c.read_files.new.shelf) (input_of g.S.Source c.args.source.now c.args.source.now)
+      (output_of g.K.Sink c.args.sink.now c.args.sink.now) (links_of g.L.Links c.args.links.now c.args.links.now) in
       let is = c.in-Err.ensures in
       let cause = files_cause scene c.in-Err.end is.cause in
       plainly scene (Some (reading_copied (names_of_files c.args.files) c.args.task c.args.standby.now)) (ends.Files c.in-Err.end)
       (unread_copied scene (names_of_files c.args.files) c.args.task c.args.standby.now c.in-Err.end
       (record { refused = is.refused; looks = is.looks; disks = (is.disks, is.counts) }) cause refl refl (doors_same g.L.Links c.args.links.now))
-      cause
-      (record {
-        shelf = record {
-          files = is.files;
-          inside = λ name. is.out name ∙ c.requires.inside name;
-          disk_faults = λ name. subst (λ n. g.F.Shelf.disk_faults c.args.shelf.now name ≤ n) (sym (is.counts name)) (omega arith);
-          faults = is.later;
-        };
-        held = refl;
-        left = λ told bytes rest. rest;
-        doors = refl;
-        input_faults = omega arith;
-        output_faults = omega arith;
-        links_faults = omega arith;
-        mirror_faults = omega arith;
-      });
+      cause (search rules);
 }
 
 -- ---- mirrors for which memory was wanting
 
-abbrev unmade_scene : (g : Over) → After-drop-inputs-in-Err-mirrors_for-4 g → Scene
-unmade_scene g c =
-    scene_of (shelf_of g.F.Shelf g.F.D.Disk c.args.shelf.now c.read_files.new.shelf) (input_of g.S.Source c.args.source.now c.args.source.now)
-    (output_of g.K.Sink c.args.sink.now c.args.sink.now) (links_of g.L.Links c.args.links.now c.mirrors_for.new.links)
-
-pub returns-in-Err-mirrors_for : goal.returns-in-Err-mirrors_for
-returns-in-Err-mirrors_for g c = record {
+pub returns-in_default : goal.returns-in_default
+returns-in_default g c = record {
   does =
-      let scene = unmade_scene g c in
+      let scene = scene_of (shelf_of g.F.Shelf g.F.D.Disk c.args.shelf.now c.read_files.new.shelf) (input_of g.S.Source c.args.source.now c.args.source.now)
+      (output_of g.K.Sink c.args.sink.now c.args.sink.now) (links_of g.L.Links c.args.links.now c.mirrors_for.new.links) in
       let is = c.in-Ok.ensures in
       let made = c.mirrors_for.ensures in
-      let same = made.doors.faults in
       let cause = files_cause scene files_end.Memory (λ failed. absurd failed) in
       plainly scene (Some (reading_copied (names_of_files c.args.files) c.args.task c.args.standby.now)) (ends.Files files_end.Memory)
       (unread_copied scene (names_of_files c.args.files) c.args.task c.args.standby.now files_end.Memory
       (record { refused = λ told. tt; looks = is.looks; disks = (is.disks, is.counts) }) cause refl refl
       (doors_kept g.L.Links c.args.links.now c.mirrors_for.new.links made.doors))
-      cause
-      (record {
-        shelf = record {
-          files = is.files;
-          inside = λ name. is.out name ∙ c.requires.inside name;
-          disk_faults = λ name. subst (λ n. g.F.Shelf.disk_faults c.args.shelf.now name ≤ n) (sym (is.counts name)) (omega arith);
-          faults = is.later;
-        };
-        held = refl;
-        left = λ told bytes rest. rest;
-        doors = made.doors.out;
-        input_faults = omega arith;
-        output_faults = omega arith;
-        links_faults = omega (arith, same);
-        mirror_faults = made.later;
-      });
+      cause (search rules);
 }
 
 -- ---- a batch
 
-abbrev batch_failed : (g : Over) → After-drop-inputs-in-Batch-4 g → Text → ℕ
-batch_failed g c name = dial_faults g.L.Dial.Dial.faults c.copied_batch-end.new.mirrors name
-
-abbrev batch_scene : (g : Over) → After-drop-inputs-in-Batch-4 g → Scene
-batch_scene g c =
-    scene_of (shelf_of g.F.Shelf g.F.D.Disk c.args.shelf.now c.copied_batch-end.new.shelf) (input_of g.S.Source c.args.source.now c.copied_batch-end.new.source)
-    (output_of g.K.Sink c.args.sink.now c.copied_batch-end.new.sink) (links_of g.L.Links c.args.links.now c.hang_up_all.new.links)
-
 pub returns-in-Batch : goal.returns-in-Batch
 returns-in-Batch g c = record {
   does =
-      let read = c.in-Ok.ensures in
+      let new = c.copied_batch-end.new.shelf in
+      let scene = scene_of (between g.F.Shelf g.F.D.Disk c.args.shelf.now c.read_files.new.shelf new)
+      (input_of g.S.Source c.args.source.now c.copied_batch-end.new.source) (output_of g.K.Sink c.args.sink.now c.copied_batch-end.new.sink)
+      (links_of g.L.Links c.args.links.now c.hang_up_all.new.links) in
+      let failed = dial_faults g.L.Dial.Dial.faults c.copied_batch-end.new.mirrors in
+      let s = counted_with scene (Some failed) in
+      let read = c.in-Ok.ensures.read in
       let made = c.mirrors_for.ensures in
       let hung = c.hang_up_all.ensures in
       let ran = c.copied_batch-end.ensures in
+      let end = c.copied_batch-end.result in
+      let users = c.in-Ok.inputs.policy.users in
       let files = names_of_files c.args.files in
-      let inputs = c.in-Ok.inputs in
-      let failed = batch_failed g c in
-      let scene = counted_with (batch_scene g c) (Some failed) in
-      let old = c.args.shelf.now in
-      let mid = c.read_files.new.shelf in
-      let new = c.copied_batch-end.new.shelf in
-      let cause = batch_cause scene inputs.policy.users c.copied_batch-end.result ran.read_cause ran.write_cause
-      (λ is. rose_since (g.F.Shelf.faults old) (g.F.Shelf.faults mid) (g.F.Shelf.faults new) read.later (ran.shelf_cause is))
-      (λ is. some_rose_counted g.F.Shelf g.F.D.Disk old mid new read.disks read.counts failed files (ran.disk_cause is)) in
-      let runs : RunsBatch scene.shelf scene.input scene.output files inputs.policy.users c.copied_batch-end.result = record {
-        over_files = λ told. (
-          policy_value_of inputs.policy,
-          inputs.world,
-          header_bytes inputs.header,
-          read.read told,
-          record {
-            of_policy = refl;
-            touches = touches_counted g.F.Shelf g.F.D.Disk old mid new read.disks read.counts failed files inputs.policy c.as_slice.result.now
-                c.as_slice.ensures.value ran.disks ran.other_counts;
-            journals = batch_left inputs.policy inputs.world (header_bytes inputs.header) c.as_slice.result.now _ _ c.copied_batch-end.result
-                (same_counted g.F.Shelf g.F.D.Disk old mid new read.disks read.counts failed files) c.as_slice.ensures.value (ran.journals told);
-            answers =
-                λ in_told out_told.
-                batch_over inputs.policy inputs.world (header_bytes inputs.header) c.as_slice.result.now _ _ c.copied_batch-end.result _ _ _ _
-                (same_counted g.F.Shelf g.F.D.Disk old mid new read.disks read.counts failed files) c.as_slice.ensures.value
-                (ran.ends told in_told out_told);
-          },
-        );
-        looks = λ told. ran.looked ∙ read.both told;
-        unopened = λ is. (λ name. (ran.unopened is).0 name ∙ read.disks name, λ name. (ran.unopened is).1 name ∙ read.counts name);
+      let cause = batch_cause s users end ran.read_cause ran.write_cause (λ is. rose_behind read new (ran.shelf_cause is)) ran.disk_cause in
+      let runs : RunsBatch s.shelf s.input s.output files users end = record {
+        over_files = λ told. says read new (AnswersOverFiles s.shelf s.input s.output files users end) told
+            (answers_over read new c.as_slice-users.ensures.value s.shelf.disk_faults' s.input s.output end ran.others.disks ran.others.other_counts
+            (ran.journals told) (ran.ends told));
+        looks = λ told. ran.others.looked ∙ read.looks told;
+        unopened = ran.unopened;
         silent = ran.silent;
       } in
       let first = made.doors.faults in
       let last = hung.doors.faults in
-      let dialled = c.in-Ok-mirrors_for.ensures.mirror in
       let rises = made.later in
       let more = hung.later in
       let earlier = read.later in
-      let later = ran.shelf_later in
-      let does : Does (batch_scene g c) (Some (reading_copied files (copied.Batch c.in-Batch.workers) c.args.standby.now))
-      (ends.Batch inputs.policy.users c.copied_batch-end.result) = record {
+      let later = ran.others.later in
+      over_read read new scene (λ scene. Does scene (Some (reading_copied files c.args.task c.args.standby.now)) (ends.Batch users end)) (record {
         exchanges = Some failed;
-        counted = λ names distinct. subst (λ n. RisesAtLeast n (sum_by failed names) (g.L.Links.mirror c.hang_up_all.new.links)) dialled
-            (hung.mirror names distinct);
-        command = record {
+        counted = rw c.in-Batch.is (λ names distinct. subst (λ n. RisesAtLeast n (sum_by failed names) s.links.mirror.now)
+            c.in-Ok-mirrors_for.ensures.mirror (hung.mirror names distinct));
+        command = rw c.in-Batch.is (record {
           ends = runs;
-          succeeds = batch_succeeds scene files inputs.policy.users c.copied_batch-end.result runs cause;
+          succeeds = batch_succeeds s files users end runs cause;
           listens_nowhere = inr (record {
             faults = last ∙ first;
             out = hung.doors.out ∙ made.doors.out;
@@ -184,13 +109,13 @@ returns-in-Batch g c = record {
             back = λ told. hung.doors.back told ∙ made.doors.back told;
             listened = λ told. hung.doors.listened told ∙ made.doors.listened told;
           });
-        };
+        });
         cause = cause;
         always = record {
           shelf = record {
-            files = λ name. ran.files name ∙ read.files name;
-            inside = ran.inside;
-            disk_faults = none_fell_counted g.F.Shelf g.F.D.Disk old mid new read.disks read.counts failed files ran.counts;
+            files = λ name. ran.others.files name ∙ c.in-Ok.ensures.files name;
+            inside = ran.others.inside;
+            disk_faults = ran.others.counts;
             faults = omega (arith, earlier, later);
           };
           held = ran.held;
@@ -201,113 +126,78 @@ returns-in-Batch g c = record {
           links_faults = omega (arith, first, last);
           mirror_faults = omega (arith, rises, more);
         };
-      } in
-      subst (λ task. Does (batch_scene g c) (Some (reading_copied files task c.args.standby.now)) (ends.Batch inputs.policy.users c.copied_batch-end.result))
-      (sym c.in-Batch.is) does;
+      });
 }
 
 -- ---- a server
 
-abbrev serve_failed : (g : Over) → After-drop-inputs-5 g → Text → ℕ
-serve_failed g c name = dial_faults g.L.Dial.Dial.faults c.copied_serve-end.new.mirrors name
-
-abbrev serve_scene : (g : Over) → After-drop-inputs-5 g → Scene
-serve_scene g c =
-    scene_of (shelf_of g.F.Shelf g.F.D.Disk c.args.shelf.now c.copied_serve-end.new.shelf) (input_of g.S.Source c.args.source.now c.args.source.now)
-    (output_of g.K.Sink c.args.sink.now c.args.sink.now) (links_of g.L.Links c.args.links.now c.hang_up_all-in-Serve.new.links)
-
 pub returns : goal.returns
 returns g c = record {
   does =
-      let read = c.in-Ok.ensures in
+      let new = c.copied_serve-end.new.shelf in
+      let scene = scene_of (between g.F.Shelf g.F.D.Disk c.args.shelf.now c.read_files.new.shelf new)
+      (input_of g.S.Source c.args.source.now c.args.source.now) (output_of g.K.Sink c.args.sink.now c.args.sink.now)
+      (links_of g.L.Links c.args.links.now c.hang_up_all-in-Serve.new.links) in
+      let failed = dial_faults g.L.Dial.Dial.faults c.copied_serve-end.new.mirrors in
+      let s = counted_with scene (Some failed) in
+      let read = c.in-Ok.ensures.read in
       let made = c.mirrors_for.ensures in
       let hung = c.hang_up_all-in-Serve.ensures in
       let ran = c.copied_serve-end.ensures in
+      let end = c.copied_serve-end.result in
+      let users = c.in-Ok.inputs.policy.users in
       let files = names_of_files c.args.files in
-      let inputs = c.in-Ok.inputs in
-      let listening = c.in-Serve.listening in
-      let failed = serve_failed g c in
-      let scene = counted_with (serve_scene g c) (Some failed) in
-      let old = c.args.shelf.now in
-      let mid = c.read_files.new.shelf in
-      let new = c.copied_serve-end.new.shelf in
-      let links = c.copied_serve-end.new.links in
-      let doors = served_between g.L.Links c.args.links.now c.mirrors_for.new.links links c.hang_up_all-in-Serve.new.links made.doors hung.doors in
-      let cause = serve_cause scene inputs.policy.users c.copied_serve-end.result (λ is. doors.rose (ran.links_cause is))
-      (λ is. rose_since (g.F.Shelf.faults old) (g.F.Shelf.faults mid) (g.F.Shelf.faults new) read.later (ran.shelf_cause is))
-      (λ is. some_rose_counted g.F.Shelf g.F.D.Disk old mid new read.disks read.counts failed files (ran.disk_cause is)) in
-      let runs : RunsServe scene.shelf scene.links files listening.address.now listening.workers listening.sessions inputs.policy.users
-      c.copied_serve-end.result = record {
-        over_files = λ told. (
-          policy_value_of inputs.policy,
-          inputs.world,
-          header_bytes inputs.header,
-          read.read told,
-          record {
-            of_policy = refl;
-            touches = touches_counted g.F.Shelf g.F.D.Disk old mid new read.disks read.counts failed files inputs.policy c.as_slice.result.now
-                c.as_slice.ensures.value ran.disks ran.other_counts;
-            journals = serve_left inputs.policy inputs.world (header_bytes inputs.header) c.as_slice.result.now _ _ c.copied_serve-end.result
-                (same_counted g.F.Shelf g.F.D.Disk old mid new read.disks read.counts failed files) c.as_slice.ensures.value (ran.journals told);
-            serves = λ links_told.
-                doors.served links_told (λ given given' back back'.
-                serving.EndsServing inputs.policy.schema inputs.world (header_bytes inputs.header) (journals_of scene.shelf files) inputs.policy.users.items
-                given given' back back' c.copied_serve-end.result)
-                (serve_over inputs.policy inputs.world (header_bytes inputs.header) c.as_slice.result.now _ _ c.copied_serve-end.result _ _ _ _
-                (same_counted g.F.Shelf g.F.D.Disk old mid new read.disks read.counts failed files) c.as_slice.ensures.value (ran.ends told links_told));
-          },
-        );
-        looks = λ told. ran.looked ∙ read.both told;
-        listens = λ told.
-            doors.heard told (λ before after.
-            (after ≡ before) ⊎ (after ≡ before ++ place_of listening.address.now listening.workers ∷ [])) (ran.listens told);
-        unheard = λ told same.
-            let is = ran.unheard told (doors.unheard told same) in
-            (λ name. is.0 name ∙ read.disks name, λ name. is.1 name ∙ read.counts name);
-        heard = λ told done.
-            doors.heard told (λ before after. after ≡ before ++ place_of listening.address.now listening.workers ∷ []) (ran.heard told done);
+      let at = c.in-Serve.listening.address.now in
+      let workers = c.in-Serve.listening.workers in
+      let limit = c.in-Serve.listening.sessions in
+      let over = told_over made.doors hung.doors in
+      let cause = serve_cause s users end (λ is. rose_over made.doors hung.doors (ran.links_cause is)) (λ is. rose_behind read new (ran.shelf_cause is))
+      ran.disk_cause in
+      let runs : RunsServe s.shelf s.links files at workers limit users end = record {
+        over_files = λ told. says read new (ServesOverFiles s.shelf s.links files at workers limit users end) told
+            (serves_over read new c.as_slice-users.ensures.value s.shelf.disk_faults' s.links at workers limit end ran.others.disks ran.others.other_counts
+            (ran.journals told) (λ links_told. over links_told (λ was is. serving.EndsServing c.in-Ok.inputs.policy.schema c.in-Ok.inputs.world
+            (header_bytes c.in-Ok.inputs.header) (journals_of s.shelf files) c.as_slice-users.result.now was.given is.given was.back is.back end)
+            (ran.ends told links_told)));
+        looks = λ told. ran.others.looked ∙ read.looks told;
+        listens = λ told. over told (λ was is. (is.listened ≡ was.listened) ⊎ (is.listened ≡ was.listened ++ place_of at workers ∷ [])) (ran.listens told);
+        unheard = λ told. over told (λ was is. is.listened ≡ was.listened → SameDisks s.shelf) (ran.unheard told);
+        heard = λ told done. over told (λ was is. is.listened ≡ was.listened ++ place_of at workers ∷ []) (ran.heard told done);
         few_ended =
-            let first = made.doors.ended in
-            let last = hung.doors.ended in
+            let ended = made.doors.ended in
+            let still = hung.doors.ended in
             let few = ran.few_ended in
-            omega (arith, first, last, few);
-        ends = λ told done.
-            served_out scene.links listening.workers listening.sessions (doors.ended told listening.workers listening.sessions (ran.ended told done));
-        left = λ told all. doors.left told (ran.left told) all;
-        left_all = λ told all. doors.left_all told (ran.left_all told) all;
-        limited = λ told.
-            let first = made.doors.given told in
-            let last = hung.doors.given told in
-            let most = ran.limited told in
-            omega (arith, first, last, most);
+            omega (arith, ended, still, few);
+        ends = λ told done. served_out s.links workers limit (over told (λ was is. (is.at_hand ≡ 0)
+            ⊎ ((was.given + limit + was.ended ≤ is.given + is.ended) × (was.given + limit < is.given + workers))) (ran.ended told done));
+        left = λ told. over told (λ was is. was.left ≡ was.at_hand → is.left ≡ is.at_hand) (ran.left told);
+        left_all = λ told. over told (λ was is. was.left ≡ was.at_hand → is.given + is.left ≡ was.given + was.left) (ran.left_all told);
+        limited = λ told. over told (λ was is. is.given ≤ was.given + limit) (ran.limited told);
       } in
       let first = made.doors.faults in
+      let meanwhile = ran.links_later in
       let last = hung.doors.faults in
-      let between = ran.links_later in
       let same = ran.mirror in
-      let dialled = c.in-Ok-mirrors_for.ensures.mirror in
       let rises = made.later in
       let more = hung.later in
       let earlier = read.later in
-      let later = ran.shelf_later in
-      let does : Does (serve_scene g c) (Some (reading_copied files (copied.Serve listening) c.args.standby.now))
-      (ends.Serve inputs.policy.users c.copied_serve-end.result) = record {
+      let later = ran.others.later in
+      over_read read new scene (λ scene. Does scene (Some (reading_copied files c.args.task c.args.standby.now)) (ends.Serve users end)) (record {
         exchanges = Some failed;
-        counted = λ names distinct. subst (λ n. RisesAtLeast n (sum_by failed names) (g.L.Links.mirror c.hang_up_all-in-Serve.new.links)) (same ∙ dialled)
-            (hung.mirror names distinct);
-        command = record {
+        counted = rw c.in-Serve.is (λ names distinct. subst (λ n. RisesAtLeast n (sum_by failed names) s.links.mirror.now)
+            (same ∙ c.in-Ok-mirrors_for.ensures.mirror) (hung.mirror names distinct));
+        command = rw c.in-Serve.is (record {
           ends = runs;
-          succeeds = serve_succeeds c.law_openings.ensures.unrefused scene files listening.address.now listening.workers listening.sessions
-              inputs.policy.users c.copied_serve-end.result runs cause;
+          succeeds = serve_succeeds c.law_openings.ensures.unrefused s files at workers limit users end runs cause;
           reads_nothing = refl;
           writes_nothing = refl;
-        };
+        });
         cause = cause;
         always = record {
           shelf = record {
-            files = λ name. ran.files name ∙ read.files name;
-            inside = ran.inside;
-            disk_faults = none_fell_counted g.F.Shelf g.F.D.Disk old mid new read.disks read.counts failed files ran.counts;
+            files = λ name. ran.others.files name ∙ c.in-Ok.ensures.files name;
+            inside = ran.others.inside;
+            disk_faults = ran.others.counts;
             faults = omega (arith, earlier, later);
           };
           held = refl;
@@ -315,10 +205,8 @@ returns g c = record {
           doors = hung.doors.out ∙ ran.out ∙ made.doors.out;
           input_faults = omega arith;
           output_faults = omega arith;
-          links_faults = omega (arith, first, between, last);
+          links_faults = omega (arith, first, meanwhile, last);
           mirror_faults = omega (arith, rises, same, more);
         };
-      } in
-      subst (λ task. Does (serve_scene g c) (Some (reading_copied files task c.args.standby.now)) (ends.Serve inputs.policy.users c.copied_serve-end.result))
-      (sym c.in-Serve.is) does;
+      });
 }

@@ -1,612 +1,200 @@
-use Rattle.std.proofs.Common.{◌≡◌, ◌<◌, refl, sym, ap, subst, ◌∙◌, map, length, string_bytes}
-use Rattle.std.specs.Prelude.{position, Some}
-use Rattle.outside.proofs.Rises.{rose_since}
-use Rattle.audit_engine.specs.Ends.{EndsAudit}
-use Rattle.dossier_engine.specs.Ends.{EndsDossier}
-use Rattle.cqe_base.specs.History.{profile_of}
-use Rattle.cqe_base.specs.Limits.{KeepsLimits}
-use Rattle.cqe_base.specs.Schema.{has_duplicate}
-use Rattle.cqe_base.specs.declared.user.User.{User}
+use Rattle.std.proofs.Common.{◌≡◌, None, refl, sym, ap, subst, ◌∙◌, string_bytes}
+use Rattle.std.specs.Prelude.{Some}
 use Rattle.command_words.specs.Readings.{names_of_files}
-use Rattle.desk_crew.specs.Crew.{named_user}
-use Rattle.desk_crew.specs.Shelved.{Journals}
+use Rattle.cqe_base.specs.History.{profile_of}
 use Rattle.log_journal.specs.Opening.{header_bytes}
-use Rattle.policy_files.specs.Memory.{policy_user_of, policy_value_of}
-use Rattle.policy_files.specs.Users.{names_of}
-use Rattle.cqe_top.specs.Audit.{OfAudit, RunsAudit, FindsNobody}
-use Rattle.cqe_top.specs.Batch.{OfBatch, RunsBatch}
-use Rattle.cqe_top.specs.Check.{OfCheck, RunsCheck, two_files}
-use Rattle.cqe_top.specs.Dossier.{OfDossier, RunsDossier}
-use Rattle.cqe_top.specs.Init.{OfInit, RunsInit, change_on}
-use Rattle.cqe_top.specs.Migrate.{OfMigrate, RunsMigrate}
-use Rattle.cqe_top.specs.Scene.{Scene, scene_of, shelf_of, input_of, output_of, links_of}
-use Rattle.cqe_top.specs.Promise.{OfReading}
-use Rattle.cqe_top.specs.Serve.{OfServe, RunsServe}
-use Rattle.cqe_top.specs.Standby.{OfStandby, RunsStandby}
-use Rattle.cqe_top.specs.Steps.{reading_over}
+use Rattle.policy_files.specs.Memory.{policy_user_of}
+use Rattle.cqe_top.specs.Audit.{OfAudit, RunsAudit, AuditsOverFiles, FindsNobody, NamesNobody}
+use Rattle.cqe_top.specs.Check.{OfCheck, RunsCheck, ChecksOverFiles, two_files}
+use Rattle.cqe_top.specs.Dossier.{OfDossier, RunsDossier, ShowsOverFiles}
+use Rattle.cqe_top.specs.Reports.{FaultsHaveCauses}
+use Rattle.cqe_top.specs.Scene.{scene_of, shelf_of, input_of, output_of, links_of}
 use Rattle.cqe_top.specs.declared.end.CommandEnd.TheVariants as ends
-use Rattle.cqe_top.specs.declared.over_files.Task.TheVariants.{OfUser}
-use Rattle.cqe_top.proofs.Causes.{files_cause, init_cause, batch_cause, audit_cause, dossier_cause, check_cause, migrate_cause, serve_cause, standby_cause}
-use Rattle.cqe_top.proofs.Finding.{is_named, one_named, named_at, nobody_named}
-use Rattle.cqe_top.proofs.Good.{unread, init_succeeds, batch_succeeds, audit_succeeds, dossier_succeeds, check_succeeds, migrate_succeeds, nobody_there}
-use Rattle.cqe_top.proofs.Over.{serve_over, init_caused, some_rose, same_journals, touches_over, init_over, others_over, bytes_over, images_over, batch_over}
-use Rattle.cqe_top.proofs.Over.{batch_left, serve_left, one_of, silent_end, silent_dossier, counts_over, counted_over, moments_over}
-use Rattle.cqe_top.proofs.Over.{copies_left, copies_served, durable_over, migrate_over, migrate_caused, counts_both, at_one_of}
-use Rattle.cqe_top.proofs.Serving.{serve_succeeds, served_out}
-use Rattle.cqe_top.proofs.Standing.{standby_succeeds}
-use Rattle.cqe_top.proofs.Users.{batch_names_are, name_proper}
-use Rattle.cqe_top.proofs.over_files.run_over_files.Given.{Over}
+use Rattle.cqe_top.proofs.Causes.{files_cause, audit_cause, dossier_cause, check_cause}
+use Rattle.cqe_top.proofs.Finding.{found_user, named_by}
+use Rattle.cqe_top.proofs.Good.{unread, audit_succeeds, dossier_succeeds, check_succeeds, nobody_there}
+use Rattle.cqe_top.proofs.Over.{between, over_read, says, rose_behind, cause_behind, silent_end, silent_dossier}
 use Rattle.cqe_top.proofs.over_files.run_over_files.Goals as goal
-use Rattle.cqe_top.proofs.over_files.run_over_files.Goals.{After-drop-inputs-5, After-drop-inputs-in-Batch-4}
-use Rattle.cqe_top.proofs.over_files.run_over_files.Goals.{After-drop-inputs-in-Init-3, After-drop-inputs-in-Migrate-4, After-drop-inputs-in-Serve-4}
-use Rattle.cqe_top.proofs.over_files.run_over_files.Goals.{In-Err}
-
-pub run_batch-end-requires-clause-names : goal.run_batch-end-requires-clause-names
-run_batch-end-requires-clause-names g c κs within =
-    ap has_duplicate (ap (λ users. map (λ user. user.name) (map named_user users)) c.as_slice.ensures.value ∙ batch_names_are c.in-Ok.inputs.policy.users.items)
-    ∙ c.in-Ok.ensures.names
-
-pub run_serve-end-requires-clause-names : goal.run_serve-end-requires-clause-names
-run_serve-end-requires-clause-names g c κs within =
-    ap has_duplicate (ap (λ users. map (λ user. user.name) (map named_user users)) c.as_slice.ensures.value ∙ batch_names_are c.in-Ok.inputs.policy.users.items)
-    ∙ c.in-Ok.ensures.names
-
-pub run_standby-end-requires-clause-names : goal.run_standby-end-requires-clause-names
-run_standby-end-requires-clause-names g c κs within =
-    ap has_duplicate (ap (λ users. map (λ user. user.name) (map named_user users)) c.as_slice.ensures.value ∙ batch_names_are c.in-Ok.inputs.policy.users.items)
-    ∙ c.in-Ok.ensures.names
 
 -- ---- files that weren't read
 
-abbrev unread_scene : (g : Over) → In-Err g → Scene
-unread_scene g c =
-    scene_of (shelf_of g.F.Shelf g.F.D.Disk c.args.shelf.now c.read_files.new.shelf) (input_of g.S.Source c.args.source.now c.args.source.now)
-    (output_of g.K.Sink c.args.sink.now c.args.sink.now) (links_of g.L.Links c.args.links.now c.args.links.now)
-
 pub returns-in-Err-clause-cause : goal.returns-in-Err-clause-cause
-returns-in-Err-clause-cause g c = files_cause (unread_scene g c) c.in-Err.end c.in-Err.ensures.cause
+returns-in-Err-clause-cause g c = files_cause _ c.in-Err.end c.in-Err.ensures.cause
 
 pub returns-in-Err-clause-command : goal.returns-in-Err-clause-command
 returns-in-Err-clause-command g c =
-    unread (unread_scene g c) (names_of_files c.args.files) c.args.task c.in-Err.end
-    (record { refused = c.in-Err.ensures.refused; looks = c.in-Err.ensures.looks; disks = (c.in-Err.ensures.disks, c.in-Err.ensures.counts) })
-    (returns-in-Err-clause-cause g c) refl refl refl
+    let scene = scene_of (shelf_of g.F.Shelf g.F.D.Disk c.args.shelf.now c.read_files.new.shelf) (input_of g.S.Source c.args.source.now c.args.source.now)
+    (output_of g.K.Sink c.args.sink.now c.args.sink.now) (links_of g.L.Links c.args.links.now c.args.links.now) in
+    let is = c.in-Err.ensures in
+    unread scene (names_of_files c.args.files) c.args.task c.in-Err.end
+    (record { refused = is.refused; looks = is.looks; disks = (is.disks, is.counts) }) (returns-in-Err-clause-cause g c) refl refl refl
 
--- ---- the making of journals
+-- ---- what is done for all users
 
-abbrev init_scene : (g : Over) → After-drop-inputs-in-Init-3 g → Scene
-init_scene g c =
-    scene_of (shelf_of g.F.Shelf g.F.D.Disk c.args.shelf.now c.run_init-end.new.shelf) (input_of g.S.Source c.args.source.now c.args.source.now)
-    (output_of g.K.Sink c.args.sink.now c.args.sink.now) (links_of g.L.Links c.args.links.now c.args.links.now)
+pub returns-in-OfAll-clause-command : goal.returns-in-OfAll-clause-command
+returns-in-OfAll-clause-command g c = rw c.in-OfAll.is (c.run_of_all.ensures.command c.args.shelf.now c.in-Ok.ensures.read)
 
-pub returns-in-Init-clause-cause : goal.returns-in-Init-clause-cause
-returns-in-Init-clause-cause g c =
-    let scene = init_scene g c in
-    let read = c.in-Ok.ensures in
-    let ran = c.run_init-end.ensures in
-    let files = names_of_files c.args.files in
-    let inputs = c.in-Ok.inputs in
-    let made = init_over g.F.Shelf g.F.D.Disk c.args.shelf.now c.read_files.new.shelf c.run_init-end.new.shelf read.disks read.counts files
-    (header_bytes inputs.header)
-    inputs.policy c.as_slice.result.now c.run_init-end.result c.as_slice.ensures.value read.later ran.ends in
-    let caused = init_caused g.F.Shelf.tells g.F.D.Disk (header_bytes inputs.header) files.directory
-    (names_of (map policy_user_of inputs.policy.users.items))
-    (change_on scene.shelf) c.run_init-end.result made in
-    init_cause scene inputs.policy.users c.run_init-end.result caused.0 caused.1
-
-pub returns-in-Init-clause-command : goal.returns-in-Init-clause-command
-returns-in-Init-clause-command g c =
-    let scene = init_scene g c in
-    let read = c.in-Ok.ensures in
-    let ran = c.run_init-end.ensures in
-    let files = names_of_files c.args.files in
-    let inputs = c.in-Ok.inputs in
-    let made = init_over g.F.Shelf g.F.D.Disk c.args.shelf.now c.read_files.new.shelf c.run_init-end.new.shelf read.disks read.counts files
-    (header_bytes inputs.header)
-    inputs.policy c.as_slice.result.now c.run_init-end.result c.as_slice.ensures.value read.later ran.ends in
-    let runs : RunsInit scene.shelf files inputs.policy.users c.run_init-end.result = record {
-      over_files = λ told. (
-        policy_value_of inputs.policy,
-        inputs.world,
-        header_bytes inputs.header,
-        read.read told,
-        record {
-          of_policy = refl;
-          makes = made;
-          counts = counts_over g.F.Shelf g.F.D.Disk c.args.shelf.now c.read_files.new.shelf c.run_init-end.new.shelf read.disks read.counts files
-              inputs.policy c.as_slice.result.now c.as_slice.ensures.value ran.other_counts;
-        },
-      );
-      looks = λ told. ran.looked ∙ read.both told;
-      within =
-          one_of g.F.Shelf.tells g.F.D.Disk (header_bytes inputs.header) files.directory c.as_slice.result.now inputs.policy.users.items
-          _ c.run_init-end.result c.as_slice.ensures.value ran.ends;
-    } in
-    let does : OfInit scene files (ends.Init inputs.policy.users c.run_init-end.result) = record {
-      ends = runs;
-      succeeds = init_succeeds scene files inputs.policy.users c.run_init-end.result runs (returns-in-Init-clause-cause g c);
-      reads_nothing = refl;
-      writes_nothing = refl;
-      listens_nowhere = refl;
-    } in
-    subst (λ task. OfReading scene (Some (reading_over files task)) (ends.Init inputs.policy.users c.run_init-end.result)) (sym c.in-Init.is) does
-
--- ---- a batch
-
-abbrev batch_scene : (g : Over) → After-drop-inputs-in-Batch-4 g → Scene
-batch_scene g c =
-    scene_of (shelf_of g.F.Shelf g.F.D.Disk c.args.shelf.now c.run_batch-end.new.shelf) (input_of g.S.Source c.args.source.now c.run_batch-end.new.source)
-    (output_of g.K.Sink c.args.sink.now c.run_batch-end.new.sink) (links_of g.L.Links c.args.links.now c.args.links.now)
-
-pub returns-in-Batch-clause-cause : goal.returns-in-Batch-clause-cause
-returns-in-Batch-clause-cause g c =
-    let read = c.in-Ok.ensures in
-    let ran = c.run_batch-end.ensures in
-    batch_cause (batch_scene g c) c.in-Ok.inputs.policy.users c.run_batch-end.result ran.read_cause ran.write_cause
-    (λ is. rose_since (g.F.Shelf.faults c.args.shelf.now) (g.F.Shelf.faults c.read_files.new.shelf) (g.F.Shelf.faults c.run_batch-end.new.shelf) read.later
-    (ran.shelf_cause is))
-    (λ is. some_rose g.F.Shelf g.F.D.Disk c.args.shelf.now c.read_files.new.shelf c.run_batch-end.new.shelf read.disks read.counts (ran.disk_cause is))
-
-pub returns-in-Batch-clause-command : goal.returns-in-Batch-clause-command
-returns-in-Batch-clause-command g c =
-    let scene = batch_scene g c in
-    let read = c.in-Ok.ensures in
-    let ran = c.run_batch-end.ensures in
-    let files = names_of_files c.args.files in
-    let inputs = c.in-Ok.inputs in
-    let runs : RunsBatch scene.shelf scene.input scene.output files inputs.policy.users c.run_batch-end.result = record {
-      over_files = λ told. (
-        policy_value_of inputs.policy,
-        inputs.world,
-        header_bytes inputs.header,
-        read.read told,
-        record {
-          of_policy = refl;
-          touches = touches_over g.F.Shelf g.F.D.Disk c.args.shelf.now c.read_files.new.shelf c.run_batch-end.new.shelf read.disks read.counts files
-              inputs.policy c.as_slice.result.now
-              c.as_slice.ensures.value ran.disks ran.other_counts;
-          journals = batch_left inputs.policy inputs.world (header_bytes inputs.header) c.as_slice.result.now _ _ c.run_batch-end.result
-              (same_journals g.F.Shelf g.F.D.Disk c.args.shelf.now c.read_files.new.shelf c.run_batch-end.new.shelf read.disks read.counts files)
-              c.as_slice.ensures.value
-              (ran.journals told);
-          answers =
-              λ in_told out_told. batch_over inputs.policy inputs.world (header_bytes inputs.header) c.as_slice.result.now _ _ c.run_batch-end.result _ _ _ _
-              (same_journals g.F.Shelf g.F.D.Disk c.args.shelf.now c.read_files.new.shelf c.run_batch-end.new.shelf read.disks read.counts files)
-              c.as_slice.ensures.value
-              (ran.ends told in_told out_told);
-        },
-      );
-      looks = λ told. ran.looked ∙ read.both told;
-      unopened = λ is. (
-        λ name. ap (λ shelf. g.F.Shelf.disk shelf name) (ran.unopened is) ∙ read.disks name,
-        λ name. ap (λ shelf. g.F.Shelf.disk_faults shelf name) (ran.unopened is) ∙ read.counts name,
-      );
-      silent = ran.silent;
-    } in
-    let does : OfBatch scene files (ends.Batch inputs.policy.users c.run_batch-end.result) = record {
-      ends = runs;
-      succeeds = batch_succeeds scene files inputs.policy.users c.run_batch-end.result runs (returns-in-Batch-clause-cause g c);
-      listens_nowhere = refl;
-    } in
-    subst (λ task. OfReading scene (Some (reading_over files task)) (ends.Batch inputs.policy.users c.run_batch-end.result)) (sym c.in-Batch.is) does
+pub returns-in-OfAll-clause-cause : goal.returns-in-OfAll-clause-cause
+returns-in-OfAll-clause-cause g c =
+    let scene = scene_of (shelf_of g.F.Shelf g.F.D.Disk c.args.shelf.now c.run_of_all.new.shelf)
+    (input_of g.S.Source c.args.source.now c.run_of_all.new.source) (output_of g.K.Sink c.args.sink.now c.run_of_all.new.sink)
+    (links_of g.L.Links c.args.links.now c.run_of_all.new.links) in
+    let read = c.in-Ok.ensures.read in
+    over_read read c.run_of_all.new.shelf scene (λ s. FaultsHaveCauses s c.run_of_all.result)
+    (cause_behind read c.run_of_all.new.shelf scene c.run_of_all.result c.run_of_all.ensures.cause)
 
 -- ---- a user who isn't there
 
 pub returns-in_default-clause-command : goal.returns-in_default-clause-command
 returns-in_default-clause-command g c =
-    let scene : Scene = scene_of (shelf_of g.F.Shelf g.F.D.Disk c.args.shelf.now c.read_files.new.shelf)
-    (input_of g.S.Source c.args.source.now c.args.source.now)
+    let new = c.read_files.new.shelf in
+    let scene = scene_of (shelf_of g.F.Shelf g.F.D.Disk c.args.shelf.now new) (input_of g.S.Source c.args.source.now c.args.source.now)
     (output_of g.K.Sink c.args.sink.now c.args.sink.now) (links_of g.L.Links c.args.links.now c.args.links.now) in
-    let read = c.in-Ok.ensures in
+    let is = c.in-Ok.ensures in
     let files = names_of_files c.args.files in
-    let inputs = c.in-Ok.inputs in
     let name = c.in-OfUser.name in
     let finds : FindsNobody scene.shelf scene.output files name.now = record {
-      over_files = λ told. (
-        policy_value_of inputs.policy,
-        inputs.world,
-        header_bytes inputs.header,
-        read.read told,
-        nobody_named name.now inputs.policy.users.items (c.in_default.ensures.place ∙ ap (position (is_named name.now)) c.as_slice.ensures.value),
-      );
-      looks = read.both;
-      disks = (read.disks, read.counts);
+      over_files = λ told. says is.read new (NamesNobody name.now) told
+          (named_by name.now c.as_slice.result.now c.in-Ok.inputs.policy.users.items None c.as_slice.ensures.value c.in_default.ensures);
+      looks = is.read.looks;
+      disks = (is.disks, is.counts);
       writes_nothing = refl;
     } in
-    subst (λ task. OfReading scene (Some (reading_over files task)) (ends.Nobody)) (sym c.in-OfUser.is)
-    (nobody_there scene files name c.in-OfUser.task finds refl refl)
+    rw c.in-OfUser.is (nobody_there scene files name c.in-OfUser.task finds refl refl)
 
 -- ---- an audit
 
+pub run_audit-requires-clause-limits : goal.run_audit-requires-clause-limits
+run_audit-requires-clause-limits g c =
+    (found_user c.in-Ok.inputs c.in-OfUser.name.now c.as_slice.result.now c.in-Some.user.now c.in-Ok.ensures.kept c.as_slice.ensures.value
+    c.in-Some.ensures).limits
+
 pub returns-in-Audit-clause-cause : goal.returns-in-Audit-clause-cause
 returns-in-Audit-clause-cause g c =
-    let read = c.in-Ok.ensures in
     let ran = c.run_audit.ensures in
-    let scene : Scene = scene_of (shelf_of g.F.Shelf g.F.D.Disk c.args.shelf.now c.run_audit.new.shelf)
-    (input_of g.S.Source c.args.source.now c.args.source.now)
-    (output_of g.K.Sink c.args.sink.now c.run_audit.new.sink) (links_of g.L.Links c.args.links.now c.args.links.now) in
-    audit_cause scene c.in-OfUser.name c.run_audit.result ran.write_cause
-    (λ is. rose_since (g.F.Shelf.faults c.args.shelf.now) (g.F.Shelf.faults c.read_files.new.shelf) (g.F.Shelf.faults c.run_audit.new.shelf) read.later
-    (ran.shelf_cause is))
+    audit_cause _ c.in-OfUser.name c.run_audit.result ran.write_cause (λ is. rose_behind c.in-Ok.ensures.read c.run_audit.new.shelf (ran.shelf_cause is))
 
 pub returns-in-Audit-clause-command : goal.returns-in-Audit-clause-command
 returns-in-Audit-clause-command g c =
-    let scene : Scene = scene_of (shelf_of g.F.Shelf g.F.D.Disk c.args.shelf.now c.run_audit.new.shelf)
-    (input_of g.S.Source c.args.source.now c.args.source.now)
-    (output_of g.K.Sink c.args.sink.now c.run_audit.new.sink) (links_of g.L.Links c.args.links.now c.args.links.now) in
-    let read = c.in-Ok.ensures in
+    let new = c.run_audit.new.shelf in
+    let scene = scene_of (between g.F.Shelf g.F.D.Disk c.args.shelf.now c.read_files.new.shelf new)
+    (input_of g.S.Source c.args.source.now c.args.source.now) (output_of g.K.Sink c.args.sink.now c.run_audit.new.sink)
+    (links_of g.L.Links c.args.links.now c.args.links.now) in
+    let read = c.in-Ok.ensures.read in
     let ran = c.run_audit.ensures in
+    let end = c.run_audit.result in
     let files = names_of_files c.args.files in
-    let inputs = c.in-Ok.inputs in
-    let name = c.in-OfUser.name.now in
-    let user = c.index-user.result.now in
-    let found = c.in-Some.ensures.place ∙ ap (position (is_named name)) c.as_slice.ensures.value in
-    let within : c.in-Some.place < length inputs.policy.users.items =
-    subst (λ users. c.in-Some.place < length users) c.as_slice.ensures.value c.in-Some.ensures.within in
-    let is : string_bytes user.name ≡ name = named_at name inputs.policy.users.items c.in-Some.place user found within c.index-user.ensures in
-    let runs : RunsAudit scene.shelf scene.output files name c.in-Audit.json name c.run_audit.result = record {
+    let name = c.in-OfUser.name in
+    let json = c.in-Audit.json in
+    let user = c.in-Some.user.now in
+    let own = string_bytes user.name in
+    let he = found_user c.in-Ok.inputs name.now c.as_slice.result.now user c.in-Ok.ensures.kept c.as_slice.ensures.value c.in-Some.ensures in
+    let is : RunsAudit scene.shelf scene.output files own json own end = record {
       name_is = refl;
-      over_files = λ told. (
-        policy_value_of inputs.policy,
-        inputs.world,
-        header_bytes inputs.header,
-        read.read told,
-        (
-          policy_user_of user,
-          one_named name inputs.policy.users.items c.in-Some.place user user found c.index-user.ensures within,
-          λ out_told. subst (λ (journals : Journals).
-              EndsAudit inputs.policy.schema inputs.world (header_bytes inputs.header) (string_bytes user.name) (profile_of user)
-              (journals.bytes (string_bytes user.name))
-              (journals.before (string_bytes user.name)) (journals.now (string_bytes user.name)) c.in-Audit.json c.run_audit.result
-              (g.K.Sink.written c.args.sink.now) (g.K.Sink.written c.run_audit.new.sink))
-              (same_journals g.F.Shelf g.F.D.Disk c.args.shelf.now c.read_files.new.shelf c.run_audit.new.shelf read.disks read.counts files)
-              (ran.ends told out_told),
-        ),
-      );
-      looks = λ told. ran.looked ∙ read.both told;
-      others = λ told.
-          others_over g.F.Shelf g.F.D.Disk c.args.shelf.now c.read_files.new.shelf c.run_audit.new.shelf read.disks read.counts files.directory name
-          (string_bytes user.name) is ran.disks;
-      other_counts =
-          counted_over g.F.Shelf g.F.D.Disk c.args.shelf.now c.read_files.new.shelf c.run_audit.new.shelf read.disks read.counts files.directory name
-          (string_bytes user.name) is ran.other_counts;
-      bytes = λ told. bytes_over g.F.Shelf g.F.D.Disk c.args.shelf.now c.read_files.new.shelf c.run_audit.new.shelf read.disks read.counts (ran.bytes told);
-      images = λ told. images_over g.F.Shelf g.F.D.Disk c.args.shelf.now c.read_files.new.shelf c.run_audit.new.shelf read.disks read.counts (ran.images told);
-      moments = λ told. moments_over g.F.Shelf g.F.D.Disk c.args.shelf.now c.read_files.new.shelf c.run_audit.new.shelf read.disks read.counts
-          (ran.moments told);
-      durable = λ told done.
-          durable_over g.F.Shelf g.F.D.Disk c.args.shelf.now c.read_files.new.shelf c.run_audit.new.shelf read.disks read.counts files.directory name
-          (string_bytes user.name) is (ran.durable told done);
-      silent = silent_end c.run_audit.result ran.silent_fault ran.silent_memory;
+      over_files = λ told. says read new (AuditsOverFiles scene.shelf scene.output files own json end) told (policy_user_of user, he.named, ran.ends told);
+      looks = λ told. ran.looked ∙ read.looks told;
+      others = λ told. ran.disks;
+      other_counts = ran.other_counts;
+      bytes = ran.bytes;
+      images = ran.images;
+      moments = ran.moments;
+      durable = ran.durable;
+      silent = silent_end end ran.silent_fault ran.silent_memory;
     } in
-    let does : OfAudit scene files name c.in-Audit.json (ends.Audit c.in-OfUser.name c.run_audit.result) = record {
+    let runs = subst (λ n. RunsAudit scene.shelf scene.output files n json n end) he.has_name is in
+    let cause = audit_cause scene name end ran.write_cause (λ is. rose_behind read new (ran.shelf_cause is)) in
+    rw (c.in-OfUser.is, c.in-Audit.is) (over_read read new scene (λ s. OfAudit s files name.now json (ends.Audit name end)) (record {
       ends = runs;
-      succeeds = audit_succeeds scene files name c.in-Audit.json c.in-OfUser.name c.run_audit.result runs (returns-in-Audit-clause-cause g c);
+      succeeds = audit_succeeds scene files name.now json name end runs cause;
       reads_nothing = refl;
       listens_nowhere = refl;
-    } in
-    subst (λ task. OfReading scene (Some (reading_over files task)) (ends.Audit c.in-OfUser.name c.run_audit.result))
-    (sym (c.in-OfUser.is ∙ ap (OfUser c.in-OfUser.name) c.in-Audit.is)) does
+    }))
 
 -- ---- a dossier
 
+pub run_dossier-requires-clause-limits : goal.run_dossier-requires-clause-limits
+run_dossier-requires-clause-limits g c =
+    (found_user c.in-Ok.inputs c.in-OfUser.name.now c.as_slice.result.now c.in-Some.user.now c.in-Ok.ensures.kept c.as_slice.ensures.value
+    c.in-Some.ensures).limits
+
 pub returns-in-Dossier-clause-cause : goal.returns-in-Dossier-clause-cause
 returns-in-Dossier-clause-cause g c =
-    let read = c.in-Ok.ensures in
     let ran = c.run_dossier.ensures in
-    let scene : Scene = scene_of (shelf_of g.F.Shelf g.F.D.Disk c.args.shelf.now c.run_dossier.new.shelf)
-    (input_of g.S.Source c.args.source.now c.args.source.now)
-    (output_of g.K.Sink c.args.sink.now c.run_dossier.new.sink) (links_of g.L.Links c.args.links.now c.args.links.now) in
-    dossier_cause scene c.in-OfUser.name c.run_dossier.result ran.write_cause
-    (λ is. rose_since (g.F.Shelf.faults c.args.shelf.now) (g.F.Shelf.faults c.read_files.new.shelf) (g.F.Shelf.faults c.run_dossier.new.shelf) read.later
-    (ran.shelf_cause is))
+    dossier_cause _ c.in-OfUser.name c.run_dossier.result ran.write_cause (λ is. rose_behind c.in-Ok.ensures.read c.run_dossier.new.shelf (ran.shelf_cause is))
 
 pub returns-in-Dossier-clause-command : goal.returns-in-Dossier-clause-command
 returns-in-Dossier-clause-command g c =
-    let scene : Scene = scene_of (shelf_of g.F.Shelf g.F.D.Disk c.args.shelf.now c.run_dossier.new.shelf)
-    (input_of g.S.Source c.args.source.now c.args.source.now)
-    (output_of g.K.Sink c.args.sink.now c.run_dossier.new.sink) (links_of g.L.Links c.args.links.now c.args.links.now) in
-    let read = c.in-Ok.ensures in
+    let new = c.run_dossier.new.shelf in
+    let scene = scene_of (between g.F.Shelf g.F.D.Disk c.args.shelf.now c.read_files.new.shelf new)
+    (input_of g.S.Source c.args.source.now c.args.source.now) (output_of g.K.Sink c.args.sink.now c.run_dossier.new.sink)
+    (links_of g.L.Links c.args.links.now c.args.links.now) in
+    let read = c.in-Ok.ensures.read in
     let ran = c.run_dossier.ensures in
+    let end = c.run_dossier.result in
     let files = names_of_files c.args.files in
     let inputs = c.in-Ok.inputs in
-    let name = c.in-OfUser.name.now in
-    let user = c.index-user.result.now in
-    let found = c.in-Some.ensures.place ∙ ap (position (is_named name)) c.as_slice.ensures.value in
-    let within : c.in-Some.place < length inputs.policy.users.items =
-    subst (λ users. c.in-Some.place < length users) c.as_slice.ensures.value c.in-Some.ensures.within in
-    let is : string_bytes user.name ≡ name = named_at name inputs.policy.users.items c.in-Some.place user found within c.index-user.ensures in
-    let runs : RunsDossier scene.shelf scene.output files name name c.run_dossier.result = record {
+    let name = c.in-OfUser.name in
+    let user = c.in-Some.user.now in
+    let own = string_bytes user.name in
+    let he = found_user inputs name.now c.as_slice.result.now user c.in-Ok.ensures.kept c.as_slice.ensures.value c.in-Some.ensures in
+    let is : RunsDossier scene.shelf scene.output files own own end = record {
       name_is = refl;
-      over_files = λ told. (
-        policy_value_of inputs.policy,
-        inputs.world,
-        header_bytes inputs.header,
-        read.read told,
-        (
-          policy_user_of user,
-          one_named name inputs.policy.users.items c.in-Some.place user user found c.index-user.ensures within,
-          λ out_told. subst (λ (journals : Journals).
-              EndsDossier inputs.policy.schema inputs.world (header_bytes inputs.header) (string_bytes user.name) (profile_of user)
-              (journals.bytes (string_bytes user.name))
-              (journals.before (string_bytes user.name)) (journals.now (string_bytes user.name)) c.run_dossier.result
-              (g.K.Sink.written c.args.sink.now) (g.K.Sink.written c.run_dossier.new.sink))
-              (same_journals g.F.Shelf g.F.D.Disk c.args.shelf.now c.read_files.new.shelf c.run_dossier.new.shelf read.disks read.counts files)
-              (ran.ends told out_told),
-          λ text shown few. c.law_written_are_accepted.ensures inputs.policy.schema inputs.world (header_bytes inputs.header) (string_bytes user.name)
-              (profile_of user) _ _ _ text c.known.ensures
-              (name_proper inputs.policy.users.items c.in-Some.place user read.proper c.index-user.ensures within)
-              (subst (λ (u : User). KeepsLimits inputs.policy.schema (profile_of u)) (sym c.index-user.ensures) (read.limits c.in-Some.place user within))
-              shown few,
-        ),
+      over_files = λ told. says read new (ShowsOverFiles scene.shelf scene.output files own end) told (
+        policy_user_of user,
+        he.named,
+        ran.ends told,
+        λ text shown few. c.law_written_are_accepted.ensures inputs.policy.schema inputs.world (header_bytes inputs.header) own (profile_of user) _ _ _ text
+            c.known.ensures he.proper he.limits shown few,
       );
-      looks = λ told. ran.looked ∙ read.both told;
-      others = λ told.
-          others_over g.F.Shelf g.F.D.Disk c.args.shelf.now c.read_files.new.shelf c.run_dossier.new.shelf read.disks read.counts files.directory name
-          (string_bytes user.name) is ran.disks;
-      other_counts =
-          counted_over g.F.Shelf g.F.D.Disk c.args.shelf.now c.read_files.new.shelf c.run_dossier.new.shelf read.disks read.counts files.directory name
-          (string_bytes user.name) is ran.other_counts;
-      bytes = λ told. bytes_over g.F.Shelf g.F.D.Disk c.args.shelf.now c.read_files.new.shelf c.run_dossier.new.shelf read.disks read.counts (ran.bytes told);
-      images = λ told.
-          images_over g.F.Shelf g.F.D.Disk c.args.shelf.now c.read_files.new.shelf c.run_dossier.new.shelf read.disks read.counts (ran.images told);
-      moments = λ told. moments_over g.F.Shelf g.F.D.Disk c.args.shelf.now c.read_files.new.shelf c.run_dossier.new.shelf read.disks read.counts
-          (ran.moments told);
-      durable = λ told done.
-          durable_over g.F.Shelf g.F.D.Disk c.args.shelf.now c.read_files.new.shelf c.run_dossier.new.shelf read.disks read.counts files.directory name
-          (string_bytes user.name) is (ran.durable told done);
-      silent = silent_dossier c.run_dossier.result ran.silent_fault ran.silent_memory;
+      looks = λ told. ran.looked ∙ read.looks told;
+      others = λ told. ran.disks;
+      other_counts = ran.other_counts;
+      bytes = ran.bytes;
+      images = ran.images;
+      moments = ran.moments;
+      durable = ran.durable;
+      silent = silent_dossier end ran.silent_fault ran.silent_memory;
     } in
-    let does : OfDossier scene files name (ends.Dossier c.in-OfUser.name c.run_dossier.result) = record {
+    let runs = subst (λ n. RunsDossier scene.shelf scene.output files n n end) he.has_name is in
+    let cause = dossier_cause scene name end ran.write_cause (λ is. rose_behind read new (ran.shelf_cause is)) in
+    rw (c.in-OfUser.is, c.in-Dossier.is) (over_read read new scene (λ s. OfDossier s files name.now (ends.Dossier name end)) (record {
       ends = runs;
-      succeeds = dossier_succeeds scene files name c.in-OfUser.name c.run_dossier.result runs (returns-in-Dossier-clause-cause g c);
+      succeeds = dossier_succeeds scene files name.now name end runs cause;
       reads_nothing = refl;
       listens_nowhere = refl;
-    } in
-    subst (λ task. OfReading scene (Some (reading_over files task)) (ends.Dossier c.in-OfUser.name c.run_dossier.result))
-    (sym (c.in-OfUser.is ∙ ap (OfUser c.in-OfUser.name) c.in-Dossier.is)) does
+    }))
 
 -- ---- the check of a dossier
 
-pub returns-in-OfUser-clause-cause : goal.returns-in-OfUser-clause-cause
-returns-in-OfUser-clause-cause g c =
-    let ran = c.run_check.ensures in
-    let scene : Scene = scene_of (shelf_of g.F.Shelf g.F.D.Disk c.args.shelf.now c.read_files.new.shelf)
-    (input_of g.S.Source c.args.source.now c.run_check.new.source)
-    (output_of g.K.Sink c.args.sink.now c.run_check.new.sink) (links_of g.L.Links c.args.links.now c.args.links.now) in
-    check_cause scene c.run_check.result ran.read_cause ran.write_cause
-
-pub returns-in-OfUser-clause-command : goal.returns-in-OfUser-clause-command
-returns-in-OfUser-clause-command g c =
-    let scene : Scene = scene_of (shelf_of g.F.Shelf g.F.D.Disk c.args.shelf.now c.read_files.new.shelf)
-    (input_of g.S.Source c.args.source.now c.run_check.new.source)
-    (output_of g.K.Sink c.args.sink.now c.run_check.new.sink) (links_of g.L.Links c.args.links.now c.args.links.now) in
-    let read = c.in-Ok.ensures in
-    let ran = c.run_check.ensures in
-    let files = names_of_files c.args.files in
-    let two = two_files files.policy files.facts in
-    let inputs = c.in-Ok.inputs in
-    let name = c.in-OfUser.name.now in
-    let user = c.index-user.result.now in
-    let found = c.in-Some.ensures.place ∙ ap (position (is_named name)) c.as_slice.ensures.value in
-    let within : c.in-Some.place < length inputs.policy.users.items =
-    subst (λ users. c.in-Some.place < length users) c.as_slice.ensures.value c.in-Some.ensures.within in
-    let runs : RunsCheck scene.shelf scene.input scene.output two name c.run_check.result = record {
-      over_files = λ told. (
-        policy_value_of inputs.policy,
-        inputs.world,
-        header_bytes inputs.header,
-        read.read told,
-        (policy_user_of user, one_named name inputs.policy.users.items c.in-Some.place user user found c.index-user.ensures within, ran.ends),
-      );
-      looks = read.both;
-      disks = (read.disks, read.counts);
-      silent = ran.silent;
-    } in
-    let does : OfCheck scene files.policy files.facts name (ends.Check c.run_check.result) = record {
-      ends = runs;
-      succeeds = check_succeeds scene two name c.run_check.result runs (returns-in-OfUser-clause-cause g c);
-      listens_nowhere = refl;
-    } in
-    subst (λ task. OfReading scene (Some (reading_over files task)) (ends.Check c.run_check.result))
-    (sym (c.in-OfUser.is ∙ ap (OfUser c.in-OfUser.name) c.in-Check.is)) does
-
--- ---- the moving of journals
-
-abbrev migrate_scene : (g : Over) → After-drop-inputs-in-Migrate-4 g → Scene
-migrate_scene g c =
-    scene_of (shelf_of g.F.Shelf g.F.D.Disk c.args.shelf.now c.run_migrate-end.new.shelf) (input_of g.S.Source c.args.source.now c.args.source.now)
-    (output_of g.K.Sink c.args.sink.now c.args.sink.now) (links_of g.L.Links c.args.links.now c.args.links.now)
-
-pub returns-in-Migrate-clause-cause : goal.returns-in-Migrate-clause-cause
-returns-in-Migrate-clause-cause g c =
-    let scene = migrate_scene g c in
-    let read = c.in-Ok.ensures in
-    let ran = c.run_migrate-end.ensures in
-    let files = names_of_files c.args.files in
-    let inputs = c.in-Ok.inputs in
-    let to = c.in-Migrate.to.now in
-    let moved = migrate_over g.F.Shelf g.F.D.Disk c.args.shelf.now c.read_files.new.shelf c.run_migrate-end.new.shelf read.disks read.counts files
-    (header_bytes inputs.header)
-    to inputs.policy c.as_slice.result.now c.run_migrate-end.result c.as_slice.ensures.value read.later ran.ends in
-    let caused = migrate_caused g.F.Shelf.tells g.F.D.Disk (header_bytes inputs.header) files.directory to
-    (names_of (map policy_user_of inputs.policy.users.items))
-    (change_on scene.shelf) c.run_migrate-end.result moved in
-    migrate_cause scene inputs.policy.users c.run_migrate-end.result caused.0 caused.1
-
-pub returns-in-Migrate-clause-command : goal.returns-in-Migrate-clause-command
-returns-in-Migrate-clause-command g c =
-    let scene = migrate_scene g c in
-    let read = c.in-Ok.ensures in
-    let ran = c.run_migrate-end.ensures in
-    let files = names_of_files c.args.files in
-    let inputs = c.in-Ok.inputs in
-    let to = c.in-Migrate.to.now in
-    let moved = migrate_over g.F.Shelf g.F.D.Disk c.args.shelf.now c.read_files.new.shelf c.run_migrate-end.new.shelf read.disks read.counts files
-    (header_bytes inputs.header)
-    to inputs.policy c.as_slice.result.now c.run_migrate-end.result c.as_slice.ensures.value read.later ran.ends in
-    let runs : RunsMigrate scene.shelf files to inputs.policy.users c.run_migrate-end.result = record {
-      over_files = λ told. (
-        policy_value_of inputs.policy,
-        inputs.world,
-        header_bytes inputs.header,
-        read.read told,
-        record {
-          of_policy = refl;
-          moves = moved;
-          counts = counts_both g.F.Shelf g.F.D.Disk c.args.shelf.now c.read_files.new.shelf c.run_migrate-end.new.shelf read.disks read.counts files
-              to inputs.policy c.as_slice.result.now c.as_slice.ensures.value ran.other_counts;
-        },
-      );
-      looks = λ told. ran.looked ∙ read.both told;
-      within =
-          at_one_of g.F.Shelf.tells g.F.D.Disk (header_bytes inputs.header) files.directory to c.as_slice.result.now inputs.policy.users.items
-          _ c.run_migrate-end.result c.as_slice.ensures.value ran.ends;
-    } in
-    let does : OfMigrate scene files to (ends.Migrate inputs.policy.users c.run_migrate-end.result) = record {
-      ends = runs;
-      succeeds = migrate_succeeds scene files to inputs.policy.users c.run_migrate-end.result runs (returns-in-Migrate-clause-cause g c);
-      reads_nothing = refl;
-      writes_nothing = refl;
-      listens_nowhere = refl;
-    } in
-    subst (λ task. OfReading scene (Some (reading_over files task)) (ends.Migrate inputs.policy.users c.run_migrate-end.result)) (sym c.in-Migrate.is) does
-
--- ---- a server
-
-abbrev serve_scene : (g : Over) → After-drop-inputs-in-Serve-4 g → Scene
-serve_scene g c =
-    scene_of (shelf_of g.F.Shelf g.F.D.Disk c.args.shelf.now c.run_serve-end.new.shelf) (input_of g.S.Source c.args.source.now c.args.source.now)
-    (output_of g.K.Sink c.args.sink.now c.args.sink.now) (links_of g.L.Links c.args.links.now c.run_serve-end.new.links)
-
-pub returns-in-Serve-clause-cause : goal.returns-in-Serve-clause-cause
-returns-in-Serve-clause-cause g c =
-    let read = c.in-Ok.ensures in
-    let ran = c.run_serve-end.ensures in
-    serve_cause (serve_scene g c) c.in-Ok.inputs.policy.users c.run_serve-end.result ran.links_cause
-    (λ is. rose_since (g.F.Shelf.faults c.args.shelf.now) (g.F.Shelf.faults c.read_files.new.shelf) (g.F.Shelf.faults c.run_serve-end.new.shelf) read.later
-    (ran.shelf_cause is))
-    (λ is. some_rose g.F.Shelf g.F.D.Disk c.args.shelf.now c.read_files.new.shelf c.run_serve-end.new.shelf read.disks read.counts (ran.disk_cause is))
-
-pub returns-in-Serve-clause-command : goal.returns-in-Serve-clause-command
-returns-in-Serve-clause-command g c =
-    let scene = serve_scene g c in
-    let read = c.in-Ok.ensures in
-    let ran = c.run_serve-end.ensures in
-    let files = names_of_files c.args.files in
-    let inputs = c.in-Ok.inputs in
-    let listening = c.in-Serve.listening in
-    let runs : RunsServe scene.shelf scene.links files listening.address.now listening.workers listening.sessions inputs.policy.users c.run_serve-end.result =
-    record {
-      over_files = λ told. (
-        policy_value_of inputs.policy,
-        inputs.world,
-        header_bytes inputs.header,
-        read.read told,
-        record {
-          of_policy = refl;
-          touches = touches_over g.F.Shelf g.F.D.Disk c.args.shelf.now c.read_files.new.shelf c.run_serve-end.new.shelf read.disks read.counts files
-              inputs.policy c.as_slice.result.now
-              c.as_slice.ensures.value ran.disks ran.other_counts;
-          journals = serve_left inputs.policy inputs.world (header_bytes inputs.header) c.as_slice.result.now _ _ c.run_serve-end.result
-              (same_journals g.F.Shelf g.F.D.Disk c.args.shelf.now c.read_files.new.shelf c.run_serve-end.new.shelf read.disks read.counts files)
-              c.as_slice.ensures.value
-              (ran.journals told);
-          serves = λ links_told. serve_over inputs.policy inputs.world (header_bytes inputs.header) c.as_slice.result.now _ _ c.run_serve-end.result _ _ _ _
-              (same_journals g.F.Shelf g.F.D.Disk c.args.shelf.now c.read_files.new.shelf c.run_serve-end.new.shelf read.disks read.counts files)
-              c.as_slice.ensures.value
-              (ran.ends told links_told);
-        },
-      );
-      looks = λ told. ran.looked ∙ read.both told;
-      listens = ran.listens;
-      unheard = λ told same. (
-        λ name. ap (λ shelf. g.F.Shelf.disk shelf name) (ran.unheard told same) ∙ read.disks name,
-        λ name. ap (λ shelf. g.F.Shelf.disk_faults shelf name) (ran.unheard told same) ∙ read.counts name,
-      );
-      heard = ran.heard;
-      few_ended = ran.few_ended;
-      ends = λ told done. served_out scene.links listening.workers listening.sessions (ran.ended told done);
-      left = ran.left;
-      left_all = ran.left_all;
-      limited = ran.limited;
-    } in
-    let does : OfServe scene files listening.address.now listening.workers listening.sessions (ends.Serve inputs.policy.users c.run_serve-end.result) = record {
-      ends = runs;
-      succeeds = serve_succeeds c.law_openings.ensures.unrefused scene files listening.address.now listening.workers listening.sessions inputs.policy.users
-          c.run_serve-end.result runs (returns-in-Serve-clause-cause g c);
-      reads_nothing = refl;
-      writes_nothing = refl;
-    } in
-    subst (λ task. OfReading scene (Some (reading_over files task)) (ends.Serve inputs.policy.users c.run_serve-end.result)) (sym c.in-Serve.is) does
-
--- ---- a standby
-
-abbrev standby_scene : (g : Over) → After-drop-inputs-5 g → Scene
-standby_scene g c =
-    scene_of (shelf_of g.F.Shelf g.F.D.Disk c.args.shelf.now c.run_standby-end.new.shelf) (input_of g.S.Source c.args.source.now c.args.source.now)
-    (output_of g.K.Sink c.args.sink.now c.args.sink.now) (links_of g.L.Links c.args.links.now c.run_standby-end.new.links)
+pub run_check-requires : goal.run_check-requires
+run_check-requires g c =
+    (found_user c.in-Ok.inputs c.in-OfUser.name.now c.as_slice.result.now c.in-Some.user.now c.in-Ok.ensures.kept c.as_slice.ensures.value
+    c.in-Some.ensures).limits
 
 pub returns-clause-cause : goal.returns-clause-cause
-returns-clause-cause g c =
-    let read = c.in-Ok.ensures in
-    let ran = c.run_standby-end.ensures in
-    standby_cause (standby_scene g c) c.in-Ok.inputs.policy.users c.run_standby-end.result ran.links_cause
-    (λ is. rose_since (g.F.Shelf.faults c.args.shelf.now) (g.F.Shelf.faults c.read_files.new.shelf) (g.F.Shelf.faults c.run_standby-end.new.shelf) read.later
-    (ran.shelf_cause is))
-    (λ is. some_rose g.F.Shelf g.F.D.Disk c.args.shelf.now c.read_files.new.shelf c.run_standby-end.new.shelf read.disks read.counts (ran.disk_cause is))
+returns-clause-cause g c = check_cause _ c.run_check.result c.run_check.ensures.read_cause c.run_check.ensures.write_cause
 
 pub returns-clause-command : goal.returns-clause-command
 returns-clause-command g c =
-    let scene = standby_scene g c in
-    let read = c.in-Ok.ensures in
-    let ran = c.run_standby-end.ensures in
+    let new = c.read_files.new.shelf in
+    let scene = scene_of (shelf_of g.F.Shelf g.F.D.Disk c.args.shelf.now new) (input_of g.S.Source c.args.source.now c.run_check.new.source)
+    (output_of g.K.Sink c.args.sink.now c.run_check.new.sink) (links_of g.L.Links c.args.links.now c.args.links.now) in
+    let read = c.in-Ok.ensures.read in
+    let ran = c.run_check.ensures in
+    let end = c.run_check.result in
     let files = names_of_files c.args.files in
-    let inputs = c.in-Ok.inputs in
-    let copying = c.in-Standby.copying in
-    let runs : RunsStandby scene.shelf scene.links files copying.address.now copying.sessions inputs.policy.users c.run_standby-end.result = record {
-      over_files = λ told. (
-        policy_value_of inputs.policy,
-        inputs.world,
-        header_bytes inputs.header,
-        read.read told,
-        record {
-          of_policy = refl;
-          touches = touches_over g.F.Shelf g.F.D.Disk c.args.shelf.now c.read_files.new.shelf c.run_standby-end.new.shelf read.disks read.counts files
-              inputs.policy c.as_slice.result.now
-              c.as_slice.ensures.value ran.disks ran.other_counts;
-          journals = copies_left inputs.policy (header_bytes inputs.header) c.as_slice.result.now _ _ c.run_standby-end.result
-              (same_journals g.F.Shelf g.F.D.Disk c.args.shelf.now c.read_files.new.shelf c.run_standby-end.new.shelf read.disks read.counts files)
-              c.as_slice.ensures.value
-              (ran.journals told);
-          serves = λ links_told. (
-            inputs.header,
-            refl,
-            copies_served inputs.policy inputs.header c.as_slice.result.now _ _ (g.L.Links.given c.args.links.now)
-                (g.L.Links.given c.run_standby-end.new.links) (g.L.Links.back c.args.links.now) (g.L.Links.back c.run_standby-end.new.links)
-                c.run_standby-end.result
-                (same_journals g.F.Shelf g.F.D.Disk c.args.shelf.now c.read_files.new.shelf c.run_standby-end.new.shelf read.disks read.counts files)
-                c.as_slice.ensures.value (ran.serves told links_told),
-          );
-        },
-      );
-      looks = λ told. ran.looked ∙ read.both told;
-      listens = ran.listens;
-      unheard = λ told same. (
-        λ name. ap (λ shelf. g.F.Shelf.disk shelf name) (ran.unheard told same) ∙ read.disks name,
-        λ name. ap (λ shelf. g.F.Shelf.disk_faults shelf name) (ran.unheard told same) ∙ read.counts name,
-      );
-      heard = ran.heard;
-      ends = ran.ended;
-      left = ran.left;
-      left_all = ran.left_all;
-      limited = ran.limited;
+    let two = two_files files.policy files.facts in
+    let name = c.in-OfUser.name in
+    let user = c.in-Some.user.now in
+    let own = string_bytes user.name in
+    let he = found_user c.in-Ok.inputs name.now c.as_slice.result.now user c.in-Ok.ensures.kept c.as_slice.ensures.value c.in-Some.ensures in
+    let is : RunsCheck scene.shelf scene.input scene.output two own end = record {
+      over_files = λ told. says read new (ChecksOverFiles scene.shelf scene.input scene.output two own end) told (policy_user_of user, he.named, ran.ends);
+      looks = read.looks;
+      disks = (read.disks, read.counts);
+      silent = ran.silent;
     } in
-    let does : OfStandby scene files copying.address.now copying.sessions (ends.Standby inputs.policy.users c.run_standby-end.result) = record {
-      ends = runs;
-      succeeds = standby_succeeds scene files copying.address.now copying.sessions inputs.policy.users c.run_standby-end.result runs
-          (returns-clause-cause g c);
-      reads_nothing = refl;
-      writes_nothing = refl;
-    } in
-    subst (λ task. OfReading scene (Some (reading_over files task)) (ends.Standby inputs.policy.users c.run_standby-end.result)) (sym c.in-Standby.is) does
+    let runs = subst (λ n. RunsCheck scene.shelf scene.input scene.output two n end) he.has_name is in
+    let does : OfCheck scene files.policy files.facts name.now (ends.Check end) =
+    record { ends = runs; succeeds = check_succeeds scene two name.now end runs (returns-clause-cause g c); listens_nowhere = refl } in
+    rw (c.in-OfUser.is, c.in-Check.is) does
