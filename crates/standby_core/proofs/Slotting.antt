@@ -24,7 +24,7 @@ use Rattle.standby_core.specs.MirroredDisks.{inner_of, mirrored}
 use Rattle.standby_core.specs.Named.{first_named}
 use Rattle.standby_core.specs.Places.{mirror_in, new_in, place_with, faults_in, IsMirrorFor}
 use Rattle.standby_core.specs.Slots.{slot_name, place_at, mirrored_at, RisesAtLeast, HavePlaces}
-use Rattle.standby_core.proofs.Naming.{IsAt, found, not_found, still_named}
+use Rattle.standby_core.proofs.Naming.{found, not_found}
 
 -- what holds of a name and of all others holds of all
 pub for_all : (P : List ℕ → Type 0) (name : List ℕ) → P name → ((one : List ℕ) → bytes_eq one name ≡ false → P one) → (one : List ℕ) → P one
@@ -60,16 +60,15 @@ module _ {C : Type 0} {g : _} where
       → Some place ≡ position (λ slot. bytes_eq (slot_name slot) name) slots → old ≡ get_or slots place old → slot_name new ≡ slot_name old
       → IsSlotSet name slots place old new
   slot_set name slots place old new is here named =
-      let at : IsAt slot_name name slots place old = found slot_name name slots place old (sym is) in
-      let it : bytes_eq (slot_name new) name ≡ true = still_named slot_name name slots place old new at here named in
+      let at = found slot_name name slots place old is here in
       record {
-        was = ap (λ o. option_map (λ (s : Slot C g). s.place) o) (at.is_first ∙ ap Some (sym here));
-        now = ap (λ o. option_map (λ (s : Slot C g). s.place) o) (at.set new it);
-        others = λ one differs. ap (λ o. option_map (λ (s : Slot C g). s.place) o) (at.others new it one differs);
+        was = ap (λ o. option_map (λ (s : Slot C g). s.place) o) at.is_first;
+        now = ap (λ o. option_map (λ (s : Slot C g). s.place) o) (at.set new named);
+        others = λ one differs. ap (λ o. option_map (λ (s : Slot C g). s.place) o) (at.others new named one differs);
       }
 
   pub no_slot : (name : List ℕ) (slots : List (Slot C g)) → None ≡ position (λ slot. bytes_eq (slot_name slot) name) slots → place_at slots name ≡ None
-  no_slot name slots none = ap (λ o. option_map (λ (s : Slot C g). s.place) o) (not_found slot_name name slots (sym none))
+  no_slot name slots none = ap (λ o. option_map (λ (s : Slot C g). s.place) o) (not_found slot_name name slots none)
 
   pub no_place : (name : List ℕ) (slots : List (Slot C g)) → None ≡ position (λ slot. bytes_eq (slot_name slot) name) slots
       → is_some (place_at slots name) ≡ true → ⊥

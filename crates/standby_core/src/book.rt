@@ -148,8 +148,7 @@ impl<D: Disk> Held<D> {
             → Rose (D.faults (disk_of self.old.journal)) (D.faults (disk_of self.new.journal)) }
         ensures next { IsErrOf result TakeError.DiskFault ⊎ IsErrOf result TakeError.Memory
             → number ≡ self.old.count }
-        ensures untouched { IsErrOf result TakeError.Broken → self.new ≡ self.old }
-        ensures memory { IsErrOf result TakeError.Memory
+        ensures untouched { IsErrOf result TakeError.Broken ⊎ IsErrOf result TakeError.Memory
             → copy_in D.reads self.new ≡ copy_in D.reads self.old }
         ensures lasts { D.tells → (header : List ℕ) (first : List Recorded)
             → Lasts D.reads D.image header first self.old
@@ -166,14 +165,13 @@ impl<D: Disk> Held<D> {
         if number != count {
             return Ok(count);
         }
-        if self.journal.reserve(text.len() as u32).is_err() {
+        let Ok(()) = self.journal.reserve(text.len() as u32) else {
             return Err(TakeError::Memory);
-        }
+        };
         let appended = self.journal.append(kind, text);
-        let grown = self.journal.count();
-        self.count = grown;
+        self.count = self.journal.count();
         match appended {
-            Ok(()) => Ok(grown),
+            Ok(()) => Ok(self.count),
             Err(AppendError::DiskFault) => Err(TakeError::DiskFault),
             Err(AppendError::Broken) => Err(TakeError::Broken),
         }
