@@ -1,9 +1,0 @@
-pub mod Heard
-pub mod Lists
-pub mod Talks
-pub mod Replied
-pub mod Desks
-pub mod Owners
-pub mod Members
-pub mod Asked
-pub mod Sessions
