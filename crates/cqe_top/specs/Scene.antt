@@ -208,15 +208,15 @@ HasRisen count = Rose count.before count.now
 abbrev pub HasNotFallen : Count → Type 0
 HasNotFallen count = count.before ≤ count.now
 
--- the object is the same in every respect
+-- the input is the same object in every respect
 abbrev pub SameInput : Input → Type 0
 SameInput input = input.object' ≡ input.object
 
--- so is a sink
+-- the output is the same object in every respect
 abbrev pub SameOutput : Output → Type 0
 SameOutput output = output.object' ≡ output.object
 
--- so is a shelf, with its disks
+-- the shelf is the same object in every respect, with its disks
 abbrev pub SameShelf : ShelfScene → Type 0
 SameShelf shelf = shelf.object' ≡ shelf.object
 

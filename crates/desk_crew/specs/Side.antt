@@ -181,6 +181,7 @@ module _ (schema : DatabaseSchema) (world : FactSet) where
     IsTriedAt user before (Err closed) now =
         IsPlaced user (string_bytes closed.journal) before closed.disk now
 
+    -- where its place was there before, it is there now, and was tried so
     abbrev pub IsTriedFrom : {g h : _} → User → Option DeskError → Option (DeskPlace D g h)
         → Option (DeskPlace D g h) → Type 0
     IsTriedFrom {g} {h} user before None new = Unit {0}

@@ -8,9 +8,9 @@ use cqe_base::laws::law_entailment;
 use cqe_base::machine_laws::law_refutation_entails;
 use soundness::{law_sound_grows, law_verdicts};
 
-/// A sound history of an admissible user hides his secrets, those among them that it adds: for each
-/// there is a world in which the secret is false, all that he knows is true, he is admissible, and
-/// his history is sound.
+/// A sound history of an admissible user hides his secrets soundly, those among them that it adds:
+/// for each there is a world in which the secret is false, all that he knows is true, he is
+/// admissible, and his history is sound.
 pub fn law_sound()
     ensures { SoundHistoriesHide }
 {

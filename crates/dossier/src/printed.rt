@@ -16,7 +16,8 @@ ghost use Rattle.audit_text.specs.Text.{world_text};
 ghost use Rattle.dossier.specs.Written.{sign_text, literal_text, number_text, line_text};
 ghost use Rattle.dossier.specs.Written.{follows_text};
 ghost use Rattle.dossier.specs.Small.{is_small_line};
-ghost use Rattle.dossier.specs.Written.{IsOpenListing, IsBlock, Grows};
+ghost use Rattle.dossier.specs.Written.{IsOpenListing, IsBlock};
+ghost use Rattle.dossier.specs.Adding.{Grows};
 
 use crate::bounded::are_small;
 use audit_print::fact_texts;

@@ -21,9 +21,9 @@ ghost use Rattle.entailment.specs.Probes.{premise_list, signed_at, IsGroundPremi
 ghost use Rattle.dossier.specs.Checked.{addition_probe};
 ghost use Rattle.dossier.specs.Logs.{past_schema, past_user, past_history, IsKept, IsSamePast};
 ghost use Rattle.dossier.specs.Items.{goal_probe, implied_probes};
-ghost use Rattle.dossier.specs.Written.{IsBlock, AreBlocks, item_probes, IsDossier};
-ghost use Rattle.dossier.specs.Written.{AreLegal, IsNextLegal, AreUnspent, IsWithin, Grows};
+ghost use Rattle.dossier.specs.Written.{IsBlock, AreBlocks, item_probes, IsDossier, AreLegal};
 ghost use Rattle.dossier.specs.Written.{IsAdmission, AreItems, head_text, done_text};
+ghost use Rattle.dossier.specs.Adding.{IsNextLegal, AreUnspent, IsWithin, Grows};
 ghost use Rattle.dossier.specs.Adding.{AddsItem, AddsSaid};
 
 use crate::checking::head_rest;

@@ -94,6 +94,7 @@ module _ {D : Type 0} (told : Type 0) (Disk : DiskGhosts D) where
     pub held : told → disk (given_journal given) ≡ Some given.disk
     pub counted : count (given_journal given) ≡ Disk.faults given.disk
 
+  -- these disks are back, each under its name
   abbrev pub AreGiven : (List ℕ → Option D) → (List ℕ → ℕ) → List (Given D) → Type 0
   AreGiven disk count all = AllByRecursion (IsGiven disk count) all
 
