@@ -9,14 +9,18 @@ use Rattle.cqe_base.specs.declared.world.Fact.{Fact}
 use Rattle.cqe_base.specs.Schema.{DatabaseSchema, Text}
 use Rattle.cqe_base.specs.Facts.{FactSet, fact_cmp, is_fact_of}
 use Rattle.cqe_base.specs.Formula.{Formula}
-use Rattle.cqe_base.specs.Literal.{Literal, Positive, Negative, variable_of}
+use Rattle.cqe_base.specs.Literal.{Literal, Positive, Negative, variable_of, sign_at}
 use Rattle.cqe_base.specs.History.{UserProfile, AnsweredQuery, History, known, log, user_at}
+use Rattle.cqe_base.specs.ClauseForm.{numbering_of, world_of as model_world}
 use Rattle.cqe_base.specs.Refutation.{RefutationLine, is_refutation}
+use Rattle.cqe_base.specs.Machine.{End, Ended, Model, Refuted, MachineEnds}
+use Rattle.cqe_base.specs.Outcome.{grounded_probe}
 use Rattle.cqe_base.specs.Censor.{Probe, guarded, probes, probes_against, IsLegal}
 use Rattle.cqe_base.specs.Limits.{KeepsSizes}
 use Rattle.cqe_base.specs.Transcript.{mark_text}
 use Rattle.log_journal.specs.Records.{Recorded}
 use Rattle.entailment.specs.Certificates.{clauses_of_probe}
+use Rattle.entailment.specs.Budgets.{variables_of}
 use Rattle.audit_text.specs.Text.{world_text}
 use Rattle.audit_print.specs.Said.{IsListing, world_said, method_word}
 use Rattle.user_desk.specs.Entries.{entry_of}
@@ -75,10 +79,28 @@ IsFollowsBlock schema probe text =
     × (list_all is_small_line lines ≡ true) × (text ≡ follows_text lines)
 
 -- a block shows whether the premises of a probe entail its goal
-abbrev pub IsBlock : DatabaseSchema → Probe → Text → Type 0
-IsBlock schema probe text = IsOpenBlock schema probe text ⊎ IsFollowsBlock schema probe text
+abbrev pub IsRightBlock : DatabaseSchema → Probe → Text → Type 0
+IsRightBlock schema probe text = IsOpenBlock schema probe text ⊎ IsFollowsBlock schema probe text
 
--- blocks show it of these probes, one after the other
+-- a block shows an end of the machine: the refutation, or the facts that the model makes true
+abbrev pub ShowsEnd : DatabaseSchema → Probe → End → Text → Type 0
+ShowsEnd schema probe (Refuted lines) text = text ≡ follows_text lines
+ShowsEnd schema probe (Model signs) text =
+    let formulas = grounded_probe schema probe.premises probe.goal in
+    IsOpenListing schema (model_world (numbering_of formulas).facts (sign_at signs)) text
+
+-- a block shows the end of the machine on the clauses of a probe, whatever that costs
+abbrev pub ShowsMachine : DatabaseSchema → Probe → Text → Type 0
+ShowsMachine schema probe text =
+    (ended : Ended) × MachineEnds (clauses_of_probe schema probe.premises probe.goal)
+    (variables_of schema probe.premises probe.goal) ended
+    × ShowsEnd schema probe ended.end text
+
+-- the block that is written of a probe: it is right, and that of the machine's end
+abbrev pub IsBlock : DatabaseSchema → Probe → Text → Type 0
+IsBlock schema probe text = IsRightBlock schema probe text × ShowsMachine schema probe text
+
+-- the blocks of these probes, one after the other
 abbrev pub AreBlocks : DatabaseSchema → List Probe → Text → Type 0
 AreBlocks schema [] text = text ≡ []
 AreBlocks schema (probe ∷ more) text =

@@ -25,13 +25,16 @@ use audit_text::push_facts;
 use clause_store::literal::Lit;
 use clause_store::refutation::{Line, Refutation};
 use cqe_base::laws::law_grounded_nodes;
-use cqe_base::machine_laws::{law_numbered_facts_are_few, law_variables_are_few};
+use cqe_base::machine_laws::{
+    law_budget_is_whole_cost, law_numbered_facts_are_few, law_variables_are_few,
+};
 use cqe_base::schema::Schema;
 use cqe_base::world::World;
 use entailment::{Certified, Probe, View, certify};
 use std::alloc::{AllocError, Global};
 
-/// Appends the block of a probe of the view's log that isn't spent at this budget.
+/// Appends the block of a probe of the view's log that isn't spent at this budget: that of the
+/// machine's end.
 pub(crate) fn push_block(
     alloc: Global,
     text: &mut String,
@@ -55,6 +58,7 @@ pub(crate) fn push_block(
         (string_bytes text.old) (string_bytes text.new)) }
     ensures same { view.new ≡ view.old }
 {
+    law_budget_is_whole_cost();
     law_variables_are_few();
     law_numbered_facts_are_few();
     law_grounded_nodes();

@@ -46,9 +46,10 @@ use std::alloc::{AllocError, Global};
 use user_desk::mark_of;
 
 /// Writes the dossier of an admitted user whose records stand for a legal history of his within the
-/// limits. Its refutations are those of the search and its worlds those of its models, so that each
-/// block is right, and `check_dossier` accepts the text. All is made before the first byte is
-/// written.
+/// limits. Its refutations are those of the machine and its worlds those of its models, so the
+/// schema, the user and the records decide the text (`law_dossiers_are_one`); of the world only its
+/// premises speak. Each block is right, and `check_dossier` accepts the text. All is made before
+/// the first byte is written.
 pub fn write_dossier<K: Sink>(
     alloc: Global,
     schema: &Schema,
