@@ -24,9 +24,10 @@ use Rattle.cqe_top.specs.Serve.{ListensAt}
 
 module _ (shelf : ShelfScene) (links : LinksScene) (files : FileNames) (address : Text)
     (limit : ℕ) where
-  -- Each connection was served by the copies of these users' journals, as they were opened and as
-  -- a crash leaves them; and whatever a crash leaves of a journal that was opened has the records
-  -- that it had.
+  -- Each connection was served by the copies of these users' journals. A copy began with the
+  -- records of its journal, and a crash as the call ends leaves the records that it came to; of one
+  -- whose append failed it may leave one more. At each moment since a journal was opened a crash
+  -- leaves the records that it had, and some first ones of those that came.
   pub record CopiesOverFiles (users : Vec User Global) (end : CopyEnd) (policy : PolicyValue)
       (world : FactSet) (header : List ℕ) : Type 0 where
     pub of_policy : AreUsersOf users policy

@@ -5,6 +5,7 @@ pub mod Filling
 pub mod Frames
 pub mod Framing
 pub mod Keeping
+pub mod Lasting
 pub mod Naming
 pub mod Serving
 pub mod Slotting

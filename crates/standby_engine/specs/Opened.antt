@@ -11,7 +11,7 @@ use Rattle.log_journal.specs.Records.{Recorded, IsJournal}
 use Rattle.log_journal.specs.declared.header.OpenError.TheVariants.{Memory}
 use Rattle.user_desk.specs.declared.standing.DeskError.{DeskError}
 use Rattle.user_desk.specs.declared.standing.DeskError.TheVariants.{Journal}
-use Rattle.standby_core.specs.Copies.{held_name}
+use Rattle.standby_core.specs.Copies.{copy_in, held_name}
 use Rattle.standby_core.specs.Lasting.{Lasts}
 use Rattle.standby_core.specs.declared.book.Held.{Held}
 use Rattle.standby_engine.specs.declared.opening.Given.{Given}
@@ -62,11 +62,12 @@ others_in (Opened journal held ∷ places) = others_in places
 others_in (Refused journal disk why ∷ places) =
     record { journal = journal; disk = disk } ∷ others_in places
 
--- A disk that was opened is a journal with these first records, and lasts so.
+-- A disk that was opened is a journal with these first records, and lasts so from then on.
 abbrev pub IsOpenedAs : {D : Type 0} {g : _} → DiskGhosts D → List ℕ → D → Place D g
     → List Recorded → Type 0
 IsOpenedAs Disk header taken (Opened journal held) first =
-    IsJournal header first (Disk.reads taken) × Lasts Disk.reads Disk.image header first held
+    IsJournal header first (Disk.reads taken)
+    × Lasts Disk header (disk_of held.journal) (disk_of held.journal) (copy_in Disk.reads held)
 IsOpenedAs Disk header taken (Refused journal disk why) first = Unit {0}
 
 -- no append of it failed yet, and the count is that of its records; or the refusal has its cause

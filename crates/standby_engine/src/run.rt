@@ -68,7 +68,8 @@ pub fn run_standby<R: Wait, F: Shelf, L: Links>(
     requires most { copying.sessions ≤ 2 ^ 30 }
 
     // Each connection that was given is served, in order, by the copies of the users' journals, and
-    // whatever a crash leaves of a journal that was opened has the records that it had.
+    // whatever a crash leaves of a journal that was opened has the records that it had, at each
+    // moment since then too.
     ensures serves { F.tells → L.tells → EndsCopying header.now
         (journals_on F.Shelf F.D.Disk directory.now shelf.old shelf.new) users.now
         (L.given links.old) (L.given links.new) (L.back links.old) (L.back links.new) result }

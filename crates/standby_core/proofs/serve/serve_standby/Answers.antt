@@ -10,7 +10,7 @@ use Rattle.standby_core.proofs.serve.serve_standby.Goals as goal
 pub loop-init : goal.loop-init
 loop-init g c = record {
   so_far = λ source disk sink. record { answers = []; took = none; written = sym (append-nil (g.K.Sink.written c.args.sink.now)) };
-  lasts = λ disk own firsts all. all;
+  lasts = λ disk own disks all. all;
   names = refl;
   counted = λ counts all. all;
   read_later = omega arith;
@@ -36,7 +36,7 @@ loop-preserved g c =
           (subst (λ o. Reads o c.args.header.now (g.S.Source.left c.loop.source) (g.S.Source.left c.read_frame.new.source) c.read_frame.new.room)
           c.in-Whole.is (c.read_frame.ensures.reads source))
           (c.in-Ok.ensures.took disk sink);
-      lasts = λ disk own firsts all. taken.lasts disk own firsts (before.lasts disk own firsts all);
+      lasts = λ disk own disks all. taken.lasts disk own disks (before.lasts disk own disks all);
       names = taken.names ∙ before.names;
       counted = λ counts all. taken.counted counts (before.counted counts all);
       read_later = omega (arith, before.read_later, c.read_frame.ensures.later);
@@ -119,7 +119,7 @@ returns-in-Err-clause-serves g c source disk sink =
     (c.in-Err.ensures.took disk sink)
 
 pub returns-in-Err-clause-lasts : goal.returns-in-Err-clause-lasts
-returns-in-Err-clause-lasts g c disk own firsts all = c.take_frame.ensures.lasts disk own firsts (c.loop.invariant.lasts disk own firsts all)
+returns-in-Err-clause-lasts g c disk own disks all = c.take_frame.ensures.lasts disk own disks (c.loop.invariant.lasts disk own disks all)
 
 pub returns-in-Err-clause-names : goal.returns-in-Err-clause-names
 returns-in-Err-clause-names g c = c.take_frame.ensures.names ∙ c.loop.invariant.names

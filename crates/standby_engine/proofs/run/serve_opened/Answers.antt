@@ -16,7 +16,7 @@ use Rattle.standby_engine.specs.Opened.{place_refusal, given_journal, journals_i
 use Rattle.standby_engine.specs.Standing.{LeavesCopies, AreCopied, AreCopiesOf, EndsCopying, IsServed, IsBroken}
 use Rattle.standby_engine.specs.declared.opening.Given.{Given as Back}
 use Rattle.standby_engine.proofs.Parting.{each_parted, names_many}
-use Rattle.standby_engine.proofs.Mirroring.{parted, held_disk, firsts_of, counts_of, places_many, first_lasts, first_counted}
+use Rattle.standby_engine.proofs.Mirroring.{parted, held_disk, counts_of, places_many, first_lasts, first_counted}
 use Rattle.standby_engine.proofs.Mirroring.{first_sound, can_distinct, can_out}
 use Rattle.standby_engine.proofs.Mirroring.{all_returned, AreBack, are_back, fell_all, some_failed, rose_of, all_copied, all_served, failed_same}
 use Rattle.standby_engine.proofs.Ending.{ended_at, failed_at, broken_at, leaves_at, serves_at}
@@ -219,18 +219,13 @@ pub returns-clause-other_counts : goal.returns-clause-other_counts
 returns-clause-other_counts g c = (returned g c).other_counts
 
 -- each journal that was opened lasts
-lasts : (g : Over) (c : After-end_of g) (told : g.F.D.Disk.tells)
-    → AllLast g.F.D.Disk.reads g.F.D.Disk.image (header_bytes c.args.header.now)
-    (firsts_of c.args.directory.now (header_bytes c.args.header.now) g.F.Shelf.tells g.F.D.Disk (g.F.Shelf.disk c.args.shelf.now)
-    (g.F.Shelf.disk_faults c.args.shelf.now)
-    told c.args.users.now c.in-Ok-open_journals.places.items c.in-Ok-open_journals.ensures.opened) c.close-journals.result.items
+lasts : (g : Over) (c : After-end_of g) → g.F.D.Disk.tells
+    → AllLast g.F.D.Disk (header_bytes c.args.header.now) (map held_disk (journals_in c.in-Ok-open_journals.places.items)) c.close-journals.result.items
 lasts g c told =
     let own = header_bytes c.args.header.now in
-    let firsts = firsts_of c.args.directory.now (header_bytes c.args.header.now) g.F.Shelf.tells g.F.D.Disk (g.F.Shelf.disk c.args.shelf.now)
-    (g.F.Shelf.disk_faults c.args.shelf.now)
-    told c.args.users.now c.in-Ok-open_journals.places.items c.in-Ok-open_journals.ensures.opened in
-    subst (λ (v : Vec _ Global). AllLast g.F.D.Disk.reads g.F.D.Disk.image own firsts v.items) (sym c.close-journals.ensures.same)
-    (c.serve_door-end.ensures.lasts told own firsts (subst (AllLast g.F.D.Disk.reads g.F.D.Disk.image own firsts) (sym (began g c))
+    let disks = map held_disk (journals_in c.in-Ok-open_journals.places.items) in
+    subst (λ (v : Vec _ Global). AllLast g.F.D.Disk own disks v.items) (sym c.close-journals.ensures.same)
+    (c.serve_door-end.ensures.lasts told own disks (subst (AllLast g.F.D.Disk own disks) (sym (began g c))
     (first_lasts c.args.directory.now (header_bytes c.args.header.now) g.F.Shelf.tells g.F.D.Disk (g.F.Shelf.disk c.args.shelf.now)
     (g.F.Shelf.disk_faults c.args.shelf.now)
     told c.args.users.now c.in-Ok-open_journals.places.items c.in-Ok-open_journals.ensures.opened)))
@@ -256,8 +251,8 @@ returns-clause-serves g c shelf_told door_told =
     (map (copy_in reads) c.close-journals.result.items) =
     all_served c.args.directory.now (header_bytes c.args.header.now) g.F.Shelf.tells g.F.D.Disk (g.F.Shelf.disk c.args.shelf.now)
     (g.F.Shelf.disk_faults c.args.shelf.now)
-    (g.F.Shelf.disk c.give_back.new.shelf) (g.F.Shelf.disk_faults c.give_back.new.shelf) shelf_told disk_told
-    (λ (held : Held _ _) whole. held.journal.durable whole) (λ (held : Held _ _) whole. held.journal.counted whole disk_told)
+    (g.F.Shelf.disk c.give_back.new.shelf) (g.F.Shelf.disk_faults c.give_back.new.shelf) shelf_told disk_told g.met.F.D.Disk.counts_now
+    g.met.F.D.Disk.only_now (λ (held : Held _ _) whole. held.journal.counted whole disk_told)
     users places c.in-Ok-open_journals.ensures.opened c.close-journals.result.items (back g c) (lasts g c disk_told) named in
     let of_book : AreCopiesOf own journals users c.refusals_of-refusals.result.items (map (copy_in reads) c.new-book.result.journals.items)
     (map (copy_in reads) c.serve_door-end.new.book.journals.items) =
@@ -295,8 +290,8 @@ returns-clause-journals g c shelf_told =
     (subst (AreCopied own journals c.args.users.now) (sym (refused g c))
     (all_copied c.args.directory.now (header_bytes c.args.header.now) g.F.Shelf.tells g.F.D.Disk (g.F.Shelf.disk c.args.shelf.now)
     (g.F.Shelf.disk_faults c.args.shelf.now)
-    (g.F.Shelf.disk c.give_back.new.shelf) (g.F.Shelf.disk_faults c.give_back.new.shelf) shelf_told disk_told c.args.users.now
-    c.in-Ok-open_journals.places.items
+    (g.F.Shelf.disk c.give_back.new.shelf) (g.F.Shelf.disk_faults c.give_back.new.shelf) shelf_told disk_told g.met.F.D.Disk.counts_now
+    g.met.F.D.Disk.only_now c.args.users.now c.in-Ok-open_journals.places.items
     c.in-Ok-open_journals.ensures.opened c.close-journals.result.items (back g c) (lasts g c disk_told)))
     (λ broken. some_failed c.args.directory.now (header_bytes c.args.header.now) g.F.Shelf.tells g.F.D.Disk (g.F.Shelf.disk c.args.shelf.now)
     (g.F.Shelf.disk_faults c.args.shelf.now)

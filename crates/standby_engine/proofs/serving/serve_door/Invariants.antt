@@ -1,5 +1,4 @@
 use Rattle.std.proofs.Common.{◌≡◌, ◌≤◌, ◌+◌, ℕ, List, map}
-use Rattle.log_journal.specs.Records.{Recorded}
 use Rattle.standby_core.specs.Books.{copies_in, held_in}
 use Rattle.standby_core.specs.Copies.{held_name}
 use Rattle.standby_core.specs.Lasting.{AllLast, AllCounted}
@@ -13,8 +12,7 @@ invariant-loop g l = record {
       → IsDoorServed g.O.Door.given g.O.Door.back l.header (copies_in g.D.Disk.reads l.fn.book) (copies_in g.D.Disk.reads l.book) l.fn.door l.door;
   count : g.O.Door.tells → g.O.Door.given l.door ≡ g.O.Door.given l.fn.door + l.counter;
   left : g.O.Door.tells → g.O.Door.left l.fn.door + g.O.Door.given l.fn.door ≡ g.O.Door.left l.door + g.O.Door.given l.door;
-  lasts : g.D.Disk.tells → (own : List ℕ) (firsts : List (List Recorded)) → AllLast g.D.Disk.reads g.D.Disk.image own firsts (held_in l.fn.book)
-      → AllLast g.D.Disk.reads g.D.Disk.image own firsts (held_in l.book);
+  lasts : g.D.Disk.tells → (own : List ℕ) (disks : List _) → AllLast g.D.Disk own disks (held_in l.fn.book) → AllLast g.D.Disk own disks (held_in l.book);
   names : map held_name (held_in l.book) ≡ map held_name (held_in l.fn.book);
   counted : (counts : List ℕ) → AllCounted g.D.Disk.faults counts (held_in l.fn.book) → AllCounted g.D.Disk.faults counts (held_in l.book);
   ends : g.O.Door.ends l.door ≡ g.O.Door.ends l.fn.door;

@@ -1,4 +1,4 @@
-use Rattle.std.proofs.Common.{◌≡◌, inl, true, Some, None, map, length, refl, sym, ap, subst, ◌∙◌, arith, option_map}
+use Rattle.std.proofs.Common.{◌≡◌, true, Some, None, map, length, refl, sym, ap, subst, ◌∙◌, arith, option_map}
 use Rattle.std.specs.Prelude.{bytes_eq, position, slice_set, string_bytes}
 use Rattle.std.specs.Cmp.Lexicographic.{same_text}
 use Rattle.std.proofs.lemmas.Result.{on_ok_weaker, IfOk-weaker}
@@ -94,9 +94,9 @@ returns-clause-taken g c told =
     (c.take.ensures.taken told)
 
 pub returns-clause-lasts : goal.returns-clause-lasts
-returns-clause-lasts g c told header firsts =
-    lasts_set g.D.Disk.reads g.D.Disk.image header (λ held. bytes_eq (held_name held) c.args.name.now) c.args.self.now.journals.items c.in-Some.place
-    c.index_mut-held.result.now c.take.new.self (stands_there g (goal.at.returns-clause-lasts g c).After-take) (c.take.ensures.lasts told header) firsts
+returns-clause-lasts g c told header disks =
+    lasts_set g.D.Disk header (λ held. bytes_eq (held_name held) c.args.name.now) c.args.self.now.journals.items c.in-Some.place
+    c.index_mut-held.result.now c.take.new.self (stands_there g (goal.at.returns-clause-lasts g c).After-take) (c.take.ensures.lasts told header) disks
 
 pub returns-clause-names : goal.returns-clause-names
 returns-clause-names g c =
@@ -161,18 +161,18 @@ returns-clause-next g c is =
     let at = (goal.at.returns-clause-next g c).After-take in
     (copy_in g.D.Disk.reads c.index_mut-held.result.now, copy_first g at, sym (c.take.ensures.next is))
 
--- all others stay
+-- it keeps its records, and all others stay
 pub returns-clause-alone : goal.returns-clause-alone
-returns-clause-alone g c is =
+returns-clause-alone g c told is =
     let at = (goal.at.returns-clause-alone g c).After-take in
     let journals = c.args.self.now.journals.items in
     let set = slice_set journals c.in-Some.place c.take.new.self in
     let named = still_named held_name c.args.name.now journals c.in-Some.place c.index_mut-held.result.now c.take.new.self (it_is g at)
     c.index_mut-held.ensures.value (ap string_bytes c.take.ensures.name) in (
       (
-        copy_in g.D.Disk.reads c.take.new.self,
-        copy_of g.D.Disk.reads c.args.name.now set ∙ ap (option_map (copy_in g.D.Disk.reads)) (set_first g at),
-        c.take.ensures.broke (inl is),
+        copy_in g.D.Disk.reads c.index_mut-held.result.now,
+        copy_first g at,
+        copy_of g.D.Disk.reads c.args.name.now set ∙ ap (option_map (copy_in g.D.Disk.reads)) (set_first g at) ∙ ap Some (c.take.ensures.failed told is),
       ),
       λ other differs. copy_of g.D.Disk.reads other set
           ∙ ap (option_map (copy_in g.D.Disk.reads)) ((it_is g at).others c.take.new.self named other differs)
