@@ -14,6 +14,7 @@ ghost use Rattle.serve_engine.specs.Serving.{IsBroken};
 ghost use Rattle.serve_engine.specs.Serving.{end_of};
 ghost use Rattle.serve_engine.specs.declared.run.ServeEnd.{ServeEnd};
 
+use crate::laws::law_served_alike;
 use crate::serving::Outcome;
 use crate::sharing::serve_seats;
 use cqe_base::laws::{law_hides, law_legal_grows};
@@ -144,6 +145,7 @@ where
     ensures disk_cause { IsBroken result
         → SomeRose (F.disk_faults shelf.old) (F.disk_faults shelf.new) }
 {
+    law_served_alike();
     let doors = match links.listen(alloc, listening.address, listening.workers) {
         Ok(doors) => doors,
         Err(LinksError::Failed) => return ServeEnd::LinksFault,
