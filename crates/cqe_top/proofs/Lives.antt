@@ -40,8 +40,7 @@ use Rattle.cqe_top.specs.Batch.{BatchEnds, RunsBatch, OfBatch, AnswersOverFiles}
 use Rattle.cqe_top.specs.Dossier.{DossierEnds, OfDossier}
 use Rattle.cqe_top.specs.Files.{both, said_on, SayOn, journals_of, new_user, new_users}
 use Rattle.cqe_top.specs.Lives.{TellsAll, IsEndOf, BatchCallsJoin, IsLeft, LeavesPart, LeavesParts, UsesJournals, CallsAreParts}
-use Rattle.cqe_top.specs.Copied.{Counts, counted_with, IsCounted}
-use Rattle.cqe_top.specs.Promise.{Promise, OfReading, Does}
+use Rattle.cqe_top.specs.Promise.{Promise, Does}
 use Rattle.cqe_top.specs.Scene.{Scene, ShelfScene, Input, Output, LinksScene, SameDisks, shelf_of, scene_of}
 use Rattle.cqe_top.specs.Serve.{ServeEnds, OfServe, ServesOverFiles}
 
@@ -54,15 +53,6 @@ said_once P policy policy' world world' header header' same is =
     let h : header' ≡ header = cc in
     subst (λ q. P q world header) p (subst (λ x. P policy' x header) w (subst (λ k. P policy' world' k) h is))
 
--- where the words name no standby, what was done is what the reading says
-alone : (s : Scene) (reading : Option Reading) (e : CommandEnd) → ((failed : Text → ℕ) → Counts s.links failed reading → ⊥) → Does s reading e
-    → OfReading s reading e
-alone s reading e none does = by does.exchanges does.counted does.command
-  where
-    by : (exchanges : Option (Text → ℕ)) → IsCounted s reading exchanges → OfReading (counted_with s exchanges) reading e → OfReading s reading e
-    by None counted of = of
-    by (Some failed) counted of = absurd (none failed counted)
-
 -- ---- two batches
 
 answered_over : (words : List Text) (s : Scene) (complaints : Output) (status : ℕ) (files : FileNames) (users : Vec User Global) (engine_end : BatchEnd)
@@ -70,10 +60,9 @@ answered_over : (words : List Text) (s : Scene) (complaints : Output) (status : 
     → one.end ≡ end.Batch users engine_end → TellsAll s
     → SayOn s.shelf files (λ policy world header. IsEndOf s files policy world header engine_end)
 answered_over words s complaints status files users engine_end workers one read ends tells =
-    let of_batch : OfBatch s files one.end =
-    alone s (Some (runs_batch files workers)) one.end (λ failed counted. counted) (subst (λ r. Does s r one.end) read one.does) in
+    let of_batch : Does s (Some (runs_batch files workers)) one.end = subst (λ r. Does s r one.end) read one.does in
     let runs : RunsBatch s.shelf s.input s.output files users engine_end =
-    subst (λ (e : CommandEnd). BatchEnds s.shelf s.input s.output files e) ends of_batch.ends in
+    subst (λ (e : CommandEnd). BatchEnds s.shelf s.input s.output files e) ends of_batch.command.ends in
     let over = runs.over_files tells.0 in
     (over.0, over.1, over.2, over.3, over.4.answers tells.1 tells.2)
 
@@ -340,17 +329,14 @@ module _ {F D : Type 0} (Shelf : ShelfGhosts F D) (Disk : DiskGhosts D) (old new
 
     of_reading : (r : Option Reading) (e : CommandEnd) → Does (scene_of shelf input output links) r e → UsesJournals files r → Parts
     of_reading (Some (runs_batch its workers)) e does same =
-        let of = alone (scene_of shelf input output links) (Some (runs_batch its workers)) e (λ failed counted. counted) does in
-        of_batch e (subst (λ (f : FileNames). OfBatch (scene_of shelf input output links) f e) same of).ends
+        of_batch e (subst (λ (f : FileNames). OfBatch (scene_of shelf input output links) f e) same does.command).ends
     of_reading (Some (runs_audit its user json)) e does same =
-        let of = alone (scene_of shelf input output links) (Some (runs_audit its user json)) e (λ failed counted. counted) does in
-        of_audit user json e (subst (λ (f : FileNames). OfAudit (scene_of shelf input output links) f user json e) same of).ends
+        of_audit user json e (subst (λ (f : FileNames). OfAudit (scene_of shelf input output links) f user json e) same does.command).ends
     of_reading (Some (runs_serve its address workers limit)) e does same =
-        let of = alone (scene_of shelf input output links) (Some (runs_serve its address workers limit)) e (λ failed counted. counted) does in
-        of_serve address workers limit e (subst (λ (f : FileNames). OfServe (scene_of shelf input output links) f address workers limit e) same of).ends
+        of_serve address workers limit e
+        (subst (λ (f : FileNames). OfServe (scene_of shelf input output links) f address workers limit e) same does.command).ends
     of_reading (Some (runs_dossier its user)) e does same =
-        let of = alone (scene_of shelf input output links) (Some (runs_dossier its user)) e (λ failed counted. counted) does in
-        of_dossier user e (subst (λ (f : FileNames). OfDossier (scene_of shelf input output links) f user e) same of).ends
+        of_dossier user e (subst (λ (f : FileNames). OfDossier (scene_of shelf input output links) f user e) same does.command).ends
     of_reading None e does uses = absurd uses
     of_reading (Some runs_case) e does uses = absurd uses
     of_reading (Some (runs_init its)) e does uses = absurd uses

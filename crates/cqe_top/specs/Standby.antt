@@ -18,7 +18,7 @@ use Rattle.cqe_top.specs.Files.{SayOn, LooksAtBoth, IsUnread, TouchesOnlyJournal
 use Rattle.cqe_top.specs.Files.{AreUsersOf}
 use Rattle.cqe_top.specs.Ready.{CanBeCopied}
 use Rattle.cqe_top.specs.Reports.{IsDoneUnlessMemory}
-use Rattle.cqe_top.specs.Scene.{Scene, ShelfScene, LinksScene, HasRisen}
+use Rattle.cqe_top.specs.Scene.{Scene, ShelfScene, LinksScene, HasRisen, CallsNobody}
 use Rattle.cqe_top.specs.Scene.{SameDisks, SameShelf, SameInput, SameOutput, SameLinks}
 use Rattle.cqe_top.specs.Serve.{ListensAt}
 
@@ -74,4 +74,5 @@ pub record OfStandby (s : Scene) (files : FileNames) (address : Text) (limit : â
   pub ends : StandbyEnds s.shelf s.links files address limit end
   pub reads_nothing : SameInput s.input
   pub writes_nothing : SameOutput s.output
+  pub calls_nobody : CallsNobody s.links
   pub succeeds : StandbySucceeds s.shelf s.links files address limit end

@@ -32,7 +32,7 @@ pub use disk::Disk;
 pub use fault::Failed;
 pub use gate::{Gate, OpenGate, Point};
 pub use links::{Door, Links, LinksError};
-pub use memory_dial::MemoryDial;
+pub use memory_dial::{Answered, MemoryDial};
 pub use memory_disk::{Call, MemoryDisk, Operation};
 pub use memory_door::{Connection, DoorBack, Finished, MemoryDoor};
 pub use memory_links::{Listened, MemoryLinks};

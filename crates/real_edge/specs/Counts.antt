@@ -1,5 +1,6 @@
 -- The counts of faults of what is real.
-use Rattle.std.specs.Prelude.{ℕ, Bool, List}
+use Rattle.std.specs.Prelude.{ℕ, Bool, List, string_bytes}
+use Rattle.outside.specs.Dials.{faults_under}
 use Rattle.outside.specs.Places.{at_name}
 use Rattle.real_edge.specs.declared.streams.StreamSource.{StreamSource}
 use Rattle.real_edge.specs.declared.streams.StreamSink.{StreamSink}
@@ -50,10 +51,6 @@ links_faults links = links.faults
 abbrev pub links_out : {R : Type 0} → TcpLinks R → ℕ
 links_out links = links.out
 
--- the faults of the dials that were hung up
-abbrev pub links_mirror : {R : Type 0} → TcpLinks R → ℕ
-links_mirror links = links.mirror
-
 -- the number that a dial was last answered
 abbrev pub dial_answered : {R : Type 0} → TcpDial R → ℕ
 dial_answered dial = dial.answered
@@ -61,3 +58,19 @@ dial_answered dial = dial.answered
 -- how often a dial failed
 abbrev pub dial_faults : {R : Type 0} → TcpDial R → ℕ
 dial_faults dial = dial.faults
+
+-- the address that it calls
+abbrev pub dial_address : {R : Type 0} → TcpDial R → List ℕ
+dial_address dial = string_bytes dial.address
+
+-- the name under which its faults are counted
+abbrev pub dial_name : {R : Type 0} → TcpDial R → List ℕ
+dial_name dial = string_bytes dial.name
+
+-- how many dials aren't hung up
+abbrev pub links_dialling : {R : Type 0} → TcpLinks R → ℕ
+links_dialling links = links.dials_out
+
+-- the faults of the dials that were hung up, by their names
+abbrev pub links_exchange_faults : {R : Type 0} → TcpLinks R → List ℕ → ℕ
+links_exchange_faults links = faults_under dial_name dial_faults links.dials_back.items

@@ -7,7 +7,7 @@ use Rattle.std.proofs.lemmas.Option.{same_Some}
 use Rattle.outside.specs.declared.disk.Disk.{Ghosts as DiskGhosts}
 use Rattle.log_journal.specs.Journal.{disk_of, is_broken}
 use Rattle.log_journal.specs.Records.{Recorded}
-use Rattle.standby_core.specs.Copies.{Copy, copy_in, copy_at, copy_after, copies_after, held_name, HasCount, HasFailed}
+use Rattle.standby_core.specs.Copies.{Copy, copy_in, copy_at, copy_after, copies_after, held_name, held_origin, HasCount, HasFailed}
 use Rattle.standby_core.specs.Frames.{Carried}
 use Rattle.standby_core.specs.Lasting.{Lasts, AllLast, IsCounted, AllCounted, has_broken}
 use Rattle.standby_core.specs.Named.{first_named}
@@ -106,6 +106,14 @@ module _ {D : Type 0} {g : _} where
   lasts_set Disk header test journals place old new (here held others is) lasts (opened ∷ disks) all = (lasts opened all.0, all.1)
   lasts_set Disk header test journals place old new (further held one others after miss stands) lasts (opened ∷ disks) all =
       (all.0, lasts_set Disk header test others after one new stands lasts disks all.1)
+
+  -- and where their disks come from
+  pub origins_set : (origin : D → List (List ℕ)) (test : Held D g → Bool) (journals : List (Held D g)) (place : ℕ) (old new : Held D g)
+      → Stands test journals place old → held_origin origin new ≡ held_origin origin old
+      → map (held_origin origin) (slice_set journals place new) ≡ map (held_origin origin) journals
+  origins_set origin test journals place old new (here held others is) same = λ i. same i ∷ map (held_origin origin) others
+  origins_set origin test journals place old new (further held first others after miss stands) same =
+      λ i. held_origin origin held ∷ origins_set origin test others after first new stands same i
 
   -- the counts are kept
   pub counted_set : (faults : D → ℕ) (test : Held D g → Bool) (journals : List (Held D g)) (place : ℕ) (old new : Held D g) → Stands test journals place old

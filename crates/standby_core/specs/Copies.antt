@@ -70,6 +70,10 @@ FailsAlone copies copies' name =
 abbrev pub held_name : {D : Type 0} {g : _} → Held D g → List ℕ
 held_name held = string_bytes held.name
 
+-- where its disk comes from
+abbrev pub held_origin : {D : Type 0} {g : _} → (D → List (List ℕ)) → Held D g → List (List ℕ)
+held_origin origin held = origin (disk_of held.journal)
+
 -- the count of faults of the disk of a name
 abbrev pub faults_held : {D : Type 0} {g : _} → (D → ℕ) → Option (Held D g) → ℕ
 faults_held faults None = 0

@@ -5,6 +5,7 @@ ghost use Rattle.std.specs.Prelude.{None, position};
 ghost use Rattle.outside.specs.Faults.{Rose};
 ghost use Rattle.log_journal.specs.Journal.{disk_of, is_broken, count_of};
 ghost use Rattle.standby_core.specs.Copies.{copy_in, copy_after, copy_failed, held_name};
+ghost use Rattle.standby_core.specs.Copies.{held_origin};
 ghost use Rattle.standby_core.specs.Lasting.{Lasts, IsCounted};
 
 use log_journal::{AppendError, Journal};
@@ -102,6 +103,8 @@ impl<D: Disk> StandbyBook<D> {
             → AllLast D.Disk header disks self.new.journals.items }
         ensures names { map held_name self.new.journals.items
             ≡ map held_name self.old.journals.items }
+        ensures origins { map (held_origin D.origin) self.new.journals.items
+            ≡ map (held_origin D.origin) self.old.journals.items }
         ensures counted { (counts : List ℕ)
             → AllCounted D.faults counts self.old.journals.items
             → AllCounted D.faults counts self.new.journals.items }
@@ -133,6 +136,7 @@ impl<D: Disk> Held<D> {
         requires short { length text.now ≤ 4096 }
         ensures counted { self.new.count ≡ count_of self.new.journal }
         ensures name { self.new.name ≡ self.old.name }
+        ensures origin { held_origin D.origin self.new ≡ held_origin D.origin self.old }
         ensures taken { D.tells → OnOk result (copy_in D.reads self.new
             ≡ copy_after (copy_in D.reads self.old) (record {
               name = string_bytes self.old.name;

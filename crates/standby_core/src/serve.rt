@@ -2,7 +2,7 @@
 ghost use Rattle.std.specs.Prelude.{◌≡◌, ◌⊎◌, ◌≤◌, List, ℕ, map, IsTrue, Err, IfErr};
 ghost use Rattle.outside.specs.Faults.{Rose};
 ghost use Rattle.standby_core.specs.Books.{copies_in};
-ghost use Rattle.standby_core.specs.Copies.{held_name};
+ghost use Rattle.standby_core.specs.Copies.{held_name, held_origin};
 ghost use Rattle.standby_core.specs.Exchanges.{Serves, IsAnswered, Took, IsTaking};
 ghost use Rattle.standby_core.specs.Frames.{Carried, IsFrame};
 ghost use Rattle.standby_core.specs.Lasting.{AllLast, AllCounted, has_broken};
@@ -50,6 +50,8 @@ pub fn serve_standby<R: Wait, D: Disk, S: Source, K: Sink>(
         → AllLast D.Disk own disks book.new.journals.items }
     ensures names { map held_name book.new.journals.items
         ≡ map held_name book.old.journals.items }
+    ensures origins { map (held_origin D.origin) book.new.journals.items
+        ≡ map (held_origin D.origin) book.old.journals.items }
     ensures counted { (counts : List ℕ) → AllCounted D.faults counts book.old.journals.items
         → AllCounted D.faults counts book.new.journals.items }
     ensures broke { (result ≡ StandbyEnd.Take TakeError.DiskFault)
@@ -98,6 +100,8 @@ fn take_frame<D: Disk, K: Sink>(
         → AllLast D.Disk own disks book.new.journals.items }
     ensures names { map held_name book.new.journals.items
         ≡ map held_name book.old.journals.items }
+    ensures origins { map (held_origin D.origin) book.new.journals.items
+        ≡ map (held_origin D.origin) book.old.journals.items }
     ensures counted { (counts : List ℕ) → AllCounted D.faults counts book.old.journals.items
         → AllCounted D.faults counts book.new.journals.items }
     ensures broke { (result ≡ Err (StandbyEnd.Take TakeError.DiskFault))

@@ -1,5 +1,6 @@
 -- The journals of a standby that were opened, and those that were refused.
-use Rattle.std.specs.Prelude.{◌≡◌, ◌≢◌, ℕ, false, List, [], ◌∷◌, Option, Some, None, string_bytes}
+use Rattle.std.specs.Prelude.{◌≡◌, ◌≢◌, ℕ, false, List, [], ◌∷◌, map, Option, Some, None}
+use Rattle.std.specs.Prelude.{string_bytes}
 use Rattle.std.specs.List.{AllByRecursion, AllZip}
 use Rattle.outside.specs.Shelf.{IsTaken, SameBytes, NoNewImages, NoNewMoments}
 use Rattle.outside.specs.declared.disk.Disk.{Ghosts as DiskGhosts}
@@ -42,6 +43,17 @@ place_refusal (Refused journal disk why) = Some (Journal why)
 -- the name of a disk that goes back
 abbrev pub given_journal : {D : Type 0} → Given D → List ℕ
 given_journal given = string_bytes given.journal
+
+-- the disks of these come from where the shelf knows those under their names to come from
+abbrev pub AreOwn : {D : Type 0} → (D → List (List ℕ)) → (List ℕ → List (List ℕ)) → List (Given D)
+    → Type 0
+AreOwn origin known all = map origin (map (λ one. one.disk) all) ≡ map known (map given_journal all)
+
+-- so do those of these places
+abbrev pub PlacesOwn : {D : Type 0} {g : _} → (D → List (List ℕ)) → (List ℕ → List (List ℕ))
+    → List (Place D g) → Type 0
+PlacesOwn origin known places =
+    map origin (map place_disk places) ≡ map known (map place_journal places)
 
 -- the journals among places that were opened, in order
 abbrev pub journals_in : {D : Type 0} {g : _} → List (Place D g) → List (Held D g)

@@ -91,8 +91,14 @@ pub returns-clause-unheard : goal.returns-clause-unheard
 returns-clause-unheard g c links_told same =
     absurd (not_longer _ _ (sym (c.take_back_all.ensures.listened links_told ∙ c.in-Ok.ensures.listened links_told) ∙ same))
 
-pub returns-clause-mirror : goal.returns-clause-mirror
-returns-clause-mirror g c = c.take_back_all.ensures.mirror ∙ c.in-Ok.ensures.mirror
+pub returns-clause-dialling : goal.returns-clause-dialling
+returns-clause-dialling g c = c.take_back_all.ensures.dialling ∙ c.in-Ok.ensures.dialling
+
+pub returns-clause-exchanged : goal.returns-clause-exchanged
+returns-clause-exchanged g c links_told = c.take_back_all.ensures.exchanged links_told ∙ c.in-Ok.ensures.exchanged links_told
+
+pub returns-clause-exchange_faults : goal.returns-clause-exchange_faults
+returns-clause-exchange_faults g c = λ name. c.take_back_all.ensures.exchange_faults name ∙ c.in-Ok.ensures.exchange_faults name
 
 pub returns-clause-few_ended : goal.returns-clause-few_ended
 returns-clause-few_ended g c =

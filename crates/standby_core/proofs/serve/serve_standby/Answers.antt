@@ -12,6 +12,7 @@ loop-init g c = record {
   so_far = λ source disk sink. record { answers = []; took = none; written = sym (append-nil (g.K.Sink.written c.args.sink.now)) };
   lasts = λ disk own disks all. all;
   names = refl;
+  origins = refl;
   counted = λ counts all. all;
   read_later = omega arith;
   write_later = omega arith;
@@ -38,6 +39,7 @@ loop-preserved g c =
           (c.in-Ok.ensures.took disk sink);
       lasts = λ disk own disks all. taken.lasts disk own disks (before.lasts disk own disks all);
       names = taken.names ∙ before.names;
+      origins = taken.origins ∙ before.origins;
       counted = λ counts all. taken.counted counts (before.counted counts all);
       read_later = omega (arith, before.read_later, c.read_frame.ensures.later);
       write_later = omega (arith, before.write_later, taken.write_later);
@@ -123,6 +125,9 @@ returns-in-Err-clause-lasts g c disk own disks all = c.take_frame.ensures.lasts 
 
 pub returns-in-Err-clause-names : goal.returns-in-Err-clause-names
 returns-in-Err-clause-names g c = c.take_frame.ensures.names ∙ c.loop.invariant.names
+
+pub returns-in-Err-clause-origins : goal.returns-in-Err-clause-origins
+returns-in-Err-clause-origins g c = c.take_frame.ensures.origins ∙ c.loop.invariant.origins
 
 pub returns-in-Err-clause-counted : goal.returns-in-Err-clause-counted
 returns-in-Err-clause-counted g c counts all = c.take_frame.ensures.counted counts (c.loop.invariant.counted counts all)

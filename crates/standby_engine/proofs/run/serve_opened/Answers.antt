@@ -9,12 +9,13 @@ use Rattle.desk_crew.specs.Registered.{registered_journals}
 use Rattle.desk_crew.specs.Shelved.{journals_by}
 use Rattle.desk_crew.proofs.Lasting.{keeps_same, keeps_all}
 use Rattle.desk_crew.proofs.Giving.{AllReturned}
-use Rattle.standby_core.specs.Copies.{held_name, copy_in}
+use Rattle.standby_core.specs.Copies.{held_name, held_origin, copy_in}
 use Rattle.standby_core.specs.Lasting.{AllLast, AllCounted, has_broken}
 use Rattle.standby_core.specs.declared.book.Held.{Held}
-use Rattle.standby_engine.specs.Opened.{place_refusal, given_journal, journals_in}
+use Rattle.standby_engine.specs.Opened.{place_refusal, given_journal, journals_in, AreOwn}
 use Rattle.standby_engine.specs.Standing.{LeavesCopies, AreCopied, AreCopiesOf, EndsCopying, IsServed, IsBroken}
 use Rattle.standby_engine.specs.declared.opening.Given.{Given as Back}
+use Rattle.standby_engine.proofs.Owning.{own_both, own_apart, origins_of}
 use Rattle.standby_engine.proofs.Parting.{each_parted, names_many}
 use Rattle.standby_engine.proofs.Mirroring.{parted, held_disk, counts_of, places_many, first_lasts, first_counted}
 use Rattle.standby_engine.proofs.Mirroring.{first_sound, can_distinct, can_out}
@@ -148,6 +149,20 @@ give_back-requires-clause-out g c =
     c.put_together-all.result.0.items
     (c.put_together-all.ensures.names ∙ (λ i. map given_journal (c.take_apart-journals.ensures.others i) ++ c.take_apart-journals.ensures.names i))
     (g.F.Shelf.is_out c.open_journals.new.shelf) c.in-Ok-open_journals.ensures.out
+
+pub give_back-requires-clause-own : goal.give_back-requires-clause-own
+give_back-requires-clause-own g c =
+    let origin = g.F.D.Disk.origin in
+    let known = (g.F.Shelf.lent c.open_journals.new.shelf).origin in
+    let apart = own_apart origin known c.in-Ok-open_journals.places.items c.in-Ok-open_journals.ensures.own in
+    let closed = ap (λ (v : Vec (Held _ _) Global). map (held_origin origin) v.items) c.close-journals.ensures.same in
+    let began = ap (λ (v : Vec (Held _ _) Global). map (held_origin origin) v.items) c.new-book.ensures
+    ∙ ap (map (held_origin origin)) c.take_apart-journals.ensures.journals in
+    own_both origin known c.put_together-all.result.0.items c.take_apart-journals.result.2.items (map held_disk c.close-journals.result.items)
+    (map string_bytes c.take_apart-journals.result.1.items) c.put_together-all.ensures.disks c.put_together-all.ensures.names
+    (subst (AreOwn origin known) (sym c.take_apart-journals.ensures.others) apart.1)
+    (origins_of origin known c.close-journals.result.items ∙ closed ∙ c.serve_door-end.ensures.origins ∙ began ∙ apart.0
+    ∙ ap (map known) (sym c.take_apart-journals.ensures.names))
 
 -- ---- what is left
 

@@ -14,6 +14,7 @@ loop-init g c = record {
   left = λ told. refl;
   lasts = λ disk own disks all. all;
   names = refl;
+  origins = refl;
   counted = λ counts all. all;
   ends = refl;
   faults = omega arith;
@@ -69,6 +70,7 @@ loop-preserved g c =
       );
       lasts = λ disk own disks all. served.lasts disk own disks (before.lasts disk own disks all);
       names = served.names ∙ before.names;
+      origins = served.origins ∙ before.origins;
       counted = λ counts all. served.counted counts (before.counted counts all);
       ends = c.done.ensures.ends ∙ no_end ∙ before.ends;
       faults = omega (arith, before.faults, c.done.ensures.faults, c.next.ensures.cause.later);

@@ -7,7 +7,7 @@ use Rattle.outside.specs.Faults.{Rose}
 use Rattle.log_journal.specs.Journal.{disk_of, count_of}
 use Rattle.standby_core.specs.Copies.{copy_in, copy_at, copy_after, held_name, faults_held}
 use Rattle.standby_core.specs.Named.{first_named}
-use Rattle.standby_core.proofs.Booking.{copy_of, copies_set, copies_same, lasts_set, names_set, counted_set, broken_set, count_there, failed_there}
+use Rattle.standby_core.proofs.Booking.{copy_of, copies_set, copies_same, lasts_set, names_set, origins_set, counted_set, broken_set, count_there, failed_there}
 use Rattle.standby_core.proofs.Naming.{IsAt, Stands, found, not_found, still_named}
 use Rattle.standby_core.proofs.book.StandbyBook.take.Given.{Over}
 use Rattle.standby_core.proofs.book.StandbyBook.take.Goals as goal
@@ -102,6 +102,11 @@ pub returns-clause-names : goal.returns-clause-names
 returns-clause-names g c =
     names_set (λ held. bytes_eq (held_name held) c.args.name.now) c.args.self.now.journals.items c.in-Some.place c.index_mut-held.result.now c.take.new.self
     (stands_there g (goal.at.returns-clause-names g c).After-take) (ap string_bytes c.take.ensures.name)
+
+pub returns-clause-origins : goal.returns-clause-origins
+returns-clause-origins g c =
+    origins_set g.D.Disk.origin (λ held. bytes_eq (held_name held) c.args.name.now) c.args.self.now.journals.items c.in-Some.place
+    c.index_mut-held.result.now c.take.new.self (stands_there g (goal.at.returns-clause-origins g c).After-take) c.take.ensures.origin
 
 pub returns-clause-counted : goal.returns-clause-counted
 returns-clause-counted g c counts =
