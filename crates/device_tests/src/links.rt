@@ -205,13 +205,16 @@ fn dials_are_answered_by_plan(rt: HostRuntime) -> Result<(), Fail> {
     assert_eq!(rt; back.len(), 3);
     assert_eq!(rt; back.first().map(MemoryDial::name), Some("anna.journal"));
     assert_eq!(rt; back.first().map(MemoryDial::faults), Some(1));
-    assert_eq!(rt; frames_of(alloc, back.first())?.as_slice(), b"abcd");
+    assert_eq!(rt;
+        frames_of(alloc, back.first())?.as_slice(),
+        b"abcd".as_slice()
+    );
     assert_eq!(rt; back.get(1).map(MemoryDial::name), Some("bert.journal"));
     assert_eq!(rt; back.get(1).map(MemoryDial::faults), Some(1));
-    assert_eq!(rt; frames_of(alloc, back.get(1))?.as_slice(), b"");
+    assert_eq!(rt; frames_of(alloc, back.get(1))?.as_slice(), b"".as_slice());
     assert_eq!(rt; back.get(2).map(MemoryDial::name), Some("anna.journal"));
     assert_eq!(rt; back.get(2).map(MemoryDial::faults), Some(0));
-    assert_eq!(rt; frames_of(alloc, back.get(2))?.as_slice(), b"gh");
+    assert_eq!(rt; frames_of(alloc, back.get(2))?.as_slice(), b"gh".as_slice());
     Ok(())
 }
 

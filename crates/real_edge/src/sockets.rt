@@ -180,8 +180,8 @@ pub struct TcpLinks<'r, R> {
 }
 
 impl<'r, R> TcpLinks<'r, R> {
-    ghost use Rattle.real_edge.specs.Counts.{links_faults, links_out, links_dialling};
-    ghost use Rattle.real_edge.specs.Counts.{links_exchange_faults};
+    ghost use Rattle.real_edge.specs.Links.{links_faults, links_out, links_dialling};
+    ghost use Rattle.real_edge.specs.Links.{links_exchange_faults};
 
     /// Links that haven't failed and have opened no door.
     pub fn new(alloc: Global, runtime: &'r R) -> Self
@@ -236,8 +236,8 @@ where
     R::Listener: Send,
     R::Stream: Send,
 {
-    ghost use Rattle.real_edge.specs.Counts.{links_faults, links_out, links_dialling};
-    ghost use Rattle.real_edge.specs.Counts.{links_exchange_faults};
+    ghost use Rattle.real_edge.specs.Links.{links_faults, links_out, links_dialling};
+    ghost use Rattle.real_edge.specs.Links.{links_exchange_faults};
 
     type D = TcpDoor<'r, R, R::Listener>;
 
