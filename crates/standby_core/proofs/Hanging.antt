@@ -37,10 +37,10 @@ turned a b true is =
 turned a b false is = by (bytes_eq b a) refl
   where
     by : (t : Bool) → bytes_eq b a ≡ t → bytes_eq b a ≡ false
-    by false no = no
-    by true yes =
-        let same : b ≡ a = same_text b a (sym yes) in
-        let clash : true ≡ false = sym yes ∙ ap (λ x. bytes_eq x a) same ∙ ap (λ x. bytes_eq a x) (sym same) ∙ is in
+    by false differs = differs
+    by true alike =
+        let same : b ≡ a = same_text b a (sym alike) in
+        let clash : true ≡ false = sym alike ∙ ap (λ x. bytes_eq x a) same ∙ ap (λ x. bytes_eq a x) (sym same) ∙ is in
         absurd cc
 
 module _ {C : Type 0} {g : _} where
