@@ -29,6 +29,20 @@ pub all_weaker : {X : Type 0} (P Q : X → Type 0) → ((x : X) → P x → Q x)
 all_weaker P Q weaker [] all = tt
 all_weaker P Q weaker (x ∷ xs) all = (weaker x all.0, all_weaker P Q weaker xs all.1)
 
+-- texts are compared alike from both sides
+turned : (a b : List ℕ) (t : Bool) → bytes_eq a b ≡ t → bytes_eq b a ≡ t
+turned a b true is =
+    let same : a ≡ b = same_text a b (sym is) in
+    ap (λ x. bytes_eq b x) same ∙ ap (λ x. bytes_eq x b) (sym same) ∙ is
+turned a b false is = by (bytes_eq b a) refl
+  where
+    by : (t : Bool) → bytes_eq b a ≡ t → bytes_eq b a ≡ false
+    by false differs = differs
+    by true alike =
+        let same : b ≡ a = same_text b a (sym alike) in
+        let clash : true ≡ false = sym alike ∙ ap (λ x. bytes_eq x a) same ∙ ap (λ x. bytes_eq a x) (sym same) ∙ is in
+        absurd cc
+
 module _ {C : Type 0} {g : _} where
   -- ---- the last of several
 
@@ -74,19 +88,6 @@ module _ {C : Type 0} {g : _} where
         let here : faults_for slot_name at_slot name slot ≡ 0 = ap (λ b. if b then at_slot slot else 0) parts.0 in
         let rest = none_of slots name parts.1 in
         omega (arith, sums, here, rest)
-
-    turned : (a b : List ℕ) (t : Bool) → bytes_eq a b ≡ t → bytes_eq b a ≡ t
-    turned a b true is =
-        let same : a ≡ b = same_text a b (sym is) in
-        ap (λ x. bytes_eq b x) same ∙ ap (λ x. bytes_eq x b) (sym same) ∙ is
-    turned a b false is = by (bytes_eq b a) refl
-      where
-        by : (t : Bool) → bytes_eq b a ≡ t → bytes_eq b a ≡ false
-        by false no = no
-        by true yes =
-            let same : b ≡ a = same_text b a (sym yes) in
-            let clash : true ≡ false = sym yes ∙ ap (λ x. bytes_eq x a) same ∙ ap (λ x. bytes_eq a x) (sym same) ∙ is in
-            absurd cc
 
     -- where the names differ, each has the faults of one dial
     pub faults_once : (slots : List (Slot C g)) → has_duplicate (map slot_name slots) ≡ false → (name : List ℕ)

@@ -69,6 +69,7 @@ module _ {C : Type 0} {g : _} where
           → is_away (Some slot.place) ≡ false
       first true is there = there
       first false is there = absurd cc
+
       later : (name : List ℕ) (b : Bool) → bytes_eq (slot_name slot) name ≡ b → contains_text (map slot_name slots) (slot_name slot) ≡ false
           → is_away (option_map (λ (s : Slot C g). s.place) (if b then Some slot else first_named slot_name slots name)) ≡ false
           → is_away (place_at slots name) ≡ false

@@ -87,9 +87,7 @@ impl<F: Shelf, C: Dial + Drop> Shelf for MirroredShelf<'_, F, C> {
 
     fn give_disk(&mut self, name: &str, taken: MirroredDisk<F::D, C>) {
         let (inner, mirror) = taken.split();
-        let Some(mirror) = mirror else {
-            unreachable!()
-        };
+        let Some(mirror) = mirror else { unreachable!() };
         self.mirrors.put_back(name, mirror);
         self.shelf.give_disk(name, inner);
     }

@@ -1,6 +1,7 @@
 use Rattle.std.proofs.Common.{◌≡◌, ◌+◌, ◌++◌, [], Some, refl, sym, ap, ◌∙◌, arith, append-nil}
 use Rattle.standby_core.specs.Places.{mirror_in, faults_in, there_in, exchanged_in}
 use Rattle.standby_core.proofs.Hanging.{dial_named, hung_faults, hung_others}
+use Rattle.standby_core.proofs.Keeping.{keeps_all}
 use Rattle.standby_core.proofs.dialling.hang_up.Goals as goal
 
 -- ---- the mirror wasn't taken
@@ -40,10 +41,23 @@ returns-in-New-clause-exchanged g c links_told =
     ∙ ap (λ l. g.L.Links.exchanged c.args.links.now ++ l)
     (ap g.L.Dial.Dial.exchanged c.into_dial.ensures ∙ sym (ap (exchanged_in g.L.Dial.Dial.exchanged) c.in-New.is))
 
+pub returns-in-New-clause-doors : goal.returns-in-New-clause-doors
+returns-in-New-clause-doors g c =
+    record {
+      faults = c.hang_up.ensures.faults;
+      out = c.hang_up.ensures.out;
+      ended = c.hang_up.ensures.ended;
+      given = c.hang_up.ensures.given;
+      left = c.hang_up.ensures.left;
+      at_hand = c.hang_up.ensures.at_hand;
+      back = c.hang_up.ensures.back;
+      listened = c.hang_up.ensures.listened;
+    }
+
 -- ---- it is back
 
-pub hang_up-in-Back-requires : goal.hang_up-in-Back-requires
-hang_up-in-Back-requires g c =
+pub hang_up-requires-in-Back : goal.hang_up-requires-in-Back
+hang_up-requires-in-Back g c =
     let there = c.requires in
     let one = ap there_in c.in-Back.is in
     omega (arith, there, one)
@@ -77,6 +91,19 @@ returns-in-Back-clause-exchanged g c links_told =
     ∙ ap (λ l. g.L.Links.exchanged c.args.links.now ++ l)
     (ap g.L.Dial.Dial.exchanged c.into_dial-in-Back.ensures ∙ sym (ap (exchanged_in g.L.Dial.Dial.exchanged) c.in-Back.is))
 
+pub returns-in-Back-clause-doors : goal.returns-in-Back-clause-doors
+returns-in-Back-clause-doors g c =
+    record {
+      faults = c.hang_up-in-Back.ensures.faults;
+      out = c.hang_up-in-Back.ensures.out;
+      ended = c.hang_up-in-Back.ensures.ended;
+      given = c.hang_up-in-Back.ensures.given;
+      left = c.hang_up-in-Back.ensures.left;
+      at_hand = c.hang_up-in-Back.ensures.at_hand;
+      back = c.hang_up-in-Back.ensures.back;
+      listened = c.hang_up-in-Back.ensures.listened;
+    }
+
 -- ---- it is out
 
 pub returns-clause-exchanged : goal.returns-clause-exchanged
@@ -92,3 +119,6 @@ returns-clause-exchange_faults g c = let none = ap (λ p. faults_in g.L.Dial.Dia
 
 pub returns-clause-other_faults : goal.returns-clause-other_faults
 returns-clause-other_faults g c = λ name other. refl
+
+pub returns-clause-doors : goal.returns-clause-doors
+returns-clause-doors g c = keeps_all g.L.Links c.args.links.now

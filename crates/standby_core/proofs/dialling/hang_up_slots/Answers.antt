@@ -19,8 +19,8 @@ loop-slot-init g c = record {
   doors = keeps_all g.L.Links c.args.links.now;
 }
 
-pub hang_up-requires : goal.hang_up-requires
-hang_up-requires g c =
+pub hang_up-requires-after_bounds : goal.hang_up-requires-after_bounds
+hang_up-requires-after_bounds g c κs within =
     let split = c.pop.ensures.items ∙ ap (λ o. c.pop.new.self.items ++ option_to_list o) c.in-Some.is in
     let last = there_last c.pop.new.self.items c.in-Some.slot c.loop-slot.slots.items split in
     let so_far = c.loop-slot.invariant.dialling in

@@ -58,8 +58,8 @@ loop-user-preserved g c =
 
 -- ---- memory was wanting, and those so far are hung up
 
-pub hang_up_slots-requires : goal.hang_up_slots-requires
-hang_up_slots-requires g c =
+pub hang_up_slots-requires-after_bounds : goal.hang_up_slots-requires-after_bounds
+hang_up_slots-requires-after_bounds g c κs within =
     let before = c.loop-user.invariant in
     let there = all_there g.L.Links.tells g.L.Dial.Dial.faults g.L.Dial.Dial.exchanged c.loop-user.slots.items before.unused in
     let len = c.loop-user.slots.ok.0 in
