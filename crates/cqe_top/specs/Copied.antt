@@ -1,7 +1,7 @@
 -- The commands `batch` and `serve` with a standby, which copies their journals. What is promised of
 -- them is what is promised without one, where exchanges with the standby that failed are counted
--- with the faults of the users' disks, each with those of the disk whose name its dial has. And the
--- standby is called alone, and told of the users' records alone.
+-- with the faults of the users' disks, each with those of the disk whose name its dial has. And each
+-- exchange calls the standby, and gives it the frame of some record of a user of the policy.
 use Rattle.std.specs.Prelude.{◌≡◌, ◌⊎◌, ℕ, ◌+◌, ◌-◌, ◌++◌, Bool, true, false, List, Option, Some}
 use Rattle.std.specs.List.{AllByRecursion, slice_get}
 use Rattle.outside.specs.Dials.{Exchange}
@@ -49,8 +49,8 @@ counted_with s reading = counted_by s (has_standby reading)
 
 -- ---- whom the dials call, and what they tell
 
--- An exchange with the standby at this address told it of a record of a user of this policy, with
--- this header. His name stands in the frame if it has room for it.
+-- An exchange with the standby at this address told it of some record of a user of this policy,
+-- with this header. His name stands in the frame if it has room for it.
 abbrev pub IsExchangeFor : Text → PolicyValue → List ℕ → Exchange → Type 0
 IsExchangeFor standby policy header one =
     (own : Header) × (header_bytes own ≡ header) × (place : ℕ) × (user : PolicyUser)

@@ -8,7 +8,8 @@
 //! admissible and the history sound, and so it hides soundly, whoever wrote it (`soundness`). What
 //! is written of a legal history is accepted (`law_dossiers_are_accepted`). Each block that is
 //! written is that of the machine's end on the probe's clauses, so a user with these records has
-//! one dossier (`law_dossiers_are_one`). `fields` parts a text into its lines and first words.
+//! at most one dossier (`law_dossiers_are_one`). `fields` parts a text into its lines and their
+//! first words.
 //!
 //! Read `specs/Fields.antt`, `specs/Words.antt`, `specs/Checked.antt` and `specs/Written.antt`,
 //! then `cut`, `words` and `listed`; `past` is what was read so far, `blocks`, `items` and

@@ -69,8 +69,8 @@ pub(crate) fn push_block(
     }
 }
 
-/// Appends the lines of a refutation as a block. No number of one that a search found is too great
-/// to be read; if one were, this would be an end for want of memory.
+/// Appends the lines of a refutation as a block. That no number of one that a search found is too
+/// great to be read is seen by reading; if one were, this would be an end for want of memory.
 fn push_follows(text: &mut String, refutation: &Refutation) -> Result<(), AllocError>
     ensures { OnOk result ((list_all is_small_line (lines_of refutation.now) ≡ true)
         × (string_bytes text.new

@@ -15,7 +15,7 @@ telling_of address header one answer = record {
   answer = answer;
 }
 
--- an exchange told the standby at this address of a record of the user of this name
+-- an exchange told the standby at this address of some record of the user of this name
 pub record IsExchangeOf (address : List ℕ) (header : Header) (name : List ℕ) (one : Exchange) :
     Type 0 where
   pub called : one.address ≡ address
@@ -31,8 +31,8 @@ pub record IsExchangeOf (address : List ℕ) (header : Header) (name : List ℕ)
   pub kind_to : kind ≤ 5
   pub short : length text ≤ 4096
 
--- an exchange of a dial whose mirror says so where its disk comes from: it called its address, and
--- told of a record of its user, with its header
+-- an exchange of the dial of a mirror with these texts: it called that address, and told of some
+-- record of that user, with that header
 abbrev pub IsCallBy : List (List ℕ) → Exchange → Type 0
 IsCallBy texts one = IsExchangeOf (get_or texts 1 []) (record {
   policy = get_or texts 3 [];

@@ -5,9 +5,10 @@ ghost use Rattle.outside.specs.Faults.{HasCause};
 use crate::Mirror;
 use outside::{Dial, Disk, Failed};
 
-/// A disk with a mirror, whose records are told once the standby has them: each call but `tell` is
-/// that of the disk under it. Its faults are those of the disk and those of the dial. One without a
-/// mirror is as the disk under it; a `MirroredShelf` gives none.
+/// A disk with a mirror: the mark of a record may be told once its dial was answered a count above
+/// the record's number. Each call but `tell` is that of the disk under it. Its faults are those of
+/// the disk and those of the dial. One without a mirror is as the disk under it; a `MirroredShelf`
+/// gives none.
 #[derive(Drop)]
 pub struct MirroredDisk<D, C: Dial> {
     inner: D,
