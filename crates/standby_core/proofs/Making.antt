@@ -1,9 +1,9 @@
 -- Mirrors that are made, one for each user.
-use Rattle.std.proofs.Common.{◌≡◌, ℕ, suc, ◌+◌, ◌<◌, ◌||◌, Bool, true, false, Option, Some, None}
+use Rattle.std.proofs.Common.{◌≡◌, ℕ, ◌+◌, ◌<◌, ◌||◌, Bool, true, false, Some}
 use Rattle.std.proofs.Common.{List, [], ◌∷◌, ◌++◌, length, take, map, get_or, refl, sym, ap, ◌∙◌}
 use Rattle.std.proofs.Common.{arith, option_map}
 use Rattle.std.specs.Prelude.{bytes_eq, string_bytes, if◌then◌else◌}
-use Rattle.std.specs.List.{AllByRecursion, sum_by}
+use Rattle.std.specs.List.{AllByRecursion}
 use Rattle.std.proofs.lemmas.List.{take_more, map-append}
 use Rattle.std.proofs.lemmas.List.Sums.{sum_by-cons}
 use Rattle.cqe_base.specs.Schema.{contains_text, has_duplicate}
@@ -12,7 +12,7 @@ use Rattle.log_journal.specs.Names.{journal_name, JournalsDiffer}
 use Rattle.outside.specs.Dials.{Exchange, faults_for}
 use Rattle.standby_core.specs.declared.slot.Slot.{Slot}
 use Rattle.standby_core.specs.Named.{first_named}
-use Rattle.standby_core.specs.Places.{faults_in, there_in, exchanged_in, IsUnused}
+use Rattle.standby_core.specs.Places.{faults_in, there_in}
 use Rattle.standby_core.specs.Slots.{slot_name, place_at, faults_of, there_among, exchanged_among, AreUnused}
 
 -- one more of which something holds

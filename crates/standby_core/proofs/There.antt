@@ -1,7 +1,6 @@
 -- Mirrors that are there, and not out.
-use Rattle.std.proofs.Common.{◌≡◌, ◌≤◌, ℕ, ◌+◌, ◌||◌, Bool, true, false, Option, Some, None, List, [], ◌∷◌, length, map, refl, sym, ap, ◌∙◌, arith, option_map}
+use Rattle.std.proofs.Common.{◌≡◌, ◌≤◌, ℕ, ◌+◌, Bool, true, false, Some, List, [], ◌∷◌, length, map, refl, sym, ap, ◌∙◌, arith, option_map}
 use Rattle.std.specs.Prelude.{bytes_eq, if◌then◌else◌}
-use Rattle.std.specs.List.{sum_by}
 use Rattle.std.specs.Cmp.Lexicographic.{same_text}
 use Rattle.std.proofs.lemmas.Bool.{or_parts}
 use Rattle.std.proofs.lemmas.List.{length-map}
@@ -31,11 +30,13 @@ module _ {C : Type 0} {g : _} where
   pub unused_there : (told : Type 0) (faults : C → ℕ) (exchanged : C → List Exchange) (slots : List (Slot C g)) → AreUnused told faults exchanged slots
       → (name : List ℕ) → is_away (place_at slots name) ≡ false
   unused_there told faults exchanged [] all name = refl
-  unused_there told faults exchanged (slot ∷ slots) all name = by (bytes_eq (slot_name slot) name)
+  unused_there told faults exchanged (slot ∷ slots) all name =
+      by (bytes_eq (slot_name slot) name) (unused_there told faults exchanged slots all.1 name)
     where
-      by : (b : Bool) → is_away (option_map (λ (s : Slot C g). s.place) (if b then Some slot else first_named slot_name slots name)) ≡ false
-      by true = not_away slot.place all.0.there
-      by false = unused_there told faults exchanged slots all.1 name
+      by : (b : Bool) → is_away (place_at slots name) ≡ false
+          → is_away (option_map (λ (s : Slot C g). s.place) (if b then Some slot else first_named slot_name slots name)) ≡ false
+      by true rest = not_away slot.place all.0.there
+      by false rest = rest
 
   -- nothing stands under a name that none of them has
   none_at : (slots : List (Slot C g)) (name : List ℕ) → contains_text (map slot_name slots) name ≡ false → is_away (place_at slots name) ≡ false

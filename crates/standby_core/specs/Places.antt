@@ -1,13 +1,12 @@
 -- What stands under the name of a disk: its mirror, or that it is out.
-use Rattle.std.specs.Prelude.{◌≡◌, ℕ, ◌≤◌, Bool, true, false, List, [], length, Option, Some}
+use Rattle.std.specs.Prelude.{◌≡◌, ℕ, Bool, true, false, List, [], Option, Some}
 use Rattle.std.specs.Prelude.{None}
 use Rattle.outside.specs.Dials.{Exchange}
-use Rattle.log_journal.specs.declared.header.Header.{Header}
 use Rattle.standby_core.specs.declared.mirror.Mirror.{Mirror}
 use Rattle.standby_core.specs.declared.slot.Place.{Place}
 use Rattle.standby_core.specs.declared.slot.Place.TheVariants.{New, Out, Back}
 use Rattle.standby_core.specs.MirroredDisks.{faults_by}
-use Rattle.standby_core.specs.Mirrors.{dial_of, header_of, user_of, texts_of}
+use Rattle.standby_core.specs.Mirrors.{dial_of, texts_of}
 
 -- the mirror that is there
 abbrev pub mirror_in : {C : Type 0} {g : _} → Option (Place C g) → Option (Mirror C g)

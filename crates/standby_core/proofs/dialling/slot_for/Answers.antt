@@ -1,7 +1,5 @@
-use Rattle.std.proofs.Common.{◌≡◌, ◌≤◌, ◌∷◌, [], List, length, refl, sym, ap, subst, ◌∙◌}
-use Rattle.std.specs.Prelude.{string_bytes}
+use Rattle.std.proofs.Common.{◌∷◌, [], refl, sym, ap, ◌∙◌}
 use Rattle.log_journal.specs.Names.{journal_name}
-use Rattle.standby_core.specs.Doors.{KeepsDoors, KeepsCalls}
 use Rattle.standby_core.specs.Mirrors.{dial_of, texts_of}
 use Rattle.standby_core.specs.Users.{frame_user}
 use Rattle.standby_core.specs.declared.mirror.Mirror.{Mirror}

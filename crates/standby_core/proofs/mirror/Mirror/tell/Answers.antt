@@ -1,5 +1,4 @@
 use Rattle.std.proofs.Common.{◌≡◌, refl, sym, ap, ◌∙◌}
-use Rattle.outside.specs.Dials.{Exchange}
 use Rattle.standby_core.specs.Frames.{Carried, frame_bytes}
 use Rattle.standby_core.specs.Mirrors.{dial_of, header_of, user_of}
 use Rattle.standby_core.proofs.Calling.{calls_next, calls_maybe}
