@@ -11,11 +11,11 @@ use Rattle.standby_engine.specs.declared.opening.Given.{Given as Back}
 use Rattle.standby_engine.specs.declared.opening.Place.{Place}
 use Rattle.standby_engine.specs.declared.opening.Place.TheVariants.{Opened, Refused}
 
-first_of : List (List (List ℕ)) → List (List ℕ)
+abbrev first_of : List (List (List ℕ)) → List (List ℕ)
 first_of [] = []
 first_of (x ∷ xs) = x
 
-others_of : List (List (List ℕ)) → List (List (List ℕ))
+abbrev others_of : List (List (List ℕ)) → List (List (List ℕ))
 others_of [] = []
 others_of (x ∷ xs) = xs
 
