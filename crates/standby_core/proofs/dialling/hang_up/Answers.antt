@@ -1,4 +1,4 @@
-use Rattle.std.proofs.Common.{◌+◌, ◌++◌, Some, refl, sym, ap, ◌∙◌, arith, append-nil}
+use Rattle.std.proofs.Common.{◌++◌, Some, refl, sym, ap, ◌∙◌, arith, append-nil}
 use Rattle.standby_core.specs.Places.{mirror_in, faults_in, there_in, exchanged_in}
 use Rattle.standby_core.proofs.Hanging.{dial_named, hung_faults, hung_others}
 use Rattle.standby_core.proofs.Keeping.{keeps_all}
