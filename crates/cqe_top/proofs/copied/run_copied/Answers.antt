@@ -41,8 +41,8 @@ copied_serve-end-requires-clause-names g c κs within =
     ap has_duplicate (ap (λ users. map (λ user. user.name) (map named_user users)) c.as_slice.ensures.value ∙ batch_names_are c.in-Ok.inputs.policy.users.items)
     ∙ c.in-Ok.ensures.names
 
-pub mirrors_for-requires : goal.mirrors_for-requires
-mirrors_for-requires g c κs within =
+pub mirrors_for-requires-after_bounds : goal.mirrors_for-requires-after_bounds
+mirrors_for-requires-after_bounds g c κs within =
     ap has_duplicate (ap (λ users. map (λ user. string_bytes user.name) users) c.as_slice.ensures.value) ∙ c.in-Ok.ensures.names
 
 pub copied_batch-end-requires-clause-there : goal.copied_batch-end-requires-clause-there
@@ -53,14 +53,14 @@ pub copied_serve-end-requires-clause-there : goal.copied_serve-end-requires-clau
 copied_serve-end-requires-clause-there g c κs within =
     unused_there g.L.Links.tells g.L.Dial.Dial.faults g.L.Dial.Dial.exchanged (slots_of c.in-Ok-mirrors_for.mirrors) c.in-Ok-mirrors_for.ensures.unused
 
-pub hang_up_all-requires : goal.hang_up_all-requires
-hang_up_all-requires g c =
+pub hang_up_all-requires-after_bounds : goal.hang_up_all-requires-after_bounds
+hang_up_all-requires-after_bounds g c κs within =
     all_dialling _ _ (slots_of c.in-Ok-mirrors_for.mirrors) (slots_of c.copied_batch-end.new.mirrors) c.copied_batch-end.ensures.made
     (g.L.Links.dialling c.args.links.now) (g.L.Links.dialling c.mirrors_for.new.links) c.in-Ok-mirrors_for.ensures.dialling
     c.copied_batch-end.ensures.all_there
 
-pub hang_up_all-in-Serve-requires : goal.hang_up_all-in-Serve-requires
-hang_up_all-in-Serve-requires g c =
+pub hang_up_all-in-Serve-requires-after_bounds : goal.hang_up_all-in-Serve-requires-after_bounds
+hang_up_all-in-Serve-requires-after_bounds g c κs within =
     all_dialling _ _ (slots_of c.in-Ok-mirrors_for.mirrors) (slots_of c.copied_serve-end.new.mirrors) c.copied_serve-end.ensures.made
     (g.L.Links.dialling c.args.links.now) (g.L.Links.dialling c.copied_serve-end.new.links)
     (c.copied_serve-end.ensures.dialling ∙ c.in-Ok-mirrors_for.ensures.dialling) c.copied_serve-end.ensures.all_there
