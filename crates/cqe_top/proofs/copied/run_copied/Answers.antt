@@ -41,8 +41,8 @@ copied_serve-end-requires-clause-names g c κs within =
     ap has_duplicate (ap (λ users. map (λ user. user.name) (map named_user users)) c.as_slice.ensures.value ∙ batch_names_are c.in-Ok.inputs.policy.users.items)
     ∙ c.in-Ok.ensures.names
 
-pub mirrors_for-requires : goal.mirrors_for-requires
-mirrors_for-requires g c κs within =
+pub mirrors_for-requires-after_bounds : goal.mirrors_for-requires-after_bounds
+mirrors_for-requires-after_bounds g c κs within =
     ap has_duplicate (ap (λ users. map (λ user. string_bytes user.name) users) c.as_slice.ensures.value) ∙ c.in-Ok.ensures.names
 
 pub copied_batch-end-requires-clause-there : goal.copied_batch-end-requires-clause-there
@@ -53,16 +53,16 @@ pub copied_serve-end-requires-clause-there : goal.copied_serve-end-requires-clau
 copied_serve-end-requires-clause-there g c κs within =
     unused_there g.L.Links.tells g.L.Dial.Dial.faults g.L.Dial.Dial.exchanged (slots_of c.in-Ok-mirrors_for.mirrors) c.in-Ok-mirrors_for.ensures.unused
 
-pub hang_up_all-requires : goal.hang_up_all-requires
-hang_up_all-requires g c =
-    all_dialling _ _ (slots_of c.in-Ok-mirrors_for.mirrors) (slots_of c.copied_batch-end.new.mirrors) c.copied_batch-end.ensures.made
-    (g.L.Links.dialling c.args.links.now) (g.L.Links.dialling c.mirrors_for.new.links) c.in-Ok-mirrors_for.ensures.dialling
+pub hang_up_all-requires-after_bounds : goal.hang_up_all-requires-after_bounds
+hang_up_all-requires-after_bounds g c κs within =
+    all_dialling g.L.Dial.Dial.name g.L.Dial.Dial.address (slots_of c.in-Ok-mirrors_for.mirrors) (slots_of c.copied_batch-end.new.mirrors)
+    c.copied_batch-end.ensures.made (g.L.Links.dialling c.args.links.now) (g.L.Links.dialling c.mirrors_for.new.links) c.in-Ok-mirrors_for.ensures.dialling
     c.copied_batch-end.ensures.all_there
 
-pub hang_up_all-in-Serve-requires : goal.hang_up_all-in-Serve-requires
-hang_up_all-in-Serve-requires g c =
-    all_dialling _ _ (slots_of c.in-Ok-mirrors_for.mirrors) (slots_of c.copied_serve-end.new.mirrors) c.copied_serve-end.ensures.made
-    (g.L.Links.dialling c.args.links.now) (g.L.Links.dialling c.copied_serve-end.new.links)
+pub hang_up_all-requires-in-Serve-after_bounds : goal.hang_up_all-requires-in-Serve-after_bounds
+hang_up_all-requires-in-Serve-after_bounds g c κs within =
+    all_dialling g.L.Dial.Dial.name g.L.Dial.Dial.address (slots_of c.in-Ok-mirrors_for.mirrors) (slots_of c.copied_serve-end.new.mirrors)
+    c.copied_serve-end.ensures.made (g.L.Links.dialling c.args.links.now) (g.L.Links.dialling c.copied_serve-end.new.links)
     (c.copied_serve-end.ensures.dialling ∙ c.in-Ok-mirrors_for.ensures.dialling) c.copied_serve-end.ensures.all_there
 
 -- ---- files that weren't read
@@ -235,8 +235,8 @@ returns-in-Batch g c = record {
         held = ran.held;
         left = ran.left;
         doors = hung.doors.out ∙ made.doors.out;
-        dials = all_hung_up _ _ (slots_of c.in-Ok-mirrors_for.mirrors) (slots_of c.copied_batch-end.new.mirrors) ran.made
-            (g.L.Links.dialling c.args.links.now) (g.L.Links.dialling c.mirrors_for.new.links) (g.L.Links.dialling c.hang_up_all.new.links)
+        dials = all_hung_up g.L.Dial.Dial.name g.L.Dial.Dial.address (slots_of c.in-Ok-mirrors_for.mirrors) (slots_of c.copied_batch-end.new.mirrors)
+            ran.made (g.L.Links.dialling c.args.links.now) (g.L.Links.dialling c.mirrors_for.new.links) (g.L.Links.dialling c.hang_up_all.new.links)
             c.in-Ok-mirrors_for.ensures.dialling ran.all_there hung.dialling;
         input_faults = ran.source_later;
         output_faults = ran.sink_later;
@@ -363,8 +363,8 @@ returns g c = record {
         held = refl;
         left = λ told bytes rest. rest;
         doors = hung.doors.out ∙ ran.out ∙ made.doors.out;
-        dials = all_hung_up _ _ (slots_of c.in-Ok-mirrors_for.mirrors) (slots_of c.copied_serve-end.new.mirrors) ran.made
-            (g.L.Links.dialling c.args.links.now) (g.L.Links.dialling links) (g.L.Links.dialling c.hang_up_all-in-Serve.new.links)
+        dials = all_hung_up g.L.Dial.Dial.name g.L.Dial.Dial.address (slots_of c.in-Ok-mirrors_for.mirrors) (slots_of c.copied_serve-end.new.mirrors)
+            ran.made (g.L.Links.dialling c.args.links.now) (g.L.Links.dialling links) (g.L.Links.dialling c.hang_up_all-in-Serve.new.links)
             (ran.dialling ∙ c.in-Ok-mirrors_for.ensures.dialling) ran.all_there hung.dialling;
         input_faults = omega arith;
         output_faults = omega arith;
