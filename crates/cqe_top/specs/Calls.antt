@@ -171,8 +171,8 @@ module _ {F D S K E L Door Dial In Out : Type 0} (Shelf : ShelfGhosts F D) (Disk
     (Links : LinksGhosts L Door Dial In Out) (files : FileNames) (policy : PolicyValue)
     (world : FactSet) (header : List ℕ) where
   -- A call of `batch` or `serve`, with a standby or without, of `audit` or of `dossier` over these
-  -- files, which say this policy, these facts and this header: its words and its status, its objects
-  -- before it and behind it, and what `top` promised.
+  -- files, which say this policy, these facts and this header: its words and its status, its
+  -- objects before it and behind it, and what `top` promised.
   pub record Promised : Type 0 where
     pub words : List Text
     pub status : ℕ
