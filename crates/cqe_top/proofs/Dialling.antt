@@ -88,8 +88,7 @@ module _ (header : Header) (standby directory : Text) (policy : PolicyValue) (us
   -- a call by the dial of one of these users tells of his records
   call_for : (one : Exchange) → IsCallAmong (map (texts_for header standby directory) users) one → IsExchangeFor standby policy (header_bytes header) one
   call_for one (place, texts, at, is) =
-      let found = found_from (texts_for header standby directory) users place texts at in
-      (
+      let found = found_from (texts_for header standby directory) users place texts at in (
         header,
         refl,
         place,

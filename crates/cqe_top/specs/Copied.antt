@@ -1,7 +1,7 @@
 -- The commands `batch` and `serve` with a standby, which copies their journals. What is promised of
 -- them is what is promised without one, where exchanges with the standby that failed are counted
--- with the faults of the users' disks, each with those of the disk whose name its dial has. And each
--- exchange calls the standby, and gives it the frame of some record of a user of the policy.
+-- with the faults of the users' disks, each with those of the disk whose name its dial has. And
+-- each exchange calls the standby, and gives it the frame of some record of a user of the policy.
 use Rattle.std.specs.Prelude.{◌≡◌, ◌⊎◌, ℕ, ◌+◌, ◌-◌, ◌++◌, Bool, true, false, List, Option, Some}
 use Rattle.std.specs.List.{AllByRecursion, slice_get}
 use Rattle.outside.specs.Dials.{Exchange}
