@@ -98,9 +98,10 @@ pub trait Disk {
         ensures origin { origin self.new ≡ origin self.old }
         ensures cause { HasCause (faults self.old) (faults self.new) result };
 
-    /// Sees to it that the mark of a record may be told, which lies on the disk: its number from 0,
-    /// its kind and its text. A disk that is copied elsewhere answers once the copy has it. The
-    /// disk stays as it is.
+    /// Sees to it that the mark of the record of this number, from 0, may be told. The caller gives
+    /// its kind and its text, and no clause says that they are those of the record that lies there.
+    /// A disk that is copied elsewhere answers Ok once it was answered a count above the number.
+    /// The disk stays as it is.
     fn tell(&mut self, number: u64, kind: u8, text: &[u8]) -> Result<(), Failed>
         requires low { 1 ≤ kind }
         requires high { kind ≤ 5 }

@@ -8,8 +8,8 @@
 //! user, and each answer is the count of the records that the standby has then. What that is worth
 //! whatever becomes of the frames on their way stands in `replica`.
 //!
-//! Read `specs/Frames.antt`, `specs/Calls.antt` and `specs/Copies.antt` first, then `frame`, `mirror`, `mirrored_disk`,
-//! `slot`, `mirrors`, `dialling`, `shelf`, `book` and `serve`.
+//! Read `specs/Frames.antt`, `specs/Calls.antt` and `specs/Copies.antt` first, then `frame`,
+//! `mirror`, `mirrored_disk`, `slot`, `mirrors`, `dialling`, `shelf`, `book` and `serve`.
 #![tactic(auto)]
 
 mod book;
