@@ -27,7 +27,7 @@ use Rattle.desk_counter.specs.declared.item.Fixed.{Fixed}
 use Rattle.std.specs.Prelude.{string_bytes}
 use Rattle.cqe_base.specs.declared.user.User.{User}
 use Rattle.desk_crew.specs.Crew.{seat_user, seat_name, seat_journal, seat_disk, IsSeatAsOpened, IsSeatServed, AreReopened, Tells, nobody, here, further}
-use Rattle.desk_crew.specs.Shelved.{journals, AreLater}
+use Rattle.desk_crew.specs.Shelved.{journals, AreLater, AreOwn}
 use Rattle.batch_engine.specs.Steps.{restart_bytes, MaybeReopened, Carries, Runs, nothing, more, RunsAll, RunsSome, RunsTo}
 use Rattle.desk_crew.proofs.Asking.{still_served}
 use Rattle.desk_crew.specs.Seats.{DeskSeat}
@@ -66,16 +66,17 @@ module _ (schema : DatabaseSchema) (world : FactSet) (header : List ℕ) {D : Ty
   abbrev pub Limits : List (DeskSeat D g h) → Type 0
   Limits seats = AllByRecursion (λ (s : DeskSeat D g h). KeepsLimits schema (profile_of (seat_user s))) seats
 
-  -- what stays of the seats: their journals, and with their users their limits; and their counts didn't fall
+  -- what stays of the seats: their journals, and with their users their limits; their counts didn't fall, and their disks are those of their names
   pub record Stay (old new : List (DeskSeat D g h)) : Type 0 where
     pub names : journals new ≡ journals old
     pub users : map seat_name new ≡ map seat_name old
     pub limits : Limits old → Limits new
     pub served : AllByRecursion (IsSeatServed schema world header) old → AllByRecursion (IsSeatServed schema world header) new
     pub later : (count : Text → ℕ) → AreLater Disk.faults count old → AreLater Disk.faults count new
+    pub own : (known : Text → List (List ℕ)) → AreOwn Disk.origin known old → AreOwn Disk.origin known new
 
   stay : (seats : List (DeskSeat D g h)) → Stay seats seats
-  stay seats = record { names = refl; users = refl; limits = λ l. l; served = λ s. s; later = λ count l. l }
+  stay seats = record { names = refl; users = refl; limits = λ l. l; served = λ s. s; later = λ count l. l; own = λ known o. o }
 
   stay_on : (a b c : List (DeskSeat D g h)) → Stay a b → Stay b c → Stay a c
   stay_on a b c first second = record {
@@ -84,6 +85,7 @@ module _ (schema : DatabaseSchema) (world : FactSet) (header : List ℕ) {D : Ty
     limits = λ l. second.limits (first.limits l);
     served = λ s. second.served (first.served s);
     later = λ count l. second.later count (first.later count l);
+    own = λ known o. second.own known (first.own known o);
   }
 
   later_at : (count : Text → ℕ) (old new : DeskSeat D g h) → seat_journal new ≡ seat_journal old → Disk.faults (seat_disk old) ≤ Disk.faults (seat_disk new)
@@ -109,6 +111,7 @@ module _ (schema : DatabaseSchema) (world : FactSet) (header : List ℕ) {D : Ty
               (subst (λ d. Disk.faults (seat_disk first) ≤ Disk.faults d) (sym (ap (λ (f : Fixed D). f.disk) kept)) (omega arith)) l.0,
           l.1,
         );
+        own = λ known o. (ap (λ (f : Fixed D). Disk.origin f.disk) kept ∙ o.0 ∙ ap known (sym answer.journal_is), o.1);
       }
   stay_told name purpose text old new reply (further {seat} {others} {after} {told_reply} other rest) =
       let tail : Stay others after = stay_told name purpose text others after told_reply rest in
@@ -118,6 +121,7 @@ module _ (schema : DatabaseSchema) (world : FactSet) (header : List ℕ) {D : Ty
         limits = λ l. (l.0, tail.limits l.1);
         served = λ s. (s.0, tail.served s.1);
         later = λ count l. (l.0, tail.later count l.1);
+        own = λ known o. (o.0, tail.own known o.1);
       }
 
   stay_reopened : (old new : List (DeskSeat D g h)) → AreReopened schema world header Disk old new → Stay old new
@@ -135,6 +139,7 @@ module _ (schema : DatabaseSchema) (world : FactSet) (header : List ℕ) {D : Ty
             let closed = are.0.is_closed.later in
             let opened = are.0.left.later in
             (later_at count o n are.0.journal_is (omega (arith, closed, opened)) l.0, tail.later count l.1);
+        own = λ known l. (are.0.left.comes ∙ are.0.is_closed.comes ∙ l.0 ∙ ap known (sym are.0.journal_is), tail.own known l.1);
       }
 
   stay_carried : (item : BatchItem) (old new : List (DeskSeat D g h)) (line : List ℕ) (is_broken : Bool)

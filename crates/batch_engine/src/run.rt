@@ -12,7 +12,7 @@ ghost use Rattle.log_journal.specs.Opening.{header_bytes};
 ghost use Rattle.desk_crew.specs.Crew.{named_user, seat_name, IsSeatServed};
 ghost use Rattle.outside.specs.Shelf.{AllOut, AllIn, NoneOut, NoneFell, SomeRose, SameBeside};
 ghost use Rattle.desk_crew.specs.Shelved.{journals, journals_on};
-ghost use Rattle.desk_crew.specs.Shelved.{AreLater, AreBack};
+ghost use Rattle.desk_crew.specs.Shelved.{AreLater, AreOwn, AreBack};
 ghost use Rattle.desk_crew.specs.Registered.{AllKeepLimits, SeatsKeepLimits};
 ghost use Rattle.desk_crew.specs.Registered.{registered_journals, HaveOwnNames};
 ghost use Rattle.batch_engine.specs.BatchOf.{items_of};
@@ -116,6 +116,7 @@ where
     requires distinct { has_duplicate (journals seats.items) ≡ false }
     requires out { AllOut (journals seats.items) (F.is_out shelf.old) }
     requires later { AreLater F.D.faults (F.disk_faults shelf.old) seats.items }
+    requires own { AreOwn F.D.origin (F.lent shelf.old).origin seats.items }
     requires spare { vec_len answers < vec_capacity answers }
     ensures ended { (lines : List Answer) → AreNumbered lines
         → All (λ line. line.number < count) lines → IsPermutation lines answers.items
@@ -185,6 +186,7 @@ where
     requires distinct { has_duplicate (journals seats.items) ≡ false }
     requires out { AllOut (journals seats.items) (F.is_out shelf.old) }
     requires later { AreLater F.D.faults (F.disk_faults shelf.old) seats.items }
+    requires own { AreOwn F.D.origin (F.lent shelf.old).origin seats.items }
     requires empty { room.items ≡ [] }
     requires refusals { length seats.items ≤ vec_capacity room }
     ensures answered { IsAnswered registry.now.schema.now registry.now.world.now

@@ -2,8 +2,8 @@
 
 ghost use Rattle.std.specs.Prelude.{◌≡◌, [], ◌∷◌, ◌++◌, map, fold, IfOk};
 ghost use Rattle.cqe_base.specs.Formula.{formula_of, disjunction};
-ghost use Rattle.cqe_base.specs.History.{disjunction_of};
-ghost use Rattle.cqe_base.specs.Censor.{guard_by};
+ghost use Rattle.cqe_base.specs.History.{profile_of, disjunction_of};
+ghost use Rattle.cqe_base.specs.Censor.{guarded_with};
 
 use cqe_base::sentence::Sentence;
 use cqe_base::user::{Method, User};
@@ -31,9 +31,8 @@ pub fn disjunction(alloc: Global, sentences: &[Sentence]) -> Result<Sentence, Al
 /// What is guarded from a user for one more secret: for lying the disjunction of his secrets with
 /// it, and else the secret.
 pub fn guard_with(alloc: Global, user: &User, secret: &Sentence) -> Result<Sentence, AllocError>
-    ensures { IfOk result (λ made. formula_of made ≡ guard_by user.now.method
-        (map formula_of user.now.secrets.items ++ formula_of secret.now ∷ [])
-        (formula_of secret.now)) }
+    ensures { IfOk result (λ made. formula_of made
+        ≡ guarded_with (profile_of user.now) (formula_of secret.now)) }
 {
     match user.method {
         Method::Lying => disjunction_with(alloc, user.secrets.as_slice(), secret),

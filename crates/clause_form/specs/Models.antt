@@ -18,15 +18,16 @@ HaveModelsInWorlds schema sentences =
     HaveModel (form_of (map (grounded_signed schema) sentences)).clauses
     ↔ AreTrueSomewhere schema sentences
 
--- so it is for each list of sentences of a valid schema
+-- the clauses of each list of sentences of a valid schema have a model exactly where some world of
+-- the schema makes all of them true
 abbrev pub ModelsAreWorldsOfSchema : Type 0
 ModelsAreWorldsOfSchema =
     (schema : DatabaseSchema) (sentences : List Signed)
     → is_valid_schema schema ≡ true → are_sentences_of schema sentences ≡ true
     → HaveModelsInWorlds schema sentences
 
--- and for a form: whichever sentences of the schema it is of, its clauses have a model exactly
--- where some world of the schema makes all of them true
+-- whichever sentences of the schema a form is of, its clauses have a model exactly where some world
+-- of the schema makes all of them true
 abbrev pub ModelsOfFormAreWorlds : DatabaseSchema → Form → Type 0
 ModelsOfFormAreWorlds schema form =
     (sentences : List Signed)

@@ -47,9 +47,9 @@ fn main(rt: HostRuntime) -> ExitCode {
     let mut source = StreamSource::new(rt.stdin());
     let mut sink = StreamSink::new(rt.stdout());
     let mut links = if is_standby(&words) {
-        TcpLinks::for_standby(&rt)
+        TcpLinks::for_standby(rt.alloc(), &rt)
     } else {
-        TcpLinks::new(&rt)
+        TcpLinks::new(rt.alloc(), &rt)
     };
     let status = top(
         &rt,

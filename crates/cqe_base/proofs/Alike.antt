@@ -13,7 +13,8 @@ use Rattle.cqe_base.specs.OtherWorlds.{LogsKeepSecrets, CountermodelsAreAlike, L
 use Rattle.cqe_base.proofs.Truths.{true_is_not_false, false_if_not_true, and_second, and_both, list_any-false, none_passes}
 use Rattle.cqe_base.proofs.Logs.{log-nil, user_at-nil, known_holds}
 use Rattle.cqe_base.proofs.Worlds.{entails-true, entails-false}
-use Rattle.cqe_base.proofs.Secrets.{HasCountermodel, legal_shields, legal_again}
+use Rattle.cqe_base.proofs.Shielding.{HasCountermodel}
+use Rattle.cqe_base.proofs.Secrets.{legal_shields, legal_again}
 use Rattle.cqe_base.proofs.Runs.{replies_alike}
 
 -- an admitted user is admitted in each world in which what he knows is true

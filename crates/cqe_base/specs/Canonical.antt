@@ -15,33 +15,37 @@ abbrev pub variable_name : ℕ → Text
 variable_name i = codes "v" ++ decimal (i + 1)
 
 module _ (schema : DatabaseSchema) where
-  -- the name of a domain, of a relation and of a constant; nothing where there is none
+  -- the name of the domain with this number; nothing where there is none
   abbrev pub domain_name : ℕ → Text
   domain_name d = unwrap_or (option_map (λ domain. domain.name) (slice_get schema.domains d)) []
 
+  -- the name of the relation with this number; nothing where there is none
   abbrev pub relation_name : ℕ → Text
   relation_name r =
       unwrap_or (option_map (λ relation. relation.name) (slice_get schema.relations r)) []
 
+  -- the name of a constant; nothing where its domain has none at its place
   abbrev pub constant_name : Constant → Text
   constant_name c =
       unwrap_or (option_and_then (λ domain. slice_get domain.constants c.index)
       (slice_get schema.domains c.domain)) []
 
+  -- the text of a term: the name of its constant or of its variable
   abbrev pub term_text : Term → Text
   term_text (terms.Constant c) = constant_name c
   term_text (terms.Place i) = variable_name i
 
-  -- terms behind the first one
+  -- the text of the terms behind the first one
   abbrev pub more_terms : List Term → Text
   more_terms [] = []
   more_terms (a ∷ others) = codes ", " ++ term_text a ++ more_terms others
 
+  -- the text of terms, with a comma and a blank between two
   abbrev pub terms_text : List Term → Text
   terms_text [] = []
   terms_text (a ∷ others) = term_text a ++ more_terms others
 
-  -- the text within so many quantifiers
+  -- the canonical form of a formula within so many quantifiers
   abbrev pub canonical_within : ℕ → Formula → Text
   canonical_within depth verum = codes "true"
   canonical_within depth falsum = codes "false"
@@ -67,6 +71,7 @@ module _ (schema : DatabaseSchema) where
       codes "(exists " ++ variable_name depth ++ codes ": " ++ domain_name d ++ codes " . "
       ++ canonical_within (depth + 1) a ++ codes ")"
 
+  -- the canonical form of a sentence
   abbrev pub canonical : Formula → Text
   canonical a = canonical_within 0 a
 

@@ -11,8 +11,8 @@ use Rattle.cqe_base.specs.SignedGround.{SignedGround}
 abbrev pub nodes_of_list : List SignedGround → ℕ
 nodes_of_list formulas = sum_by (λ signed. ground_nodes signed.0) formulas
 
--- the facts that occur in a ground formula from left to right, and those of some
 abbrev mutual
+  -- the facts that occur in a ground formula, from left to right
   pub facts_in : Ground → List Fact
   facts_in ground_true = []
   facts_in ground_false = []
@@ -23,6 +23,7 @@ abbrev mutual
   facts_in (ground_implies a b) = facts_in a ++ facts_in b
   facts_in (ground_iff a b) = facts_in a ++ facts_in b
 
+  -- the facts that occur in the parts, from left to right
   pub facts_in_parts : Grounds → List Fact
   facts_in_parts no_grounds = []
   facts_in_parts (more_grounds a rest) = facts_in a ++ facts_in_parts rest

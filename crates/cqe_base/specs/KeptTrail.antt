@@ -62,7 +62,7 @@ KeptStaysWithMore =
     (clauses more : List (List Literal)) (t : List Assigned)
     → IsKeptTrail clauses t → NoneFalsifiedBefore t more → IsKeptTrail (clauses ++ more) t
 
--- and without the last clauses, where none of them is a cause
+-- a kept trail stays kept without the last clauses, where none of them is a cause on it
 abbrev pub KeptStaysWithout : Type 0
 KeptStaysWithout =
     (clauses more : List (List Literal)) (t : List Assigned)
@@ -120,7 +120,8 @@ LowestIsKeptOrProbes =
     ≡ (if has_conflict t kept then position_from (list_all (is_false t)) 0 kept
     else position_from (list_all (is_false t)) (length kept) more)
 
--- So is the lowest unit clause.
+-- The lowest unit clause is a kept one, where there is one among these, and else the lowest of the
+-- probe's.
 abbrev pub LowestUnitIsKeptOrProbes : Type 0
 LowestUnitIsKeptOrProbes =
     (kept more : List (List Literal)) (t : List Assigned)
@@ -186,7 +187,7 @@ ProbeIsRefutedAtItsPlace =
     × (end_within_budget (kept ++ more) n budget
     ≡ (if nat_le cost budget then Some (Refuted (line ∷ [])) else None))
 
--- and where it falsifies none of the probe's, the search goes on from all of it
+-- where the kept trail falsifies no clause of the probe's, the search goes on from all of it
 abbrev pub ProbeGoesOnWhereNoneIsFalsified : Type 0
 ProbeGoesOnWhereNoneIsFalsified =
     (kept more : List (List Literal)) (n budget : ℕ) (t : List Assigned)

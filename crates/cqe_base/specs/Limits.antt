@@ -7,7 +7,7 @@ use Rattle.cqe_base.specs.Formula.{Formula, nodes, is_sentence_of}
 use Rattle.cqe_base.specs.Entailment.{are_sentences_of}
 use Rattle.cqe_base.specs.History.{UserProfile, AnsweredQuery, History, known, log, signed_nodes}
 use Rattle.cqe_base.specs.History.{view_size, is_user_of, is_history_of, is_added, user_at}
-use Rattle.cqe_base.specs.Censor.{guarded, guard_by}
+use Rattle.cqe_base.specs.Censor.{guarded, guarded_with}
 use Rattle.cqe_base.specs.Secrecies.{HasPairs}
 use Rattle.cqe_base.specs.Run.{is_full, is_too_large, is_too_large_secret, has_all_secrets}
 
@@ -42,7 +42,7 @@ pub record KeepsSizesAt (schema : DatabaseSchema) (user : UserProfile) (before :
       → is_too_large_secret schema user before entry.query ≡ false
   pub secret_room : is_added entry.mark ≡ true → has_all_secrets user before ≡ false
 
--- each item did
+-- each item of a history came within the limits
 abbrev pub KeepsSizes : DatabaseSchema → UserProfile → History → Type 0
 KeepsSizes schema user entries =
     (before : History) (entry : AnsweredQuery) (after : History) → entries ≡ before ++ entry ∷ after
@@ -79,7 +79,8 @@ abbrev pub LimitsFitProbes : Type 0
 LimitsFitProbes = (schema : DatabaseSchema) (user : UserProfile) → KeepsLimits schema user
     → FitsProbes schema user
 
--- and so does he at the end of a history within the limits, with what it adds to his secrets
+-- a user who keeps the limits fits his probes at the end of a history within the limits, too, with
+-- what it adds to his secrets
 abbrev pub AmendedFitProbes : Type 0
 AmendedFitProbes =
     (schema : DatabaseSchema) (user : UserProfile) (entries : History)
@@ -90,11 +91,10 @@ AmendedFitProbes =
 -- nodes
 pub record FitsAddition (schema : DatabaseSchema) (user : UserProfile) (secret : Formula) :
     Type 0 where
-  pub goal_sentence : is_sentence_of schema
-      (guard_by user.method (user.secrets ++ secret ∷ []) secret) ≡ true
-  pub goal_nodes : nodes schema (guard_by user.method (user.secrets ++ secret ∷ []) secret) ≤ 40000
+  pub goal_sentence : is_sentence_of schema (guarded_with user secret) ≡ true
+  pub goal_nodes : nodes schema (guarded_with user secret) ≤ 40000
 
--- a sentence that isn't too large for a secret is such a one
+-- a sentence that isn't too large for a secret fits what the log is probed against with it
 abbrev pub SmallSecretsFit : Type 0
 SmallSecretsFit =
     (schema : DatabaseSchema) (user : UserProfile) (entries : History) (secret : Formula)

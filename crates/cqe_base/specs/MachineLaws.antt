@@ -69,7 +69,7 @@ ClauseFormIsPrefix =
     → clause_form (formulas ++ more)
     ≡ clause_form formulas ++ clauses_of_list more (numbering_of formulas)
 
--- and the numbering of the longer list goes on from its numbering
+-- the numbering of a list goes on from that of each beginning of it
 abbrev pub NumberingGoesOn : Type 0
 NumberingGoesOn =
     (formulas more : List SignedGround)
@@ -101,7 +101,7 @@ abbrev pub VariablesAreFew : Type 0
 VariablesAreFew =
     (formulas : List SignedGround) → (numbering_of formulas).variables ≤ 1 + nodes_of_list formulas
 
--- and at most that many facts have a number
+-- a list numbers fewer facts than it takes variables
 abbrev pub NumberedFactsAreFew : Type 0
 NumberedFactsAreFew =
     (formulas : List SignedGround)
@@ -121,7 +121,7 @@ GroundedFactsAreOfSchema =
     → is_valid_schema schema ≡ true → is_sentence_of schema sentence ≡ true
     → list_all (is_fact_of schema) (facts_in (grounded schema sentence)) ≡ true
 
--- and so are the facts that a list of grounded sentences numbers
+-- the facts that a list of grounded sentences of a valid schema numbers are facts of the schema
 abbrev pub NumberedFactsAreOfSchema : Type 0
 NumberedFactsAreOfSchema =
     (schema : DatabaseSchema) (sentences : List Signed)
@@ -188,7 +188,8 @@ GroundFollowsEntails =
     (premises : List SignedGround) (goal : SignedGround) (budget : ℕ)
     → ground_outcome premises goal budget ≡ Follows → GroundEntails premises goal
 
--- and where the outcome is open, they don't
+-- where the outcome of ground premises and a goal is open, the premises can be true and the goal
+-- false
 abbrev pub GroundOpenIsOpen : Type 0
 GroundOpenIsOpen =
     (premises : List SignedGround) (goal : SignedGround) (budget : ℕ)

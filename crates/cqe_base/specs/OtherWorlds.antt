@@ -42,8 +42,8 @@ CountermodelsAreAlike =
     → IsCountermodel schema (log user entries) (goal, true) other
     → IsAlike schema user entries world other
 
--- where a history is legal in a world that admits the user as another does, each run that ends with
--- it in the other world gets the same replies there
+-- where a second world admits the user as a first does, and a history is legal in it, each run that
+-- ends in the first with this history gets the same replies in the second
 abbrev pub LegalEntriesReplyAlike : Type 0
 LegalEntriesReplyAlike =
     (schema : DatabaseSchema) (user : UserProfile) (entries : History) (world other : FactSet)

@@ -13,7 +13,7 @@ SignedGround = Ground × Bool
 abbrev pub true_signed : (Fact → Bool) → SignedGround → Bool
 true_signed facts signed = same_truth signed.1 (true_ground facts signed.0)
 
--- whether all of them are
+-- whether all of these signed ground formulas are true where certain facts are
 abbrev pub all_signed_true : (Fact → Bool) → List SignedGround → Bool
 all_signed_true facts formulas = list_all (true_signed facts) formulas
 

@@ -24,14 +24,16 @@ use Rattle.batch_engine.specs.Joining.{cut_call_of}
 use Rattle.batch_engine.specs.Lives.{is_opened}
 use Rattle.batch_engine.proofs.Along.{goes_on}
 use Rattle.batch_engine.proofs.Joining.{batches_are_calls, cut_batches_are_calls, later_cuts_are_calls}
-use Rattle.command_words.specs.Readings.{FileNames}
+use Rattle.command_words.specs.Readings.{FileNames, reading_of}
 use Rattle.policy_files.specs.Policies.{PolicyUser, PolicyValue}
 use Rattle.cqe_top.specs.Audit.{user_named}
 use Rattle.cqe_top.specs.Calls.{BeginsWith, EachFollows, GoesOn, OpensOn, HisBatch, HasCome, to_its_end, to_a_stretch, IsTold, by_batch, by_serving}
 use Rattle.cqe_top.specs.Calls.{ComesTo, IsCallOf, with_events, unopened_yet, EachStands, LeaveOneHistory, AreCallsOf, AreRunOf}
-use Rattle.cqe_top.specs.Calls.{Promised, journals_at, AnyCallsJoin, AnsweredBatch, journals_in_batch, AnyBatchesJoin}
+use Rattle.cqe_top.specs.Calls.{Promised, scene_at, journals_at, AnyCallsJoin, AnsweredBatch, journals_in_batch, AnyBatchesJoin}
+use Rattle.cqe_top.specs.Copied.{counted_by, has_standby}
+use Rattle.cqe_top.specs.Files.{journals_of}
 use Rattle.cqe_top.specs.Lives.{IsLeft, LeavesPart, LeavesParts}
-use Rattle.cqe_top.specs.Scene.{input_of, output_of, links_of}
+use Rattle.cqe_top.specs.Scene.{Scene, input_of, output_of, links_of}
 use Rattle.cqe_top.proofs.Lives.{calls_are_parts, IsLeftOpened, batch_left}
 
 -- a history that goes on from one that goes on
@@ -327,11 +329,18 @@ module _ {F D S K E L Door Dial In Out : Type 0} (Shelf : ShelfGhosts F D) (Disk
   any_calls_join only_now first later user opened left tells named begins follow =
       one_history policy world header user its one_on first later opened left begins follow
     where
+      -- no journal looks at what is counted of exchanges
+      counted : (s : Scene) (b : Bool) → LeavesParts (journals_of s.shelf files) policy world header
+          → LeavesParts (journals_of (counted_by s b).shelf files) policy world header
+      counted s false parts = parts
+      counted s true parts = parts
+
       parts : (call : Promised Shelf Disk Source Sink Complaints Links files policy world header) → LeavesParts (its call) policy world header
       parts call =
-          calls_are_parts Shelf Disk call.shelf call.shelf' (input_of Source call.source call.source') (output_of Sink call.sink call.sink')
+          counted (scene_at Shelf Disk Source Sink Complaints Links files policy world header call) (has_standby (reading_of call.words))
+          (calls_are_parts Shelf Disk call.shelf call.shelf' (input_of Source call.source call.source') (output_of Sink call.sink call.sink')
           (links_of Links call.links call.links') (output_of Complaints call.complaints call.complaints') only_now call.words call.status files policy world
-          header call.promise call.uses tells call.said
+          header call.promise call.uses tells call.said)
 
       one_on : (call : Promised Shelf Disk Source Sink Complaints Links files policy world header) (start : History)
           → BeginsOn policy world header user (its call) start → (bytes : List ℕ) → IsLeft (its call) user.name bytes

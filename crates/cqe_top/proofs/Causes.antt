@@ -36,6 +36,7 @@ use Rattle.cqe_top.specs.declared.end.FilesEnd.{FilesEnd}
 use Rattle.cqe_top.specs.declared.end.FilesEnd.TheVariants as files_end
 use Rattle.cqe_top.specs.declared.report.Report.{Report}
 use Rattle.cqe_top.specs.declared.report.Report.TheVariants as report
+use Rattle.cqe_top.specs.Copied.{counted_with}
 use Rattle.cqe_top.specs.Promise.{OfReading, Does, Always}
 use Rattle.cqe_top.specs.Reports.{report_of, answers_report, has_refusal, FaultsHaveCauses}
 use Rattle.cqe_top.specs.Scene.{Scene, HasRisen}
@@ -161,6 +162,11 @@ module _ (s : Scene) where
   standby_cause users copy_end.ShelfFault links shelf disk = has_cause _ (shelf refl)
   standby_cause users copy_end.Memory links shelf disk = has_cause _ tt
 
-  -- where no exchanges are counted, it was done so
-  pub plainly : (reading : Option Reading) (end : CommandEnd) → OfReading s reading end → FaultsHaveCauses s end → Always s → Does s reading end
-  plainly reading end of cause always = record { exchanges = None; counted = tt; command = of; cause = cause; always = always }
+  -- where none are counted, it was done so
+  pub plainly : (reading : Option Reading) (end : CommandEnd) → counted_with s reading ≡ s → OfReading s reading end → FaultsHaveCauses s end → Always s
+      → Does s reading end
+  plainly reading end plain of cause always = record {
+    command = subst (λ t. OfReading t reading end) (sym plain) of;
+    cause = subst (λ t. FaultsHaveCauses t end) (sym plain) cause;
+    always = subst Always (sym plain) always;
+  }

@@ -3,7 +3,7 @@ use Rattle.std.proofs.Common.{◌≡◌, ◌⊎◌, ℕ, ◌+◌, ◌≤◌, ◌
 use Rattle.std.specs.Prelude.{option_map}
 use Rattle.outside.specs.Faults.{Rose}
 use Rattle.outside.specs.Visits.{Visit, Place as Listened}
-use Rattle.outside.specs.Shelf.{SameNames, SameBeside, NoneFell, SomeRose, bytes_on, image_on, since_on, is_among}
+use Rattle.outside.specs.Shelf.{SameNames, SameBeside, NoneFell, SomeRose, Lent, bytes_on, image_on, since_on, is_among}
 use Rattle.outside.specs.declared.disk.Disk.{Ghosts as DiskGhosts}
 use Rattle.outside.specs.declared.shelf.Shelf.{Ghosts as ShelfGhosts}
 use Rattle.cqe_base.specs.Schema.{Text}
@@ -158,11 +158,11 @@ second_name (one ∷ []) = 0
 second_name (one ∷ other ∷ names) = other
 
 -- they stay the same, so what was lent is what it has in the end
-pub shelf_back : {X : Type 0} (x now : X) (old new : List ℕ) → new ≡ old → (first_name old ≡ first_name new → x ≡ now) → x ≡ now
-shelf_back x now old new lent rule = rule (sym (ap first_name lent))
+pub shelf_back : {X : Type 0} (x now : X) (old new : Lent) → new ≡ old → (first_name old.names ≡ first_name new.names → x ≡ now) → x ≡ now
+shelf_back x now old new lent rule = rule (sym (ap (λ (l : Lent). first_name l.names) lent))
 
-pub mirrors_back : {X : Type 0} (x now : X) (old new : List ℕ) → new ≡ old → (second_name old ≡ second_name new → x ≡ now) → x ≡ now
-mirrors_back x now old new lent rule = rule (sym (ap second_name lent))
+pub mirrors_back : {X : Type 0} (x now : X) (old new : Lent) → new ≡ old → (second_name old.names ≡ second_name new.names → x ≡ now) → x ≡ now
+mirrors_back x now old new lent rule = rule (sym (ap (λ (l : Lent). second_name l.names) lent))
 
 pub lent_one : {X : Type 0} (P : X → Type 0) (x now : X) → x ≡ now → P now → P x
 lent_one P x now is p = subst P (sym is) p

@@ -58,7 +58,7 @@ use Rattle.cqe_top.specs.Migrate.{MovesJournals, RunsMigrate, MigrateSucceeds}
 use Rattle.cqe_top.specs.Promise.{OfReading}
 use Rattle.cqe_top.specs.Ready.{CanBeMade, CanBeMoved, CanBeOpened, CanBeCopied}
 use Rattle.cqe_top.specs.Reports.{answers_report, has_refusal, IsDoneUnlessMemory, FaultsHaveCauses}
-use Rattle.cqe_top.specs.Scene.{Scene, ShelfScene, IsUntouched, HasRisen, SameInput, SameOutput, SameLinks, links_of}
+use Rattle.cqe_top.specs.Scene.{Scene, ShelfScene, IsUntouched, HasRisen, SameInput, SameOutput, SameLinks, CallsNobody, links_of}
 use Rattle.cqe_top.specs.Steps.{reading_over, reading_copied}
 use Rattle.cqe_top.specs.declared.copied.CopiedTask.{CopiedTask}
 use Rattle.cqe_top.specs.declared.copied.CopiedTask.TheVariants as copied
@@ -420,34 +420,34 @@ nobody_there s files user user_task.Check finds input links =
 -- whatever was to be done over them
 pub unread : (s : Scene) (files : FileNames) (task : Task) (end : FilesEnd) → IsUnread s.shelf files end → FaultsHaveCauses s (ends.Files end)
     → SameInput s.input
-    → SameOutput s.output → SameLinks s.links
+    → SameOutput s.output → SameLinks s.links → CallsNobody s.links
     → OfReading s (Some (reading_over files task)) (ends.Files end)
-unread s files task.Init end is cause input output links = record {
+unread s files task.Init end is cause input output links nobody = record {
   ends = is;
   succeeds = λ told says shelf. read_succeeds s files (CanBeMade (journals_of s.shelf files)) end (is.refused told) cause says shelf;
   reads_nothing = input;
   writes_nothing = output;
   listens_nowhere = links;
 }
-unread s files (task.Batch workers) end is cause input output links = record {
+unread s files (task.Batch workers) end is cause input output links nobody = record {
   ends = (is, input, output);
   succeeds = λ told in_told out_told script says shelf read write.
       read_succeeds s files (CanBeOpened (journals_of s.shelf files)) end (is.refused told) cause says shelf;
   listens_nowhere = links;
 }
-unread s files (task.OfUser name (user_task.Audit json)) end is cause input output links = record {
+unread s files (task.OfUser name (user_task.Audit json)) end is cause input output links nobody = record {
   ends = (is, output);
   succeeds = λ told out_told says shelf write. read_succeeds s files (CanBeAudited (journals_of s.shelf files) name.now) end (is.refused told) cause says shelf;
   reads_nothing = input;
   listens_nowhere = links;
 }
-unread s files (task.OfUser name user_task.Dossier) end is cause input output links = record {
+unread s files (task.OfUser name user_task.Dossier) end is cause input output links nobody = record {
   ends = (is, output);
   succeeds = λ told out_told says shelf write. read_succeeds s files (CanBeAudited (journals_of s.shelf files) name.now) end (is.refused told) cause says shelf;
   reads_nothing = input;
   listens_nowhere = links;
 }
-unread s files (task.OfUser name user_task.Check) end is cause input output links =
+unread s files (task.OfUser name user_task.Check) end is cause input output links nobody =
     let two = two_files files.policy files.facts in
     let unread_two = unread_of s files end is in
     record {
@@ -456,41 +456,45 @@ unread s files (task.OfUser name user_task.Check) end is cause input output link
           read_succeeds s two (CanBeChecked s.input.left name.now) end (unread_two.refused told) cause says shelf;
       listens_nowhere = links;
     }
-unread s files (task.Migrate to) end is cause input output links = record {
+unread s files (task.Migrate to) end is cause input output links nobody = record {
   ends = is;
   succeeds = λ told says shelf. read_succeeds s files (CanMove s files to.now) end (is.refused told) cause says shelf;
   reads_nothing = input;
   writes_nothing = output;
   listens_nowhere = links;
 }
-unread s files (task.Serve listening) end is cause input output links = record {
+unread s files (task.Serve listening) end is cause input output links nobody = record {
   ends = (is, links);
   succeeds = λ told links_told says shelf links. read_succeeds s files (CanBeOpened (journals_of s.shelf files)) end (is.refused told) cause says shelf;
   reads_nothing = input;
   writes_nothing = output;
+  calls_nobody = nobody;
 }
-unread s files (task.Standby copying) end is cause input output links = record {
+unread s files (task.Standby copying) end is cause input output links nobody = record {
   ends = (is, links);
   succeeds = λ told links_told says shelf links. read_succeeds s files (CanBeCopied (journals_of s.shelf files)) end (is.refused told) cause says shelf;
   reads_nothing = input;
   writes_nothing = output;
+  calls_nobody = nobody;
 }
 
--- so it is where they were to be done with a standby, whatever became of the links' second count
+-- so it is where they were to be done with a standby
 pub unread_copied : (s : Scene) (files : FileNames) (task : CopiedTask) (standby : Text) (end : FilesEnd) → IsUnread s.shelf files end
     → FaultsHaveCauses s (ends.Files end) → SameInput s.input → SameOutput s.output → KeepsDoors s.links
-    → OfReading s (Some (reading_copied files task standby)) (ends.Files end)
-unread_copied s files (copied.Batch workers) standby end is cause input output links = record {
+    → CallsNobody s.links → OfReading s (Some (reading_copied files task standby)) (ends.Files end)
+unread_copied s files (copied.Batch workers) standby end is cause input output links nobody = record {
   ends = (is, input, output);
   succeeds = λ told in_told out_told script says shelf read write.
       read_succeeds s files (CanBeOpened (journals_of s.shelf files)) end (is.refused told) cause says shelf;
   listens_nowhere = inr links;
+  calls = nobody.exchanged;
 }
-unread_copied s files (copied.Serve listening) standby end is cause input output links = record {
+unread_copied s files (copied.Serve listening) standby end is cause input output links nobody = record {
   ends = (is, links);
   succeeds = λ told links_told says shelf links. read_succeeds s files (CanBeOpened (journals_of s.shelf files)) end (is.refused told) cause says shelf;
   reads_nothing = input;
   writes_nothing = output;
+  calls = nobody.exchanged;
 }
 
 -- the links of a scene that are what they were keep their doors
@@ -506,58 +510,66 @@ doors_same Links links = record {
   listened = λ told. refl;
 }
 
+-- and nobody was called by them
+pub nobody_called : {L Door Dial In Out : Type 0} (Links : LinksGhosts L Door Dial In Out) (links : L) → CallsNobody (links_of Links links links)
+nobody_called Links links = record { exchanged = λ told. refl; exchange_faults = λ name. refl }
+
 -- ---- memory that is wanting for the words
 
-pub nothing_begun : (s : Scene) → IsUntouched s → (read : Option Reading) → OfReading s read ends.Memory
-nothing_begun s same None = same
-nothing_begun s same (Some runs_case) = record { ends = same; succeeds = λ told out_told script read write. inr refl }
-nothing_begun s same (Some (runs_init files)) =
+pub nothing_begun : (s : Scene) → IsUntouched s → CallsNobody s.links → (read : Option Reading) → OfReading s read ends.Memory
+nothing_begun s same nobody None = same
+nothing_begun s same nobody (Some runs_case) = record { ends = same; succeeds = λ told out_told script read write. inr refl }
+nothing_begun s same nobody (Some (runs_init files)) =
     record { ends = same.shelf; succeeds = λ told says shelf. inr refl; reads_nothing = same.input; writes_nothing = same.output; listens_nowhere = same.links }
-nothing_begun s same (Some (runs_batch files workers)) = record {
+nothing_begun s same nobody (Some (runs_batch files workers)) = record {
   ends = (same.shelf, same.input, same.output);
   succeeds = λ told in_told out_told script says shelf read write. inr refl;
   listens_nowhere = same.links;
 }
-nothing_begun s same (Some (runs_audit files user json)) =
+nothing_begun s same nobody (Some (runs_audit files user json)) =
     record { ends = (same.shelf, same.output); succeeds = λ told out_told says shelf write. inr refl; reads_nothing = same.input; listens_nowhere = same.links }
-nothing_begun s same (Some (runs_dossier files user)) =
+nothing_begun s same nobody (Some (runs_dossier files user)) =
     record { ends = (same.shelf, same.output); succeeds = λ told out_told says shelf write. inr refl; reads_nothing = same.input; listens_nowhere = same.links }
-nothing_begun s same (Some (runs_check policy facts user)) =
+nothing_begun s same nobody (Some (runs_check policy facts user)) =
     record {
       ends =
           (same.shelf, same.input, same.output);
       succeeds = λ told in_told out_told says shelf read write. inr refl;
       listens_nowhere = same.links;
     }
-nothing_begun s same (Some (runs_selfrun seed users asks)) = record { ends = same; succeeds = λ write. inr refl }
-nothing_begun s same (Some (runs_serve files address workers sessions)) =
+nothing_begun s same nobody (Some (runs_selfrun seed users asks)) = record { ends = same; succeeds = λ write. inr refl }
+nothing_begun s same nobody (Some (runs_serve files address workers sessions)) =
     record {
       ends =
           (same.shelf, same.links);
       succeeds = λ told links_told says shelf links. inr refl;
       reads_nothing = same.input;
       writes_nothing = same.output;
+      calls_nobody = nobody;
     }
-nothing_begun s same (Some (runs_migrate files to)) =
+nothing_begun s same nobody (Some (runs_migrate files to)) =
     record { ends = same.shelf; succeeds = λ told says shelf. inr refl; reads_nothing = same.input; writes_nothing = same.output; listens_nowhere = same.links }
-nothing_begun s same (Some (runs_copied_batch files workers standby)) = record {
+nothing_begun s same nobody (Some (runs_copied_batch files workers standby)) = record {
   ends = (same.shelf, same.input, same.output);
   succeeds = λ told in_told out_told script says shelf read write. inr refl;
   listens_nowhere = inl same.links;
+  calls = nobody.exchanged;
 }
-nothing_begun s same (Some (runs_copied_serve files address workers sessions standby)) =
+nothing_begun s same nobody (Some (runs_copied_serve files address workers sessions standby)) =
     record {
       ends =
           (same.shelf, same.links);
       succeeds = λ told links_told says shelf links. inr refl;
       reads_nothing = same.input;
       writes_nothing = same.output;
+      calls = nobody.exchanged;
     }
-nothing_begun s same (Some (runs_standby files address sessions)) =
+nothing_begun s same nobody (Some (runs_standby files address sessions)) =
     record {
       ends =
           (same.shelf, same.links);
       succeeds = λ told links_told says shelf links. inr refl;
       reads_nothing = same.input;
       writes_nothing = same.output;
+      calls_nobody = nobody;
     }

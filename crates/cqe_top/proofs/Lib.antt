@@ -9,5 +9,6 @@ mod Good
 mod Serving
 mod Standing
 mod Copying
+mod Dialling
 mod Lives
 mod Calls

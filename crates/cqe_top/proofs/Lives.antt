@@ -1,8 +1,9 @@
 -- Calls over the same journals are one run, and parts of one history, for each user.
-use Rattle.std.proofs.Common.{◌≡◌, ◌⊎◌, inl, inr, ℕ, ◌≤◌, Bool, true, false, not, ◌&&◌, List, [], ◌∷◌, ◌++◌, map, refl, sym, ap, subst, ◌∙◌}
+use Rattle.std.proofs.Common.{◌≡◌, ◌⊎◌, inl, inr, ℕ, ◌≤◌, ◌+◌, Bool, true, false, not, ◌&&◌, List, [], ◌∷◌, ◌++◌, map, refl, sym, ap, subst, ◌∙◌}
 use Rattle.std.specs.Prelude.{Option, Some, None, IfSome, Vec, string_bytes}
 use Rattle.std.specs.List.{list_any, AllByRecursion}
 use Rattle.std.specs.declared.alloc.Global.{Global}
+use Rattle.outside.specs.Shelf.{SameNames}
 use Rattle.outside.specs.declared.disk.Disk.{Ghosts as DiskGhosts}
 use Rattle.outside.specs.declared.shelf.Shelf.{Ghosts as ShelfGhosts}
 use Rattle.cqe_base.specs.Facts.{FactSet}
@@ -37,12 +38,12 @@ use Rattle.cqe_top.specs.declared.end.CommandEnd.{CommandEnd}
 use Rattle.cqe_top.specs.declared.end.CommandEnd.TheVariants as end
 use Rattle.cqe_top.specs.Audit.{AuditEnds, OfAudit}
 use Rattle.cqe_top.specs.Batch.{BatchEnds, RunsBatch, OfBatch, AnswersOverFiles}
+use Rattle.cqe_top.specs.Copied.{CopiedServeEnds, OfCopiedBatch, OfCopiedServe, with_failed, failed_exchanges}
 use Rattle.cqe_top.specs.Dossier.{DossierEnds, OfDossier}
 use Rattle.cqe_top.specs.Files.{both, said_on, SayOn, journals_of, new_user, new_users}
 use Rattle.cqe_top.specs.Lives.{TellsAll, IsEndOf, BatchCallsJoin, IsLeft, LeavesPart, LeavesParts, UsesJournals, CallsAreParts}
-use Rattle.cqe_top.specs.Copied.{Counts, counted_with, IsCounted}
-use Rattle.cqe_top.specs.Promise.{Promise, OfReading, Does}
-use Rattle.cqe_top.specs.Scene.{Scene, ShelfScene, Input, Output, LinksScene, SameDisks, shelf_of, scene_of}
+use Rattle.cqe_top.specs.Promise.{Promise, Does}
+use Rattle.cqe_top.specs.Scene.{Scene, ShelfScene, Input, Output, LinksScene, shelf_of, scene_of}
 use Rattle.cqe_top.specs.Serve.{ServeEnds, OfServe, ServesOverFiles}
 
 -- what files say, they say once
@@ -54,15 +55,6 @@ said_once P policy policy' world world' header header' same is =
     let h : header' ≡ header = cc in
     subst (λ q. P q world header) p (subst (λ x. P policy' x header) w (subst (λ k. P policy' world' k) h is))
 
--- where the words name no standby, what was done is what the reading says
-alone : (s : Scene) (reading : Option Reading) (e : CommandEnd) → ((failed : Text → ℕ) → Counts s.links failed reading → ⊥) → Does s reading e
-    → OfReading s reading e
-alone s reading e none does = by does.exchanges does.counted does.command
-  where
-    by : (exchanges : Option (Text → ℕ)) → IsCounted s reading exchanges → OfReading (counted_with s exchanges) reading e → OfReading s reading e
-    by None counted of = of
-    by (Some failed) counted of = absurd (none failed counted)
-
 -- ---- two batches
 
 answered_over : (words : List Text) (s : Scene) (complaints : Output) (status : ℕ) (files : FileNames) (users : Vec User Global) (engine_end : BatchEnd)
@@ -70,10 +62,9 @@ answered_over : (words : List Text) (s : Scene) (complaints : Output) (status : 
     → one.end ≡ end.Batch users engine_end → TellsAll s
     → SayOn s.shelf files (λ policy world header. IsEndOf s files policy world header engine_end)
 answered_over words s complaints status files users engine_end workers one read ends tells =
-    let of_batch : OfBatch s files one.end =
-    alone s (Some (runs_batch files workers)) one.end (λ failed counted. counted) (subst (λ r. Does s r one.end) read one.does) in
+    let of_batch : Does s (Some (runs_batch files workers)) one.end = subst (λ r. Does s r one.end) read one.does in
     let runs : RunsBatch s.shelf s.input s.output files users engine_end =
-    subst (λ (e : CommandEnd). BatchEnds s.shelf s.input s.output files e) ends of_batch.ends in
+    subst (λ (e : CommandEnd). BatchEnds s.shelf s.input s.output files e) ends of_batch.command.ends in
     let over = runs.over_files tells.0 in
     (over.0, over.1, over.2, over.3, over.4.answers tells.1 tells.2)
 
@@ -252,41 +243,51 @@ module _ {F D : Type 0} (Shelf : ShelfGhosts F D) (Disk : DiskGhosts D) (old new
   abbrev Parts : Type 0
   Parts = LeavesParts (journals_of shelf files) policy world header
 
-  same_disks : new ≡ old → SameDisks shelf
-  same_disks same = (λ name. ap (λ f. Shelf.disk f name) same, λ name. ap (λ f. Shelf.disk_faults f name) same)
+  -- the shelf with these counts of the disks' faults behind the call; no journal looks at them
+  abbrev counted : (Text → ℕ) → ShelfScene
+  counted count = record shelf {
+    disk_faults' = count;
+  }
+
+  -- the counts behind a call in which exchanges that failed are counted, too
+  abbrev with_exchanges : Text → ℕ
+  with_exchanges = λ name. Shelf.disk_faults new name + failed_exchanges links name
+
+  same_disks : new ≡ old → SameNames shelf.disk shelf.disk'
+  same_disks same = λ name. ap (λ f. Shelf.disk f name) same
 
   -- where no disk was touched, all journals are kept
-  kept_disks : SameDisks shelf → KeepsJournals (journals_of shelf files)
+  kept_disks : SameNames shelf.disk shelf.disk' → KeepsJournals (journals_of shelf files)
   kept_disks same =
-      keeps_same Disk files.directory (Shelf.disk old) (Shelf.disk new) (Shelf.disk_faults old) (Shelf.disk_faults new) only_now same.0
+      keeps_same Disk files.directory (Shelf.disk old) (Shelf.disk new) (Shelf.disk_faults old) (Shelf.disk_faults new) only_now same
 
   module _ (tells : shelf.tells) (said : said_on shelf files ≡ both policy world header) where
-    of_batch : (e : CommandEnd) → BatchEnds shelf input output files e → Parts
-    of_batch (end.Batch users engine_end) runs =
+    of_batch : (count : Text → ℕ) (e : CommandEnd) → BatchEnds (counted count) input output files e → Parts
+    of_batch count (end.Batch users engine_end) runs =
         let over = runs.over_files tells in
-        let answers : AnswersOverFiles shelf input output files users engine_end policy world header =
-        said_once (AnswersOverFiles shelf input output files users engine_end) policy over.0 world over.1 header over.2 (sym over.3 ∙ said) over.4 in
-        batch_leaves (journals_of shelf files) policy world header engine_end answers.journals
-    of_batch (end.Files why) runs = inl (kept_disks runs.0.disks)
-    of_batch end.Memory runs = inl (kept_disks (same_disks runs.0))
-    of_batch end.Usage runs = absurd runs
-    of_batch (end.Case case) runs = absurd runs
-    of_batch (end.Init users init) runs = absurd runs
-    of_batch end.Nobody runs = absurd runs
-    of_batch (end.Audit name audit) runs = absurd runs
-    of_batch (end.Selfrun run) runs = absurd runs
-    of_batch (end.Serve users served) runs = absurd runs
-    of_batch (end.Migrate users moved) runs = absurd runs
-    of_batch (end.Dossier name shown) runs = absurd runs
-    of_batch (end.Check checked) runs = absurd runs
-    of_batch (end.Standby users copied) runs = absurd runs
+        let answers : AnswersOverFiles (counted count) input output files users engine_end policy world header =
+        said_once (AnswersOverFiles (counted count) input output files users engine_end) policy over.0 world over.1 header over.2 (sym over.3 ∙ said) over.4 in
+        batch_leaves (journals_of (counted count) files) policy world header engine_end answers.journals
+    of_batch count (end.Files why) runs = inl (kept_disks runs.0.disks.0)
+    of_batch count end.Memory runs = inl (kept_disks (same_disks runs.0))
+    of_batch count end.Usage runs = absurd runs
+    of_batch count (end.Case case) runs = absurd runs
+    of_batch count (end.Init users init) runs = absurd runs
+    of_batch count end.Nobody runs = absurd runs
+    of_batch count (end.Audit name audit) runs = absurd runs
+    of_batch count (end.Selfrun run) runs = absurd runs
+    of_batch count (end.Serve users served) runs = absurd runs
+    of_batch count (end.Migrate users moved) runs = absurd runs
+    of_batch count (end.Dossier name shown) runs = absurd runs
+    of_batch count (end.Check checked) runs = absurd runs
+    of_batch count (end.Standby users copied) runs = absurd runs
 
     of_audit : (user : Text) (json : Bool) (e : CommandEnd) → AuditEnds shelf output files user json e → Parts
     of_audit user json (end.Audit name engine_end) runs =
         inl (keeps_all Disk files.directory (Shelf.disk old) (Shelf.disk new) (Shelf.disk_faults old) (Shelf.disk_faults new) (runs.bytes tells)
         (runs.images tells) (runs.moments tells))
-    of_audit user json end.Nobody finds = inl (kept_disks finds.disks)
-    of_audit user json (end.Files why) runs = inl (kept_disks runs.0.disks)
+    of_audit user json end.Nobody finds = inl (kept_disks finds.disks.0)
+    of_audit user json (end.Files why) runs = inl (kept_disks runs.0.disks.0)
     of_audit user json end.Memory runs = inl (kept_disks (same_disks runs.0))
     of_audit user json end.Usage runs = absurd runs
     of_audit user json (end.Case case) runs = absurd runs
@@ -303,8 +304,8 @@ module _ {F D : Type 0} (Shelf : ShelfGhosts F D) (Disk : DiskGhosts D) (old new
     of_dossier user (end.Dossier name engine_end) runs =
         inl (keeps_all Disk files.directory (Shelf.disk old) (Shelf.disk new) (Shelf.disk_faults old) (Shelf.disk_faults new) (runs.bytes tells)
         (runs.images tells) (runs.moments tells))
-    of_dossier user end.Nobody finds = inl (kept_disks finds.disks)
-    of_dossier user (end.Files why) runs = inl (kept_disks runs.0.disks)
+    of_dossier user end.Nobody finds = inl (kept_disks finds.disks.0)
+    of_dossier user (end.Files why) runs = inl (kept_disks runs.0.disks.0)
     of_dossier user end.Memory runs = inl (kept_disks (same_disks runs.0))
     of_dossier user end.Usage runs = absurd runs
     of_dossier user (end.Case case) runs = absurd runs
@@ -317,48 +318,67 @@ module _ {F D : Type 0} (Shelf : ShelfGhosts F D) (Disk : DiskGhosts D) (old new
     of_dossier user (end.Check checked) runs = absurd runs
     of_dossier user (end.Standby users copied) runs = absurd runs
 
-    of_serve : (address : Text) (workers limit : ℕ) (e : CommandEnd) → ServeEnds shelf links files address workers limit e → Parts
-    of_serve address workers limit (end.Serve users engine_end) runs =
+    of_serve : (count : Text → ℕ) (address : Text) (workers limit : ℕ) (e : CommandEnd) → ServeEnds (counted count) links files address workers limit e → Parts
+    of_serve count address workers limit (end.Serve users engine_end) runs =
         let over = runs.over_files tells in
-        let serves : ServesOverFiles shelf links files address workers limit users engine_end policy world header =
-        said_once (ServesOverFiles shelf links files address workers limit users engine_end) policy over.0 world over.1 header over.2
+        let serves : ServesOverFiles (counted count) links files address workers limit users engine_end policy world header =
+        said_once (ServesOverFiles (counted count) links files address workers limit users engine_end) policy over.0 world over.1 header over.2
         (sym over.3 ∙ said) over.4 in
-        serving_leaves (journals_of shelf files) policy world header users.items engine_end serves.of_policy serves.journals
-    of_serve address workers limit (end.Files why) runs = inl (kept_disks runs.0.disks)
-    of_serve address workers limit end.Memory runs = inl (kept_disks (same_disks runs.0))
-    of_serve address workers limit end.Usage runs = absurd runs
-    of_serve address workers limit (end.Case case) runs = absurd runs
-    of_serve address workers limit (end.Init users init) runs = absurd runs
-    of_serve address workers limit (end.Batch users batched) runs = absurd runs
-    of_serve address workers limit end.Nobody runs = absurd runs
-    of_serve address workers limit (end.Audit name audit) runs = absurd runs
-    of_serve address workers limit (end.Selfrun run) runs = absurd runs
-    of_serve address workers limit (end.Migrate users moved) runs = absurd runs
-    of_serve address workers limit (end.Dossier name shown) runs = absurd runs
-    of_serve address workers limit (end.Check checked) runs = absurd runs
-    of_serve address workers limit (end.Standby users copied) runs = absurd runs
+        serving_leaves (journals_of (counted count) files) policy world header users.items engine_end serves.of_policy serves.journals
+    of_serve count address workers limit (end.Files why) runs = inl (kept_disks runs.0.disks.0)
+    of_serve count address workers limit end.Memory runs = inl (kept_disks (same_disks runs.0))
+    of_serve count address workers limit end.Usage runs = absurd runs
+    of_serve count address workers limit (end.Case case) runs = absurd runs
+    of_serve count address workers limit (end.Init users init) runs = absurd runs
+    of_serve count address workers limit (end.Batch users batched) runs = absurd runs
+    of_serve count address workers limit end.Nobody runs = absurd runs
+    of_serve count address workers limit (end.Audit name audit) runs = absurd runs
+    of_serve count address workers limit (end.Selfrun run) runs = absurd runs
+    of_serve count address workers limit (end.Migrate users moved) runs = absurd runs
+    of_serve count address workers limit (end.Dossier name shown) runs = absurd runs
+    of_serve count address workers limit (end.Check checked) runs = absurd runs
+    of_serve count address workers limit (end.Standby users copied) runs = absurd runs
+
+    of_copied_serve : (address : Text) (workers limit : ℕ) (e : CommandEnd)
+        → CopiedServeEnds (with_failed (scene_of shelf input output links) (failed_exchanges links)) files address workers limit e → Parts
+    of_copied_serve address workers limit (end.Serve users engine_end) runs = of_serve with_exchanges address workers limit (end.Serve users engine_end) runs
+    of_copied_serve address workers limit (end.Files why) runs = inl (kept_disks runs.0.disks.0)
+    of_copied_serve address workers limit end.Memory runs = inl (kept_disks (same_disks runs.0))
+    of_copied_serve address workers limit end.Usage runs = absurd runs
+    of_copied_serve address workers limit (end.Case case) runs = absurd runs
+    of_copied_serve address workers limit (end.Init users init) runs = absurd runs
+    of_copied_serve address workers limit (end.Batch users batched) runs = absurd runs
+    of_copied_serve address workers limit end.Nobody runs = absurd runs
+    of_copied_serve address workers limit (end.Audit name audit) runs = absurd runs
+    of_copied_serve address workers limit (end.Selfrun run) runs = absurd runs
+    of_copied_serve address workers limit (end.Migrate users moved) runs = absurd runs
+    of_copied_serve address workers limit (end.Dossier name shown) runs = absurd runs
+    of_copied_serve address workers limit (end.Check checked) runs = absurd runs
+    of_copied_serve address workers limit (end.Standby users copied) runs = absurd runs
 
     of_reading : (r : Option Reading) (e : CommandEnd) → Does (scene_of shelf input output links) r e → UsesJournals files r → Parts
     of_reading (Some (runs_batch its workers)) e does same =
-        let of = alone (scene_of shelf input output links) (Some (runs_batch its workers)) e (λ failed counted. counted) does in
-        of_batch e (subst (λ (f : FileNames). OfBatch (scene_of shelf input output links) f e) same of).ends
+        of_batch shelf.disk_faults' e (subst (λ (f : FileNames). OfBatch (scene_of shelf input output links) f e) same does.command).ends
     of_reading (Some (runs_audit its user json)) e does same =
-        let of = alone (scene_of shelf input output links) (Some (runs_audit its user json)) e (λ failed counted. counted) does in
-        of_audit user json e (subst (λ (f : FileNames). OfAudit (scene_of shelf input output links) f user json e) same of).ends
+        of_audit user json e (subst (λ (f : FileNames). OfAudit (scene_of shelf input output links) f user json e) same does.command).ends
     of_reading (Some (runs_serve its address workers limit)) e does same =
-        let of = alone (scene_of shelf input output links) (Some (runs_serve its address workers limit)) e (λ failed counted. counted) does in
-        of_serve address workers limit e (subst (λ (f : FileNames). OfServe (scene_of shelf input output links) f address workers limit e) same of).ends
+        of_serve shelf.disk_faults' address workers limit e
+        (subst (λ (f : FileNames). OfServe (scene_of shelf input output links) f address workers limit e) same does.command).ends
     of_reading (Some (runs_dossier its user)) e does same =
-        let of = alone (scene_of shelf input output links) (Some (runs_dossier its user)) e (λ failed counted. counted) does in
-        of_dossier user e (subst (λ (f : FileNames). OfDossier (scene_of shelf input output links) f user e) same of).ends
+        of_dossier user e (subst (λ (f : FileNames). OfDossier (scene_of shelf input output links) f user e) same does.command).ends
+    of_reading (Some (runs_copied_batch its workers standby)) e does same =
+        of_batch with_exchanges e
+        (subst (λ (f : FileNames). OfCopiedBatch (with_failed (scene_of shelf input output links) (failed_exchanges links)) f standby e) same does.command).ends
+    of_reading (Some (runs_copied_serve its address workers limit standby)) e does same =
+        of_copied_serve address workers limit e
+        (subst (λ (f : FileNames). OfCopiedServe (with_failed (scene_of shelf input output links) (failed_exchanges links)) f address workers limit standby e)
+        same does.command).ends
     of_reading None e does uses = absurd uses
     of_reading (Some runs_case) e does uses = absurd uses
     of_reading (Some (runs_init its)) e does uses = absurd uses
     of_reading (Some (runs_selfrun seed users asks)) e does uses = absurd uses
     of_reading (Some (runs_migrate its to)) e does uses = absurd uses
     of_reading (Some (runs_check policy_file facts user)) e does uses = absurd uses
-    of_reading (Some (runs_copied_batch its workers standby)) e does uses = absurd uses
-    of_reading (Some (runs_copied_serve its address workers limit standby)) e does uses = absurd uses
     of_reading (Some (runs_standby its address limit)) e does uses = absurd uses
 
 pub calls_are_parts : {F D : Type 0} (Shelf : ShelfGhosts F D) (Disk : DiskGhosts D) (old new : F) (input : Input) (output : Output) (links : LinksScene)

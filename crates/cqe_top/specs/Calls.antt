@@ -27,10 +27,11 @@ use Rattle.policy_files.specs.Policies.{PolicyUser, PolicyValue}
 use Rattle.serve_engine.specs.Served.{Member}
 use Rattle.serve_engine.specs.Serving.{HasServed}
 use Rattle.cqe_top.specs.Audit.{user_named}
+use Rattle.cqe_top.specs.Copied.{counted_with}
 use Rattle.cqe_top.specs.Files.{both, said_on, journals_of, new_user}
 use Rattle.cqe_top.specs.Lives.{IsLeft, UsesJournals}
 use Rattle.cqe_top.specs.Promise.{Promise}
-use Rattle.cqe_top.specs.Scene.{shelf_of, input_of, output_of, links_of, scene_of}
+use Rattle.cqe_top.specs.Scene.{Scene, shelf_of, input_of, output_of, links_of, scene_of}
 
 -- ---- one call after another
 
@@ -169,9 +170,9 @@ module _ {F D S K E L Door Dial In Out : Type 0} (Shelf : ShelfGhosts F D) (Disk
     (Source : SourceGhosts S) (Sink : SinkGhosts K) (Complaints : SinkGhosts E)
     (Links : LinksGhosts L Door Dial In Out) (files : FileNames) (policy : PolicyValue)
     (world : FactSet) (header : List ℕ) where
-  -- A call of `batch`, `serve`, `audit` or `dossier` over these files, which say this policy, these
-  -- facts and this header: its words and its status, its objects before it and behind it, and what
-  -- `top` promised.
+  -- A call of `batch` or `serve`, with a standby or without, of `audit` or of `dossier` over these
+  -- files, which say this policy, these facts and this header: its words and its status, its
+  -- objects before it and behind it, and what `top` promised.
   pub record Promised : Type 0 where
     pub words : List Text
     pub status : ℕ
@@ -192,9 +193,16 @@ module _ {F D S K E L Door Dial In Out : Type 0} (Shelf : ShelfGhosts F D) (Disk
         (output_of Sink sink sink') (links_of Links links links'))
         (output_of Complaints complaints complaints') status
 
-  -- its journals
+  -- its objects
+  abbrev pub scene_at : Promised → Scene
+  scene_at call =
+      scene_of (shelf_of Shelf Disk call.shelf call.shelf')
+      (input_of Source call.source call.source') (output_of Sink call.sink call.sink')
+      (links_of Links call.links call.links')
+
+  -- its journals, where exchanges with a standby that failed are counted as `top` counts them
   abbrev pub journals_at : Promised → Journals
-  journals_at call = journals_of (shelf_of Shelf Disk call.shelf call.shelf') files
+  journals_at call = journals_of (counted_with (scene_at call) (reading_of call.words)).shelf files
 
   -- Of any number of such calls, of which each follows on the one before: whatever a crash leaves
   -- of a user's journal as the last ends, or could at a moment of it, is one history of them all.

@@ -29,7 +29,7 @@ CanBeChecked bytes name policy world header =
 module _ (shelf : ShelfScene) (input : Input) (output : Output) (files : FileNames) (user : Text)
   where
     -- The policy has a user of the name, and the check of his dossier ended so. With `Done` he is
-    -- admissible, and the history that the input shows is sound and hides.
+    -- admissible, and the history that the input shows is sound and hides soundly.
     abbrev pub ChecksOverFiles : CheckEnd → PolicyValue → FactSet → List ℕ → Type 0
     ChecksOverFiles end policy world header =
         (one : PolicyUser) × (user_named user policy.users ≡ Some one)

@@ -1,47 +1,81 @@
 -- The commands `batch` and `serve` with a standby, which copies their journals. What is promised of
 -- them is what is promised without one, where exchanges with the standby that failed are counted
--- with the faults of the users' disks, each with those of one disk.
-use Rattle.std.specs.Prelude.{◌≡◌, ◌⊎◌, ℕ, ◌+◌, false, List, sum_by, Option, Some, None}
-use Rattle.cqe_base.specs.Schema.{Text, has_duplicate}
+-- with the faults of the users' disks, each with those of the disk whose name its dial has. And
+-- each exchange calls the standby, and gives it the frame of some record of a user of the policy.
+use Rattle.std.specs.Prelude.{◌≡◌, ◌⊎◌, ℕ, ◌+◌, ◌-◌, ◌++◌, Bool, true, false, List, Option, Some}
+use Rattle.std.specs.List.{AllByRecursion, slice_get}
+use Rattle.outside.specs.Dials.{Exchange}
+use Rattle.cqe_base.specs.Facts.{FactSet}
+use Rattle.cqe_base.specs.Schema.{Text}
 use Rattle.command_words.specs.Readings.{FileNames, Reading, runs_copied_batch, runs_copied_serve}
-use Rattle.standby_core.specs.Slots.{RisesAtLeast}
+use Rattle.log_journal.specs.Opening.{header_bytes}
+use Rattle.log_journal.specs.declared.header.Header.{Header}
+use Rattle.policy_files.specs.Policies.{PolicyUser, PolicyValue}
+use Rattle.standby_core.specs.Calls.{IsExchangeOf}
+use Rattle.standby_core.specs.Users.{frame_user}
 use Rattle.cqe_top.specs.declared.end.CommandEnd.{CommandEnd}
 use Rattle.cqe_top.specs.declared.end.CommandEnd.TheVariants as command_end
 use Rattle.cqe_top.specs.Batch.{BatchEnds, BatchSucceeds}
-use Rattle.cqe_top.specs.Files.{IsUnread}
+use Rattle.cqe_top.specs.Files.{IsUnread, SayOn}
 use Rattle.cqe_top.specs.Scene.{Scene, LinksScene, SameInput, SameLinks, SameOutput, SameShelf}
 use Rattle.cqe_top.specs.Serve.{RunsServe, ServeSucceeds}
 
 -- ---- exchanges that failed
 
--- the scene where so many exchanges for the disk of each name failed in the call, if a standby was
--- there: they are counted as faults of that disk
-abbrev pub counted_with : Scene → Option (Text → ℕ) → Scene
-counted_with s None = s
-counted_with s (Some failed) = record s {
+-- whether the words name a standby that copies journals
+abbrev pub has_standby : Option Reading → Bool
+has_standby (Some (runs_copied_batch files workers standby)) = true
+has_standby (Some (runs_copied_serve files address workers limit standby)) = true
+has_standby reading = false
+
+-- how many exchanges failed in the call under a name
+abbrev pub failed_exchanges : LinksScene → Text → ℕ
+failed_exchanges links name = links.exchange_faults' name - links.exchange_faults name
+
+-- the scene where so many faults of the disk of each name are counted beside its own
+abbrev pub with_failed : Scene → (Text → ℕ) → Scene
+with_failed s failed = record s {
   shelf = record s.shelf { disk_faults' = λ name. s.shelf.disk_faults' name + failed name };
 }
 
--- the second count of the links rose by those of all disks together, or more
-abbrev pub AreCounted : LinksScene → (Text → ℕ) → Type 0
-AreCounted links failed = (names : List Text) → has_duplicate names ≡ false
-    → RisesAtLeast links.mirror.before (sum_by failed names) links.mirror.now
+-- the scene where exchanges that failed are so counted, or are not
+abbrev pub counted_by : Scene → Bool → Scene
+counted_by s false = s
+counted_by s true = with_failed s (failed_exchanges s.links)
 
--- a reading with a standby, whose exchanges are counted so
-abbrev pub Counts : LinksScene → (Text → ℕ) → Option Reading → Type 0
-Counts links failed (Some (runs_copied_batch files workers standby)) = AreCounted links failed
-Counts links failed (Some (runs_copied_serve files address workers limit standby)) =
-    AreCounted links failed
-Counts links failed reading = ⊥
+-- the scene of a call with this reading: they are counted where it has a standby
+abbrev pub counted_with : Scene → Option Reading → Scene
+counted_with s reading = counted_by s (has_standby reading)
 
--- exchanges are counted where the words name a standby, and there alone
-abbrev pub IsCounted : Scene → Option Reading → Option (Text → ℕ) → Type 0
-IsCounted s reading None = Unit {0}
-IsCounted s reading (Some failed) = Counts s.links failed reading
+-- ---- whom the dials call, and what they tell
+
+-- An exchange with the standby at this address told it of some record of a user of this policy,
+-- with this header. His name stands in the frame if it has room for it.
+abbrev pub IsExchangeFor : Text → PolicyValue → List ℕ → Exchange → Type 0
+IsExchangeFor standby policy header one =
+    (own : Header) × (header_bytes own ≡ header) × (place : ℕ) × (user : PolicyUser)
+    × (slice_get policy.users place ≡ Some user)
+    × IsExchangeOf standby own (frame_user user.name) one
+
+-- all that was exchanged in the call are such exchanges
+pub record CallsAlone (links : LinksScene) (standby : Text) (policy : PolicyValue)
+    (world : FactSet) (header : List ℕ) : Type 0 where
+  pub exchanges : List Exchange
+  pub further : links.exchanged' ≡ links.exchanged ++ exchanges
+  pub each : AllByRecursion (IsExchangeFor standby policy header) exchanges
+
+-- where the command ran, the standby alone was called, by what the files say, and else nobody
+abbrev pub CallsStandby : Scene → FileNames → Text → CommandEnd → Type 0
+CallsStandby s files standby (command_end.Batch users engine_end) =
+    s.shelf.tells → s.links.tells → SayOn s.shelf files (CallsAlone s.links standby)
+CallsStandby s files standby (command_end.Serve users engine_end) =
+    s.shelf.tells → s.links.tells → SayOn s.shelf files (CallsAlone s.links standby)
+CallsStandby s files standby end = s.links.tells → s.links.exchanged' ≡ s.links.exchanged
 
 -- ---- the commands
 
--- of the links' doors and connections all is as it was: the second count alone may have risen
+-- of the links' doors and connections all is as it was: the dials alone may be others, with what
+-- they exchanged and the second count
 pub record KeepsDoors (links : LinksScene) : Type 0 where
   pub faults : links.faults.now ≡ links.faults.before
   pub out : links.out' ≡ links.out
@@ -52,11 +86,13 @@ pub record KeepsDoors (links : LinksScene) : Type 0 where
   pub back : links.tells → links.back' ≡ links.back
   pub listened : links.tells → links.listened' ≡ links.listened
 
--- `batch` with a standby, as `OfBatch`: it listens nowhere, and opens connections to the standby,
--- or leaves the links alone
-pub record OfCopiedBatch (s : Scene) (files : FileNames) (end : CommandEnd) : Type 0 where
+-- `batch` with a standby at this address, as `OfBatch`: it listens nowhere, and opens connections
+-- to the standby, or leaves the links alone
+pub record OfCopiedBatch (s : Scene) (files : FileNames) (standby : Text) (end : CommandEnd)
+    : Type 0 where
   pub ends : BatchEnds s.shelf s.input s.output files end
   pub listens_nowhere : SameLinks s.links ⊎ KeepsDoors s.links
+  pub calls : CallsStandby s files standby end
   pub succeeds : BatchSucceeds s.shelf s.input s.output files end
 
 -- the ends that `serve` with a standby may have
@@ -69,10 +105,11 @@ CopiedServeEnds s files address workers limit command_end.Memory =
     SameShelf s.shelf × SameLinks s.links
 CopiedServeEnds s files address workers limit end = ⊥
 
--- `serve` with a standby, as `OfServe`
+-- `serve` with a standby at this address, as `OfServe`
 pub record OfCopiedServe (s : Scene) (files : FileNames) (address : Text) (workers limit : ℕ)
-    (end : CommandEnd) : Type 0 where
+    (standby : Text) (end : CommandEnd) : Type 0 where
   pub ends : CopiedServeEnds s files address workers limit end
   pub reads_nothing : SameInput s.input
   pub writes_nothing : SameOutput s.output
+  pub calls : CallsStandby s files standby end
   pub succeeds : ServeSucceeds s.shelf s.links files address workers limit end

@@ -35,8 +35,8 @@ module _ (shelf : ShelfScene) (files : FileNames) where
       → checked_bytes policy.schema world one.name one.profile text ≡ Ok is.entries
 
 module _ (shelf : ShelfScene) (output : Output) (files : FileNames) (user : Text) where
-  -- The policy has a user of the name, and the writing of his dossier ended so. Where what was
-  -- written is his dossier as one who is served, and isn't too long, it is accepted.
+  -- The policy has a user of the name, and the writing of his dossier ended so. Each text that is
+  -- his dossier as one who is served is accepted, where it isn't too long.
   abbrev pub ShowsOverFiles : DossierEnd → PolicyValue → FactSet → List ℕ → Type 0
   ShowsOverFiles end policy world header =
       (one : PolicyUser) × (user_named user policy.users ≡ Some one)

@@ -11,7 +11,8 @@ use Rattle.batch_engine.specs.Batch.{EndsBatch}
 use Rattle.batch_engine.specs.Joining.{BatchesJoin, CutBatchesJoin, LateBatchesJoin}
 use Rattle.batch_engine.specs.declared.run.BatchEnd.{BatchEnd}
 use Rattle.command_words.specs.Readings.{Reading, FileNames, reading_of, runs_batch, runs_audit}
-use Rattle.command_words.specs.Readings.{runs_serve, runs_dossier}
+use Rattle.command_words.specs.Readings.{runs_serve, runs_dossier, runs_copied_batch}
+use Rattle.command_words.specs.Readings.{runs_copied_serve}
 use Rattle.policy_files.specs.Policies.{PolicyUser, PolicyValue}
 use Rattle.cqe_top.specs.declared.end.CommandEnd.TheVariants as command_end
 use Rattle.cqe_top.specs.Files.{both, said_on, SayOn, journals_of, new_users}
@@ -80,12 +81,15 @@ module _ (journals : Journals) (policy : PolicyValue) (world : FactSet) (header 
       ⊎ AllByRecursion (λ user. (left : List ℕ) → IsLeft journals user.name left
       → LeavesPart user left) policy.users
 
--- a command that uses the journals of these files: a batch, an audit, a server or a dossier
+-- a command that uses the journals of these files: a batch or a server, each with a standby or
+-- without, an audit or a dossier
 abbrev pub UsesJournals : FileNames → Option Reading → Type 0
 UsesJournals files (Some (runs_batch its workers)) = its ≡ files
 UsesJournals files (Some (runs_audit its user json)) = its ≡ files
 UsesJournals files (Some (runs_serve its address workers limit)) = its ≡ files
 UsesJournals files (Some (runs_dossier its user)) = its ≡ files
+UsesJournals files (Some (runs_copied_batch its workers standby)) = its ≡ files
+UsesJournals files (Some (runs_copied_serve its address workers limit standby)) = its ≡ files
 UsesJournals files reading = ⊥
 
 -- Whatever `top` promised of a call that uses the journals of files that can be read, it is to each

@@ -15,7 +15,7 @@ use Rattle.cqe_top.specs.Batch.{OfBatch}
 use Rattle.cqe_top.specs.Case.{OfCase}
 use Rattle.cqe_top.specs.Check.{OfCheck}
 use Rattle.cqe_top.specs.Complaints.{complaint_of}
-use Rattle.cqe_top.specs.Copied.{OfCopiedBatch, OfCopiedServe, counted_with, IsCounted}
+use Rattle.cqe_top.specs.Copied.{OfCopiedBatch, OfCopiedServe, counted_with}
 use Rattle.cqe_top.specs.Dossier.{OfDossier}
 use Rattle.cqe_top.specs.Init.{OfInit}
 use Rattle.cqe_top.specs.Migrate.{OfMigrate}
@@ -44,9 +44,10 @@ OfReading s (Some (runs_serve files address workers limit)) end =
 OfReading s (Some (runs_migrate files to)) end = OfMigrate s files to end
 OfReading s (Some (runs_dossier files user)) end = OfDossier s files user end
 OfReading s (Some (runs_check policy facts user)) end = OfCheck s policy facts user end
-OfReading s (Some (runs_copied_batch files workers standby)) end = OfCopiedBatch s files end
+OfReading s (Some (runs_copied_batch files workers standby)) end =
+    OfCopiedBatch s files standby end
 OfReading s (Some (runs_copied_serve files address workers limit standby)) end =
-    OfCopiedServe s files address workers limit end
+    OfCopiedServe s files address workers limit standby end
 OfReading s (Some (runs_standby files address limit)) end = OfStandby s files address limit end
 
 -- of a shelf, whatever comes: its files are what they were, no disk is out, and no count of faults
@@ -58,32 +59,33 @@ pub record KeepsShelf (shelf : ShelfScene) : Type 0 where
   pub faults : HasNotFallen shelf.faults
 
 -- Whatever comes: the shelf is kept so, the input holds what it held, and what is left in it is the
--- rest of what was left before; as many doors are out as before, and no count of faults fell,
--- neither of the input nor of the output nor of the links, nor the links' second count.
+-- rest of what was left before; as many doors are out as before, and as many dials aren't hung up;
+-- and no count of faults fell, neither of the input nor of the output nor of the links, nor the
+-- links' second count of any name.
 pub record Always (s : Scene) : Type 0 where
   pub shelf : KeepsShelf s.shelf
   pub held : s.input.held' ≡ s.input.held
   pub left : s.input.tells → IsRest s.input.left s.input.left'
   pub doors : s.links.out' ≡ s.links.out
+  pub dials : s.links.dialling' ≡ s.links.dialling
   pub input_faults : HasNotFallen s.input.faults
   pub output_faults : HasNotFallen s.output.faults
   pub links_faults : HasNotFallen s.links.faults
-  pub mirror_faults : HasNotFallen s.links.mirror
+  pub exchange_faults : NoneFell s.links.exchange_faults s.links.exchange_faults'
 
--- So it was done: with exchanges that failed counted as faults of the disks, all holds that the
--- reading says of this end; a fault that is told has its cause, and what holds whatever comes does.
+-- So it was done: with exchanges that failed counted as faults of the disks of their names, all
+-- holds that the reading says of this end; a fault that is told has its cause, and what holds
+-- whatever comes does.
 pub record Does (s : Scene) (reading : Option Reading) (end : CommandEnd) : Type 0 where
-  pub exchanges : Option (Text → ℕ)
-  pub counted : IsCounted s reading exchanges
-  pub command : OfReading (counted_with s exchanges) reading end
-  pub cause : FaultsHaveCauses (counted_with s exchanges) end
-  pub always : Always (counted_with s exchanges)
+  pub command : OfReading (counted_with s reading) reading end
+  pub cause : FaultsHaveCauses (counted_with s reading) end
+  pub always : Always (counted_with s reading)
 
 -- There is an end, of which all holds that the reading of the words says; where they name a standby
--- exchanges with it that failed are counted as faults of the users' disks, each of one disk. The
--- status is that of this end, and so is the complaint: it was written whole, or where the count of
--- the complaints rose a part of it. A fault that is told has its cause. What holds whatever comes
--- does, and the count of the complaints didn't fall either.
+-- exchanges with it that failed are counted as faults of the users' disks, each of that whose name
+-- its dial has. The status is that of this end, and so is the complaint: it was written whole, or
+-- where the count of the complaints rose a part of it. A fault that is told has its cause. What
+-- holds whatever comes does, and the count of the complaints didn't fall either.
 pub record Promise (words : List Text) (s : Scene) (complaints : Output) (status : ℕ)
     : Type 0 where
   pub end : CommandEnd

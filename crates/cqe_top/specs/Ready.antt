@@ -47,7 +47,8 @@ IsOpenable journals policy world header user =
     × Opens policy.schema world user.profile header entries (journals.bytes user.name))
     × HasNoFault journals user
 
--- so it is with each user of the policy
+-- as the call begins the journal of each user of the policy stands for a legal history of his
+-- within the limits, and its disk has no fault in the call
 abbrev pub CanBeOpened : Journals → PolicyValue → FactSet → List ℕ → Type 0
 CanBeOpened journals policy world header =
     AllByRecursion (λ user. IsOpenable journals policy world header user) policy.users

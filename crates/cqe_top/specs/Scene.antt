@@ -8,6 +8,7 @@
 -- nothing that is proved, so of them each such clause is what holds as far as the system does what
 -- the object in memory does.
 use Rattle.std.specs.Prelude.{◌≡◌, ℕ, ◌≤◌, Bool, List, Option}
+use Rattle.outside.specs.Dials.{Exchange}
 use Rattle.outside.specs.Faults.{Rose}
 use Rattle.outside.specs.Shelf.{SameNames}
 use Rattle.outside.specs.Visits.{Visit, Place}
@@ -78,7 +79,7 @@ pub record ShelfScene : Type 1 where
   pub object : Object
   pub object' : Object
 
--- The links, with the doors through which connections come.
+-- The links, with the doors through which connections come, and the dials that call a standby.
 pub record LinksScene : Type 1 where
   -- what comes in and goes back is told
   pub tells : Type 0
@@ -105,8 +106,15 @@ pub record LinksScene : Type 1 where
   pub listened' : List Place
   -- their count of faults
   pub faults : Count
-  -- their second count: exchanges with a standby that failed, by dials that were hung up
-  pub mirror : Count
+  -- how many dials aren't hung up
+  pub dialling : ℕ
+  pub dialling' : ℕ
+  -- what those exchanged that were hung up
+  pub exchanged : List Exchange
+  pub exchanged' : List Exchange
+  -- their second count: under each name the exchanges that failed of the dials of that name
+  pub exchange_faults : Text → ℕ
+  pub exchange_faults' : Text → ℕ
   -- the links themselves
   pub Object : Type 0
   pub object : Object
@@ -187,7 +195,12 @@ links_of {L} Links old new = record {
   listened = Links.listened old;
   listened' = Links.listened new;
   faults = record { before = Links.faults old; now = Links.faults new };
-  mirror = record { before = Links.mirror old; now = Links.mirror new };
+  dialling = Links.dialling old;
+  dialling' = Links.dialling new;
+  exchanged = Links.exchanged old;
+  exchanged' = Links.exchanged new;
+  exchange_faults = Links.exchange_faults old;
+  exchange_faults' = Links.exchange_faults new;
   Object = L;
   object = old;
   object' = new;
@@ -208,15 +221,15 @@ HasRisen count = Rose count.before count.now
 abbrev pub HasNotFallen : Count → Type 0
 HasNotFallen count = count.before ≤ count.now
 
--- the object is the same in every respect
+-- the input is the same object in every respect
 abbrev pub SameInput : Input → Type 0
 SameInput input = input.object' ≡ input.object
 
--- so is a sink
+-- the output is the same object in every respect
 abbrev pub SameOutput : Output → Type 0
 SameOutput output = output.object' ≡ output.object
 
--- so is a shelf, with its disks
+-- the shelf is the same object in every respect, with its disks
 abbrev pub SameShelf : ShelfScene → Type 0
 SameShelf shelf = shelf.object' ≡ shelf.object
 
@@ -229,6 +242,11 @@ SameDisks shelf =
 -- links are the same in every respect
 abbrev pub SameLinks : LinksScene → Type 0
 SameLinks links = links.object' ≡ links.object
+
+-- nobody was called by a dial that was hung up
+pub record CallsNobody (links : LinksScene) : Type 0 where
+  pub exchanged : links.tells → links.exchanged' ≡ links.exchanged
+  pub exchange_faults : SameNames links.exchange_faults links.exchange_faults'
 
 -- all four are the same
 pub record IsUntouched (s : Scene) : Type 0 where

@@ -18,7 +18,7 @@ use Rattle.cqe_top.specs.Files.{SayOn, LooksAtBoth, IsUnread, TouchesOnlyJournal
 use Rattle.cqe_top.specs.Files.{AreUsersOf}
 use Rattle.cqe_top.specs.Ready.{CanBeOpened}
 use Rattle.cqe_top.specs.Reports.{IsDoneUnlessMemory}
-use Rattle.cqe_top.specs.Scene.{Scene, ShelfScene, LinksScene, HasRisen}
+use Rattle.cqe_top.specs.Scene.{Scene, ShelfScene, LinksScene, HasRisen, CallsNobody}
 use Rattle.cqe_top.specs.Scene.{SameDisks, SameShelf, SameInput, SameOutput, SameLinks}
 
 -- the links listened once more, at this address and with so many doors
@@ -91,4 +91,5 @@ pub record OfServe (s : Scene) (files : FileNames) (address : Text) (workers lim
   pub ends : ServeEnds s.shelf s.links files address workers limit end
   pub reads_nothing : SameInput s.input
   pub writes_nothing : SameOutput s.output
+  pub calls_nobody : CallsNobody s.links
   pub succeeds : ServeSucceeds s.shelf s.links files address workers limit end

@@ -18,15 +18,16 @@ use Rattle.cqe_top.specs.Files.{SayOn, LooksAtBoth, IsUnread, TouchesOnlyJournal
 use Rattle.cqe_top.specs.Files.{AreUsersOf}
 use Rattle.cqe_top.specs.Ready.{CanBeCopied}
 use Rattle.cqe_top.specs.Reports.{IsDoneUnlessMemory}
-use Rattle.cqe_top.specs.Scene.{Scene, ShelfScene, LinksScene, HasRisen}
+use Rattle.cqe_top.specs.Scene.{Scene, ShelfScene, LinksScene, HasRisen, CallsNobody}
 use Rattle.cqe_top.specs.Scene.{SameDisks, SameShelf, SameInput, SameOutput, SameLinks}
 use Rattle.cqe_top.specs.Serve.{ListensAt}
 
 module _ (shelf : ShelfScene) (links : LinksScene) (files : FileNames) (address : Text)
     (limit : ℕ) where
-  -- Each connection was served by the copies of these users' journals, as they were opened and as
-  -- a crash leaves them; and whatever a crash leaves of a journal that was opened has the records
-  -- that it had.
+  -- Each connection was served by the copies of these users' journals. A copy began with the
+  -- records of its journal, and a crash as the call ends leaves the records that it came to; of one
+  -- whose append failed it may leave one more. At each moment since a journal was opened a crash
+  -- leaves the records that it had, and some first ones of those that came.
   pub record CopiesOverFiles (users : Vec User Global) (end : CopyEnd) (policy : PolicyValue)
       (world : FactSet) (header : List ℕ) : Type 0 where
     pub of_policy : AreUsersOf users policy
@@ -73,4 +74,5 @@ pub record OfStandby (s : Scene) (files : FileNames) (address : Text) (limit : �
   pub ends : StandbyEnds s.shelf s.links files address limit end
   pub reads_nothing : SameInput s.input
   pub writes_nothing : SameOutput s.output
+  pub calls_nobody : CallsNobody s.links
   pub succeeds : StandbySucceeds s.shelf s.links files address limit end

@@ -103,7 +103,7 @@ KeepsBounds files (Migrate to) = bytes_eq files.directory to.now ≡ false
 KeepsBounds files (Serve listening) = ServesBounds listening.workers listening.sessions
 KeepsBounds files (Standby copying) = copying.sessions ≤ 2 ^ 30
 
--- so are those of a batch and of a server with a standby
+-- the numbers of a batch and of a server with a standby are within their bounds
 abbrev pub KeepsCopiedBounds : CopiedTask → Type 0
 KeepsCopiedBounds (copied.Batch workers) = WorkersBounds workers
 KeepsCopiedBounds (copied.Serve listening) = ServesBounds listening.workers listening.sessions

@@ -40,12 +40,13 @@ use std::thread::Threads;
 /// such a text from the source, over a policy and facts alone, and says whether it is sound.
 /// `standby` reads the same files as `serve` and appends to the users' journals the records that
 /// another program gives it over connections at an address, one after the other. With a standby at
-/// an address `batch` and `serve` tell a mark only once the standby answered that it has its
-/// record.
+/// an address the disks of `batch` and `serve` let a mark be told once the standby answered a count
+/// above the number of its record (`standby_core`).
 /// What can't be done is said to the complaints; where they fail too, nothing else changes.
 ///
 /// No clause speaks of the gate, and none says that users of a batch or connections are served side
-/// by side.
+/// by side. Of a standby they say whom the dials call and of whose records they tell, and not that
+/// it was told at all.
 pub fn top<
     R: Threads + Wait + Sync,
     F: Shelf,

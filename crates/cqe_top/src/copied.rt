@@ -1,6 +1,6 @@
 //! The commands `batch` and `serve` with a standby, which copies their journals.
 ghost use Rattle.std.specs.Prelude.{◌≡◌, ◌⊎◌, ◌≤◌, ◌<◌, ◌+◌, ◌++◌, ◌∷◌, ◌^◌, [], List, ℕ, Some};
-ghost use Rattle.std.specs.Prelude.{map};
+ghost use Rattle.std.specs.Prelude.{map, length, false};
 ghost use Rattle.outside.specs.Faults.{Rose};
 ghost use Rattle.outside.specs.Shelf.{SameNames, SameBeside, NoneOut, NoneFell, SomeRose};
 ghost use Rattle.outside.specs.Visits.{place_of};
@@ -12,7 +12,9 @@ ghost use Rattle.line_protocol.specs.Rests.{IsRest};
 ghost use Rattle.log_journal.specs.Opening.{header_bytes};
 ghost use Rattle.serve_engine.specs.Serving as serving;
 ghost use Rattle.serve_engine.specs.Serving.{IsDone};
-ghost use Rattle.standby_core.specs.Slots.{dial_faults};
+ghost use Rattle.standby_core.specs.MirrorSets.{slots_of, dial_faults};
+ghost use Rattle.standby_core.specs.Places.{is_away};
+ghost use Rattle.standby_core.specs.Slots.{place_at, slot_texts, there_among};
 ghost use Rattle.cqe_top.specs.Promise.{Does};
 ghost use Rattle.cqe_top.specs.Scene.{scene_of, shelf_of, input_of, output_of, links_of};
 ghost use Rattle.cqe_top.specs.Steps.{reading_copied, KeepsCopiedBounds, copied_journals};
@@ -157,6 +159,10 @@ where
     requires names { HaveOwnNames registry.now.users.now }
     requires inside { NoneOut (F.is_out shelf.old) }
     requires fresh { (name : List ℕ) → dial_faults C.faults mirrors.old name ≡ 0 }
+    requires there { (name : List ℕ) → is_away (place_at (slots_of mirrors.old) name) ≡ false }
+    ensures made { map (slot_texts C.name C.address) (slots_of mirrors.new)
+        ≡ map (slot_texts C.name C.address) (slots_of mirrors.old) }
+    ensures all_there { there_among (slots_of mirrors.new) ≡ length (slots_of mirrors.new) }
     ensures ends { F.tells → S.tells → K.tells
         → batch.EndsBatch registry.now.schema.now registry.now.world.now
         (header_bytes registry.now.header.now)
@@ -239,6 +245,10 @@ where
     requires few { listening.workers ≤ 64 }
     requires most { listening.sessions ≤ 2 ^ 30 }
     requires fresh { (name : List ℕ) → dial_faults C.faults mirrors.old name ≡ 0 }
+    requires there { (name : List ℕ) → is_away (place_at (slots_of mirrors.old) name) ≡ false }
+    ensures made { map (slot_texts C.name C.address) (slots_of mirrors.new)
+        ≡ map (slot_texts C.name C.address) (slots_of mirrors.old) }
+    ensures all_there { there_among (slots_of mirrors.new) ≡ length (slots_of mirrors.new) }
     ensures ends { F.tells → L.tells
         → serving.EndsServing registry.now.schema.now registry.now.world.now
         (header_bytes registry.now.header.now)
@@ -288,7 +298,10 @@ where
         (F.disk_faults shelf.old)
         (copied_counts (F.disk_faults shelf.new) (dial_faults C.faults mirrors.new)) }
     ensures out { L.out links.new ≡ L.out links.old }
-    ensures mirror { L.mirror links.new ≡ L.mirror links.old }
+    ensures dialling { L.dialling links.new ≡ L.dialling links.old }
+    ensures exchanged { L.tells → L.exchanged links.new ≡ L.exchanged links.old }
+    ensures exchange_faults { SameNames (L.exchange_faults links.old)
+        (L.exchange_faults links.new) }
     ensures shelf_later { F.faults shelf.old ≤ F.faults shelf.new }
     ensures links_later { L.faults links.old ≤ L.faults links.new }
     ensures shelf_cause { result ≡ ServeEnd.ShelfFault

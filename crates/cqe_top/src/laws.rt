@@ -61,11 +61,12 @@ pub fn law_calls_are_parts<F: Shelf, S: Source, K: Sink, E: Sink, L: Links>(
         (output_of E.Sink call.now.complaints.now call.now.complaints_behind.now) }
 {}
 
-/// Any number of calls of `batch`, `serve`, `audit` and `dossier` over the same files, of which
-/// each follows on the one before, leave a user one history, by what `top` promises of each:
-/// whatever their ends, and whatever a crash leaves of his journal as the last ends or at a moment
-/// of it. It goes on from the history with which the first began, it is legal and hides, and the
-/// entries of all that a call had told him by the time when the next began stand in it.
+/// Any number of calls of `batch` and `serve`, with a standby or without, of `audit` and of
+/// `dossier` over the same files, of which each follows on the one before, leave a user one
+/// history, by what `top` promises of each: whatever their ends, and whatever a crash leaves of his
+/// journal as the last ends or at a moment of it. It goes on from the history with which the first
+/// began, it is legal and hides, and the entries of all that a call had told him by the time when
+/// the next began stand in it.
 ///
 /// Premises about the world: that each call follows on the one before (`FollowsOn`), so that nobody
 /// else writes his journal between two calls; that the two files say the same in each; and that all

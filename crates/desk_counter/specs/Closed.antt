@@ -22,8 +22,9 @@ use Rattle.desk_counter.specs.Sole.{IsAsOpened}
 -- within the limits; they are those that it was put under the counter with and then the pass's own,
 -- with one entry in flight at most; only of a user who is served are there any; the count rose
 -- where an append failed; where none did, the disk has grown for the entries alone; and where
--- nothing was appended it is as it was at the opening. Since the opening each image opens a desk
--- with a beginning of the history, with the entry in flight, that has all entries at the opening.
+-- nothing was appended it is as it was at the opening; it comes from where it came. Since the
+-- opening each image opens a desk with a beginning of the history, with the entry in flight, that
+-- has all entries at the opening.
 pub record IsClosed {D : Type 0} (Disk : DiskGhosts D) (kept : Fixed D)
     (first own pairs : Entries TurnItem) (disk : D) : Type 0 where
   pub holds : Disk.tells → is_sealed kept.standing ≡ false → (c : List ℕ) → Disk.image disk c
@@ -43,5 +44,6 @@ pub record IsClosed {D : Type 0} (Disk : DiskGhosts D) (kept : Fixed D)
       → Disk.image_since disk (Disk.moment kept.disk) c
       → OpensWithin kept.schema kept.world kept.user kept.header (length kept.opening)
       (history_of pairs ++ option_to_list (flying pairs)) c
+  pub comes : Disk.origin disk ≡ Disk.origin kept.disk
   pub time : Elapses (Disk.moment kept.disk) (Disk.moment disk) (Disk.image_since kept.disk)
       (Disk.image_since disk)

@@ -2,6 +2,7 @@ pub mod Taken
 pub mod Shelving
 pub mod Placing
 pub mod Reopening
+pub mod Owning
 pub mod Taking
 pub mod Asking
 pub mod Seated

@@ -110,6 +110,7 @@ module _ {D : Type 0} (Disk : DiskGhosts D) where
     reads_same = refl;
     images = λ c is. is;
     later = omega arith;
+    comes = refl;
     time = elapses_none (Disk.moment d) (Disk.image_since d) (Disk.image d) (counts_now d) (only_now d);
     rests = only_now d;
   }
@@ -119,6 +120,7 @@ module _ {D : Type 0} (Disk : DiskGhosts D) where
     reads_same = second.reads_same ∙ first.reads_same;
     images = λ bytes is. first.images bytes (second.images bytes is);
     later = omega (arith, first.later, second.later);
+    comes = second.comes ∙ first.comes;
     time = elapses_then (Disk.moment a) (Disk.moment b) (Disk.moment c) (Disk.image_since a) (Disk.image_since b) (Disk.image_since c) first.time
         second.time;
     rests = over_both (Disk.moment a) (Disk.moment b) (Disk.moment c) (Disk.image_since b) (Disk.image_since c) (Disk.image a) first.time.later second.time

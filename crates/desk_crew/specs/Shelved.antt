@@ -104,6 +104,13 @@ abbrev pub AreLater : {D : Type 0} {g h : _} → (D → ℕ) → (Text → ℕ) 
 AreLater faults count seats =
     AllByRecursion (λ seat. count (seat_journal seat) ≤ faults (seat_disk seat)) seats
 
+-- the disk of each seat comes from where the shelf knows the one under its journal's name to come
+-- from
+abbrev pub AreOwn : {D : Type 0} {g h : _} → (D → List (List ℕ)) → (Text → List (List ℕ))
+    → List (DeskSeat D g h) → Type 0
+AreOwn origin known seats =
+    AllByRecursion (λ seat. origin (seat_disk seat) ≡ known (seat_journal seat)) seats
+
 module _ {D : Type 0} (told : Type 0) (Disk : DiskGhosts D) where
   -- a seat's disk is back, as its desk left it or as one more opening did
   pub record IsBack {g h : _} (disk : Text → Option D) (count : Text → ℕ) (seat : DeskSeat D g h) :

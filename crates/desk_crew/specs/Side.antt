@@ -98,6 +98,22 @@ OpeningsLater faults count openings =
     AllByRecursion (λ opening. count (opening_journal opening) ≤ opening_faults faults opening)
     openings
 
+-- where its disk comes from
+abbrev pub place_origin : {D : Type 0} {g h : _} → (D → List (List ℕ)) → Option (DeskPlace D g h)
+    → List (List ℕ)
+place_origin origin None = []
+place_origin origin (Some place) = origin (disk_seated place)
+
+-- the disk of a journal comes from where the shelf knows the one under its name to come from
+abbrev pub IsOwn : {D : Type 0} {g h : _} → (D → List (List ℕ)) → (Text → List (List ℕ))
+    → DeskOpening D g h → Type 0
+IsOwn origin known opening = place_origin origin opening.place ≡ known (opening_journal opening)
+
+-- so it is with each
+abbrev pub OpeningsOwn : {D : Type 0} {g h : _} → (D → List (List ℕ)) → (Text → List (List ℕ))
+    → List (DeskOpening D g h) → Type 0
+OpeningsOwn origin known openings = AllByRecursion (IsOwn origin known) openings
+
 -- a journal was shut with this disk: its desk was closed, or it was on it
 abbrev pub IsShut : {D : Type 0} {g h : _} → DiskGhosts D → DeskPlace D g h → D → Type 0
 IsShut Disk (Ok seat) disk = IsClosed Disk seat.desk disk
@@ -181,6 +197,7 @@ module _ (schema : DatabaseSchema) (world : FactSet) where
     IsTriedAt user before (Err closed) now =
         IsPlaced user (string_bytes closed.journal) before closed.disk now
 
+    -- where its place was there before, it is there now, and was tried so
     abbrev pub IsTriedFrom : {g h : _} → User → Option DeskError → Option (DeskPlace D g h)
         → Option (DeskPlace D g h) → Type 0
     IsTriedFrom {g} {h} user before None new = Unit {0}

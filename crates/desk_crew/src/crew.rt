@@ -14,9 +14,10 @@ ghost use Rattle.desk_crew.specs.Crew.{seat_broke, IsSeatServed, AreReopened};
 ghost use Rattle.outside.specs.Shelf.{SameBeside, AllOut, AllIn, NoneOut, NoneFell, AreOut};
 ghost use Rattle.outside.specs.Shelf.{SameBytes, NoNewImages, NoNewMoments};
 ghost use Rattle.desk_crew.specs.Shelved.{journals};
-ghost use Rattle.desk_crew.specs.Shelved.{AreLater, AreBack, AreSeatsOf};
+ghost use Rattle.desk_crew.specs.Shelved.{AreLater, AreOwn, AreBack, AreSeatsOf};
 ghost use Rattle.desk_crew.specs.Side.{IsAtDisk, HasPlace, opening_journal, opening_journals};
-ghost use Rattle.desk_crew.specs.Side.{opening_faults, OpeningsLater, IsPutBack, ArePutBack};
+ghost use Rattle.desk_crew.specs.Side.{opening_faults, OpeningsLater, IsOwn, OpeningsOwn};
+ghost use Rattle.desk_crew.specs.Side.{IsPutBack, ArePutBack};
 ghost use Rattle.desk_crew.specs.Side.{KeepsOpening, IsKnown, AreSeatsFrom, IsTakenFor};
 ghost use Rattle.desk_crew.specs.declared.crew.NotOpened.{NotOpened};
 ghost use Rattle.desk_crew.specs.Registered.{AllKeepLimits, SeatsKeepLimits};
@@ -56,6 +57,7 @@ pub fn give_back<F: Shelf>(shelf: &mut F, seats: Vec<DeskSeat<'_, F::D>>) -> boo
     requires distinct { has_duplicate (journals seats.items) ≡ false }
     requires out { AllOut (journals seats.items) (F.is_out shelf.old) }
     requires later { AreLater F.D.faults (F.disk_faults shelf.old) seats.items }
+    requires own { AreOwn F.D.origin (F.lent shelf.old).origin seats.items }
     ensures broke { result ≡ list_any seat_broke seats.entry.items }
     ensures back { AreBack F.tells F.D.Disk (F.disk shelf.new)
         (F.disk_faults shelf.new) seats.entry.items }
@@ -86,6 +88,7 @@ fn return_one<F: Shelf>(shelf: &mut F, opening: DeskOpening<'_, F::D>)
     requires out { F.is_out shelf.old (opening_journal opening) ≡ true }
     requires later { F.disk_faults shelf.old (opening_journal opening)
         ≤ opening_faults F.D.faults opening }
+    requires own { IsOwn F.D.origin (F.lent shelf.old).origin opening }
     ensures back { IsPutBack F.tells F.D.Disk (F.disk shelf.new) (F.disk_faults shelf.new)
         opening.entry }
     ensures inside { F.is_out shelf.new (opening_journal opening.entry) ≡ false }
@@ -112,6 +115,7 @@ fn return_all<F: Shelf>(shelf: &mut F, openings: Vec<DeskOpening<'_, F::D>>)
     requires distinct { has_duplicate (opening_journals openings.items) ≡ false }
     requires out { AllOut (opening_journals openings.items) (F.is_out shelf.old) }
     requires later { OpeningsLater F.D.faults (F.disk_faults shelf.old) openings.items }
+    requires own { OpeningsOwn F.D.origin (F.lent shelf.old).origin openings.items }
     ensures back { ArePutBack F.tells F.D.Disk (F.disk shelf.new)
         (F.disk_faults shelf.new) openings.entry.items }
     ensures inside { AllIn (opening_journals openings.entry.items) (F.is_out shelf.new) }
@@ -153,6 +157,7 @@ where
     requires distinct { has_duplicate (opening_journals openings.items) ≡ false }
     requires out { AllOut (opening_journals openings.items) (F.is_out shelf.old) }
     requires later { OpeningsLater F.D.faults (F.disk_faults shelf.old) openings.items }
+    requires own { OpeningsOwn F.D.origin (F.lent shelf.old).origin openings.items }
     requires empty { room.items ≡ [] }
     requires room { length openings.items ≤ vec_capacity room }
     ensures opened { IfSome result (λ seats.
@@ -202,6 +207,7 @@ where
     requires distinct { has_duplicate (journals seats.items) ≡ false }
     requires out { AllOut (journals seats.items) (F.is_out shelf.old) }
     requires later { AreLater F.D.faults (F.disk_faults shelf.old) seats.items }
+    requires own { AreOwn F.D.origin (F.lent shelf.old).origin seats.items }
     ensures reopened { IfSome result (λ reopened.
         AreReopened registry.now.schema.now registry.now.world.now
         (header_bytes registry.now.header.now) F.D.Disk seats.entry.items reopened.items) }
@@ -242,6 +248,7 @@ fn take_one<'w, F: Shelf>(
     ensures taken { IfOk result
         (IsTakenFor F.tells F.D.Disk registry.now.directory.now (F.disk shelf.old)
         (F.disk_faults shelf.old) user.now) }
+    ensures own { IfOk result (IsOwn F.D.origin (F.lent shelf.old).origin) }
     ensures out { OnOk result
         (F.is_out shelf.new (journal_name registry.now.directory.now (string_bytes user.now.name))
         ≡ true) }
@@ -299,6 +306,8 @@ where
         (header_bytes registry.now.header.now) registry.now.directory.now (F.disk shelf.old)
         (F.disk_faults shelf.old) registry.now.users.now seats.items) }
     ensures out { IfOk result (λ seats. AreOut (journals seats.items) (F.is_out shelf.new)) }
+    ensures own { IfOk result
+        (λ seats. AreOwn F.D.origin (F.lent shelf.new).origin seats.items) }
     ensures disks { SameBeside
         (registered_journals registry.now.directory.now registry.now.users.now) (F.disk shelf.old)
         (F.disk shelf.new) }

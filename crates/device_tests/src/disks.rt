@@ -92,6 +92,8 @@ impl Disk for UntoldDisk {
 
     ghost told = { λ d. 2 ^ 64 };
 
+    ghost origin = { λ d. [] };
+
     ghost read_is_image = { λ d told. told };
 
     ghost counts_now = { λ d t c le now. now };

@@ -4,7 +4,7 @@ use outside::{
     Connection, Dial, Door, Failed, Links, LinksError, MemoryDial, MemoryDoor, MemoryLinks,
     MemorySink, MemorySource, Plan, Sink, Source, write_all,
 };
-use std::alloc::Global;
+use std::alloc::{AllocError, Global};
 use std::process::Abort;
 use std::test::Fail;
 
@@ -189,25 +189,43 @@ fn dials_are_answered_by_plan(rt: HostRuntime) -> Result<(), Fail> {
     let alloc = rt.alloc();
     let mut links = MemoryLinks::new(alloc, Vec::new(alloc));
     links.plan_dials(vec![in alloc; Plan::At(vec![in alloc; 1]?), Plan::From(0)]?);
-    let mut first = links.dial(alloc, "127.0.0.1:7008")?;
-    let mut second = links.dial(alloc, "127.0.0.1:7008")?;
-    let mut third = links.dial(alloc, "127.0.0.1:7008")?;
+    let mut first = links.dial(alloc, "127.0.0.1:7008", "anna.journal")?;
+    let mut second = links.dial(alloc, "127.0.0.1:7008", "bert.journal")?;
+    let mut third = links.dial(alloc, "127.0.0.1:7008", "anna.journal")?;
     assert_eq!(rt; first.exchange(b"ab", 4), Ok(5));
     assert_eq!(rt; first.exchange(b"cd", 5), Err(Failed));
     assert_eq!(rt; first.exchange(b"cd", 5), Ok(6));
     assert_eq!(rt; second.exchange(b"ef", 0), Err(Failed));
-    assert_eq!(rt; third.exchange(b"gh", u64::MAX), Err(Failed));
-    assert_eq!(rt; links.mirror(), 0);
+    assert_eq!(rt; third.exchange(b"gh", u64::MAX - 2), Ok(u64::MAX - 1));
     links.hang_up(first);
     links.hang_up(second);
     links.hang_up(third);
-    assert_eq!(rt; links.mirror(), 3);
     assert_eq!(rt; links.faults(), 0);
     let back = links.dials_back();
+    assert_eq!(rt; back.len(), 3);
+    assert_eq!(rt; back.first().map(MemoryDial::name), Some("anna.journal"));
+    assert_eq!(rt; back.first().map(MemoryDial::faults), Some(1));
     assert_eq!(rt;
-        back.first().map(MemoryDial::frames),
-        Some(b"abcd".as_slice())
+        frames_of(alloc, back.first())?.as_slice(),
+        b"abcd".as_slice()
     );
-    assert_eq!(rt; back.get(1).map(MemoryDial::frames), Some(b"".as_slice()));
+    assert_eq!(rt; back.get(1).map(MemoryDial::name), Some("bert.journal"));
+    assert_eq!(rt; back.get(1).map(MemoryDial::faults), Some(1));
+    assert_eq!(rt; frames_of(alloc, back.get(1))?.as_slice(), b"".as_slice());
+    assert_eq!(rt; back.get(2).map(MemoryDial::name), Some("anna.journal"));
+    assert_eq!(rt; back.get(2).map(MemoryDial::faults), Some(0));
+    assert_eq!(rt; frames_of(alloc, back.get(2))?.as_slice(), b"gh".as_slice());
     Ok(())
+}
+
+// The frames that a dial was answered, one behind the other.
+fn frames_of(alloc: Global, dial: Option<&MemoryDial>) -> Result<Vec<u8>, AllocError> {
+    let mut frames = Vec::new(alloc);
+    let Some(dial) = dial else {
+        return Ok(frames);
+    };
+    for one in dial.exchanges() {
+        frames.extend_from_slice(one.frame.as_slice())?;
+    }
+    Ok(frames)
 }

@@ -7,7 +7,7 @@ use Rattle.cqe_base.specs.Schema.{DatabaseSchema}
 use Rattle.cqe_base.specs.Formula.{Formula, is_sentence_of}
 use Rattle.cqe_base.specs.Entailment.{Signed}
 use Rattle.cqe_base.specs.History.{UserProfile, AnsweredQuery, History, is_added, log, user_at}
-use Rattle.cqe_base.specs.Censor.{guard_by}
+use Rattle.cqe_base.specs.Censor.{guarded_with}
 use Rattle.cqe_base.specs.Limits.{KeepsSizesAt}
 use Rattle.cqe_base.specs.Run.{is_full, is_too_large, is_too_large_secret, has_all_secrets}
 use Rattle.dossier.specs.Checked.{addition_probe}
@@ -57,13 +57,12 @@ one-behind before before' after query query' mark size size' is b q s =
 
 -- what is guarded with one more secret, by the user who is kept
 pub guard-at : (current user : UserProfile) (entries : History) (secret made : Formula) → current ≡ user_at user entries
-    → made ≡ guard_by current.method (current.secrets ++ secret ∷ []) secret
-    → made ≡ guard_by user.method ((user_at user entries).secrets ++ secret ∷ []) secret
-guard-at current user entries secret made is made_is = made_is ∙ (λ i. guard_by (is i).method ((is i).secrets ++ secret ∷ []) secret)
+    → made ≡ guarded_with current secret → made ≡ guarded_with (user_at user entries) secret
+guard-at current user entries secret made is made_is = made_is ∙ (λ i. guarded_with (is i) secret)
 
 -- the probe of an addition is that of the log against what is guarded
 pub addition-shown : (user : UserProfile) (entries : History) (secret goal : Formula) (told : List Signed) → told ≡ log user entries
-    → goal ≡ guard_by user.method ((user_at user entries).secrets ++ secret ∷ []) secret
+    → goal ≡ guarded_with (user_at user entries) secret
     → addition_probe user entries secret ≡ goal_probe (told ++ []) (goal, true)
 addition-shown user entries secret goal told told_is goal_is =
     λ i. record { premises = sym (append-nil told ∙ told_is) i; goal = (sym goal_is i, true) }

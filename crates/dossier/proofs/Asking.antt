@@ -55,7 +55,7 @@ module _ (schema : DatabaseSchema) (world : FactSet) (name : Text) (user : UserP
 
   -- an undecided ask shows nothing
   pub asked-undecided : (mark : Mark) → mark ≡ Undecided
-      → asked schema world name user line before mark size (Some query) ≡ Ok (behind_item schema world name user before query mark size)
+      → asked schema world name user line before mark size (Some query) ≡ Ok (behind_item before query mark size)
   asked-undecided Undecided is = refl
   asked-undecided Yes is = absurd cc
   asked-undecided No is = absurd cc
@@ -110,7 +110,7 @@ module _ (schema : DatabaseSchema) (world : FactSet) (name : Text) (user : UserP
       -- what the text showed at first is what it shows where the mark is compared with the one that was decided
       to-mark : answer schema world name user (asked schema world name user line before mark size (Some query)) old
           ≡ answer schema world name user
-          (if kind_of mark == kind_of decided then Ok (behind_item schema world name user before query mark size) else Err (refused.Mark line)) new
+          (if kind_of mark == kind_of decided then Ok (behind_item before query mark size) else Err (refused.Mark line)) new
       to-mark =
           let (shown, (spent, marks), next) = read in
           let found : decided ≡ mark_shown schema world name user before query shown =
@@ -119,15 +119,15 @@ module _ (schema : DatabaseSchema) (world : FactSet) (name : Text) (user : UserP
           ∙ marks (true_in schema world query) in
           ap (λ x. answer schema world name user x old) (asked-shown mark isnt) ∙ next
           ∙ ap (λ m. answer schema world name user
-          (if kind_of mark == kind_of m then Ok (behind_item schema world name user before query mark size) else Err (refused.Mark line)) new) (sym found)
+          (if kind_of mark == kind_of m then Ok (behind_item before query mark size) else Err (refused.Mark line)) new) (sym found)
 
       -- it is the mark of the line
       pub shown-mark : decided ≡ mark
           → answer schema world name user (asked schema world name user line before mark size (Some query)) old
-          ≡ answer schema world name user (Ok (behind_item schema world name user before query mark size)) new
+          ≡ answer schema world name user (Ok (behind_item before query mark size)) new
       shown-mark is =
           to-mark
-          ∙ ap (λ b. answer schema world name user (if b then Ok (behind_item schema world name user before query mark size) else Err (refused.Mark line)) new)
+          ∙ ap (λ b. answer schema world name user (if b then Ok (behind_item before query mark size) else Err (refused.Mark line)) new)
           (ap (λ m. kind_of mark == kind_of m) is ∙ own_kind mark)
 
       -- or it isn't
@@ -135,5 +135,5 @@ module _ (schema : DatabaseSchema) (world : FactSet) (name : Text) (user : UserP
           → answer schema world name user (asked schema world name user line before mark size (Some query)) old ≡ Err (refused.Mark line)
       other-mark differs =
           to-mark
-          ∙ ap (λ b. answer schema world name user (if b then Ok (behind_item schema world name user before query mark size) else Err (refused.Mark line)) new)
+          ∙ ap (λ b. answer schema world name user (if b then Ok (behind_item before query mark size) else Err (refused.Mark line)) new)
           (other_kind mark decided differs)

@@ -17,7 +17,7 @@ use Rattle.cqe_base.specs.Reading.{Refusal, reading}
 use Rattle.cqe_base.specs.Run.{is_full, is_too_large, is_too_large_secret, has_all_secrets}
 use Rattle.user_desk.specs.Causes.{is_beyond}
 use Rattle.user_desk.specs.Entries.{purpose_by}
-use Rattle.dossier.specs.Written.{IsWithin}
+use Rattle.dossier.specs.Adding.{IsWithin}
 use Rattle.dossier.specs.Fields.{FieldSaid, first_word}
 use Rattle.dossier.specs.Words.{mark_named}
 use Rattle.dossier.specs.Checked.{within_limits, sentence_in, asked, added, ask_line, protect_line, item_line, awaited_for, adding, addition_probe}
@@ -56,27 +56,27 @@ named-asked word Protected named = yes (bytes_eq word (codes "yes")) named
     yes true is = absurd cc
     yes false is = no (bytes_eq word (codes "no")) is
 
-module _ (schema : DatabaseSchema) (world : FactSet) (user : UserProfile) (entries : History) where
+module _ (schema : DatabaseSchema) (user : UserProfile) (entries : History) where
   -- ---- what is beyond the limits
 
   pub full-beyond : (purpose : Purpose) (size : ℕ) (sentence : Formula) → is_full entries size ≡ true
-      → is_beyond schema world user entries purpose size sentence ≡ true
+      → is_beyond schema user entries purpose size sentence ≡ true
   full-beyond Asking size sentence is = or_left (is_full entries size) (is_too_large schema user entries sentence) is
   full-beyond Protecting size sentence is =
       or_left (is_full entries size) (is_too_large_secret schema user entries sentence || has_all_secrets user entries) is
 
   module _ (size : ℕ) (sentence : Formula) (isnt : is_full entries size ≡ false) where
-    pub large-beyond : is_beyond schema world user entries Asking size sentence ≡ is_too_large schema user entries sentence
+    pub large-beyond : is_beyond schema user entries Asking size sentence ≡ is_too_large schema user entries sentence
     large-beyond = ap (λ b. b || is_too_large schema user entries sentence) isnt
 
-    pub secret-beyond : is_beyond schema world user entries Protecting size sentence
+    pub secret-beyond : is_beyond schema user entries Protecting size sentence
         ≡ (is_too_large_secret schema user entries sentence || has_all_secrets user entries)
     secret-beyond = ap (λ b. b || (is_too_large_secret schema user entries sentence || has_all_secrets user entries)) isnt
 
   module _ (size : ℕ) (sentence : Formula) where
     -- an item that came within the limits isn't beyond them
     pub not-beyond : (mark : Mark) → KeepsSizesAt schema user entries (record { query = sentence; mark = mark; length = size })
-        → is_beyond schema world user entries (purpose_by mark) size sentence ≡ false
+        → is_beyond schema user entries (purpose_by mark) size sentence ≡ false
     not-beyond Yes sizes = λ i. sizes.room i || sizes.small i
     not-beyond No sizes = λ i. sizes.room i || sizes.small i
     not-beyond marked.Refused sizes = λ i. sizes.room i || sizes.small i
@@ -90,68 +90,68 @@ module _ (schema : DatabaseSchema) (world : FactSet) (user : UserProfile) (entri
 
   module _ (purpose : Purpose) (text : Text) where
     -- a text that is too long
-    pub too-long : nat_lt 4096 (length text) ≡ true → None ≡ sentence_in schema world user entries purpose text
+    pub too-long : nat_lt 4096 (length text) ≡ true → None ≡ sentence_in schema user entries purpose text
     too-long long =
         let test : nat_le (length text) 4096 ≡ false = grind (arith, nat_tests) in
-        sym (ap (λ b. if b then within_limits schema world user entries purpose text (reading schema text) else None) test)
+        sym (ap (λ b. if b then within_limits schema user entries purpose text (reading schema text) else None) test)
 
     module _ (short : length text ≤ 4096) where
-      in-limits : sentence_in schema world user entries purpose text ≡ within_limits schema world user entries purpose text (reading schema text)
+      in-limits : sentence_in schema user entries purpose text ≡ within_limits schema user entries purpose text (reading schema text)
       in-limits =
           let test : nat_le (length text) 4096 ≡ true = grind (arith, nat_tests) in
-          ap (λ b. if b then within_limits schema world user entries purpose text (reading schema text) else None) test
+          ap (λ b. if b then within_limits schema user entries purpose text (reading schema text) else None) test
 
       -- one that is no sentence
-      pub unread : (why : Refusal) → reading schema text ≡ Err why → None ≡ sentence_in schema world user entries purpose text
-      unread why is = sym (in-limits ∙ ap (within_limits schema world user entries purpose text) is)
+      pub unread : (why : Refusal) → reading schema text ≡ Err why → None ≡ sentence_in schema user entries purpose text
+      unread why is = sym (in-limits ∙ ap (within_limits schema user entries purpose text) is)
 
       module _ (sentence : Formula) (read : reading schema text ≡ Ok sentence) where
         -- one that is beyond the limits
-        pub beyond : is_beyond schema world user entries purpose (length text) sentence ≡ true → None ≡ sentence_in schema world user entries purpose text
-        beyond is = sym (in-limits ∙ ap (within_limits schema world user entries purpose text) read ∙ ap (λ b. if b then None else Some sentence) is)
+        pub beyond : is_beyond schema user entries purpose (length text) sentence ≡ true → None ≡ sentence_in schema user entries purpose text
+        beyond is = sym (in-limits ∙ ap (within_limits schema user entries purpose text) read ∙ ap (λ b. if b then None else Some sentence) is)
 
         -- one that is within them
-        pub within : is_beyond schema world user entries purpose (length text) sentence ≡ false
-            → Some sentence ≡ sentence_in schema world user entries purpose text
-        within is = sym (in-limits ∙ ap (within_limits schema world user entries purpose text) read ∙ ap (λ b. if b then None else Some sentence) is)
+        pub within : is_beyond schema user entries purpose (length text) sentence ≡ false
+            → Some sentence ≡ sentence_in schema user entries purpose text
+        within is = sym (in-limits ∙ ap (within_limits schema user entries purpose text) read ∙ ap (λ b. if b then None else Some sentence) is)
 
     -- a sentence stands there, within the limits
     abbrev pub StandsWithin : Formula → Type 0
     StandsWithin sentence =
-        (length text ≤ 4096) × (reading schema text ≡ Ok sentence) × (is_beyond schema world user entries purpose (length text) sentence ≡ false)
+        (length text ≤ 4096) × (reading schema text ≡ Ok sentence) × (is_beyond schema user entries purpose (length text) sentence ≡ false)
 
     -- what is known of a sentence that stands there
-    pub some-within : (sentence : Formula) → Some sentence ≡ sentence_in schema world user entries purpose text → StandsWithin sentence
+    pub some-within : (sentence : Formula) → Some sentence ≡ sentence_in schema user entries purpose text → StandsWithin sentence
     some-within sentence is = by_length (nat_le (length text) 4096) refl is
       where
         by_limits : (read : Formula) → length text ≤ 4096 → reading schema text ≡ Ok read
-            → (b : Bool) → is_beyond schema world user entries purpose (length text) read ≡ b → Some sentence ≡ (if b then None else Some read)
+            → (b : Bool) → is_beyond schema user entries purpose (length text) read ≡ b → Some sentence ≡ (if b then None else Some read)
             → StandsWithin sentence
         by_limits read short reads true past is = absurd cc
         by_limits read short reads false past is =
             let same : sentence ≡ read = cc in (
               short,
               reads ∙ ap Ok (sym same),
-              ap (is_beyond schema world user entries purpose (length text)) same ∙ past,
+              ap (is_beyond schema user entries purpose (length text)) same ∙ past,
             )
 
         by_reading : (read : Result Formula Refusal) → length text ≤ 4096 → reading schema text ≡ read
-            → Some sentence ≡ within_limits schema world user entries purpose text read → StandsWithin sentence
+            → Some sentence ≡ within_limits schema user entries purpose text read → StandsWithin sentence
         by_reading (Err why) short reads is = absurd cc
         by_reading (Ok read) short reads is =
-            by_limits read short reads (is_beyond schema world user entries purpose (length text) read) refl is
+            by_limits read short reads (is_beyond schema user entries purpose (length text) read) refl is
 
         by_length : (b : Bool) → nat_le (length text) 4096 ≡ b
-            → Some sentence ≡ (if b then within_limits schema world user entries purpose text (reading schema text) else None) → StandsWithin sentence
+            → Some sentence ≡ (if b then within_limits schema user entries purpose text (reading schema text) else None) → StandsWithin sentence
         by_length true short is = by_reading (reading schema text) (grind (arith, nat_tests)) refl is
         by_length false long is = absurd cc
 
     -- the text of an item within the limits is a sentence there
-    pub none-within : (mark : Mark) → IsWithin schema user entries purpose mark text → None ≡ sentence_in schema world user entries purpose text
+    pub none-within : (mark : Mark) → IsWithin schema user entries purpose mark text → None ≡ sentence_in schema user entries purpose text
         → ⊥
     none-within mark (query, reads, purpose_is, short, sizes) none =
-        let still : is_beyond schema world user entries purpose (length text) query ≡ false =
-        subst (λ p. is_beyond schema world user entries p (length text) query ≡ false) purpose_is
+        let still : is_beyond schema user entries purpose (length text) query ≡ false =
+        subst (λ p. is_beyond schema user entries p (length text) query ≡ false) purpose_is
         (not-beyond (length text) query mark sizes) in
         let found : Some query ≡ None = within short query reads still ∙ sym none in
         absurd cc
@@ -159,11 +159,11 @@ module _ (schema : DatabaseSchema) (world : FactSet) (user : UserProfile) (entri
   -- ---- what is known of one within the limits
 
   module _ (size : ℕ) (sentence : Formula) where
-    pub asked-within : is_beyond schema world user entries Asking size sentence ≡ false
+    pub asked-within : is_beyond schema user entries Asking size sentence ≡ false
         → (is_full entries size ≡ false) × (is_too_large schema user entries sentence ≡ false)
     asked-within is = or_parts (is_full entries size) (is_too_large schema user entries sentence) is
 
-    pub added-within : is_beyond schema world user entries Protecting size sentence ≡ false
+    pub added-within : is_beyond schema user entries Protecting size sentence ≡ false
         → (is_full entries size ≡ false) × (is_too_large_secret schema user entries sentence ≡ false) × (has_all_secrets user entries ≡ false)
     added-within is =
         let (full, others) = or_parts (is_full entries size) (is_too_large_secret schema user entries sentence || has_all_secrets user entries) is in
@@ -200,23 +200,23 @@ module _ (schema : DatabaseSchema) (world : FactSet) (name : Text) (user : UserP
       module _ (some : 1 ≤ length text) where
         with-text : (t : Text) → 1 ≤ length t
             → ask_line schema world name user field.line entries (Some mark) t
-            ≡ asked schema world name user field.line entries mark (length t) (sentence_in schema world user entries Asking t)
+            ≡ asked schema world name user field.line entries mark (length t) (sentence_in schema user entries Asking t)
         with-text [] some = absurd (omega (arith, some))
         with-text (b ∷ t) some = refl
 
         to-asked : item_line schema world name user entries field
-            ≡ asked schema world name user field.line entries mark (length text) (sentence_in schema world user entries Asking text)
+            ≡ asked schema world name user field.line entries mark (length text) (sentence_in schema user entries Asking text)
         to-asked = ask-at ∙ ap (λ m. ask_line schema world name user field.line entries m text) (sym named) ∙ with-text text some
 
         -- its text is no sentence within the limits
-        pub ask-unread : None ≡ sentence_in schema world user entries Asking text
+        pub ask-unread : None ≡ sentence_in schema user entries Asking text
             → item_line schema world name user entries field ≡ Err (refused.Text field.line)
         ask-unread none =
             to-asked ∙ ap (asked schema world name user field.line entries mark (length text)) (sym none)
             ∙ asked-none field.line mark (length text)
 
         -- or it is one
-        pub ask-read : (query : Formula) → Some query ≡ sentence_in schema world user entries Asking text
+        pub ask-read : (query : Formula) → Some query ≡ sentence_in schema user entries Asking text
             → item_line schema world name user entries field ≡ asked schema world name user field.line entries mark (length text) (Some query)
         ask-read query read = to-asked ∙ ap (asked schema world name user field.line entries mark (length text)) (sym read)
 
@@ -234,19 +234,19 @@ module _ (schema : DatabaseSchema) (world : FactSet) (name : Text) (user : UserP
     module _ (some : 1 ≤ length field.rest) where
       with-secret : (t : Text) → 1 ≤ length t
           → protect_line schema world name user field.line entries t
-          ≡ added schema world name user field.line entries (length t) (sentence_in schema world user entries Protecting t)
+          ≡ added schema world name user field.line entries (length t) (sentence_in schema user entries Protecting t)
       with-secret [] some = absurd (omega (arith, some))
       with-secret (b ∷ t) some = refl
 
       -- its text is no sentence within the limits
-      pub protect-unread : None ≡ sentence_in schema world user entries Protecting field.rest
+      pub protect-unread : None ≡ sentence_in schema user entries Protecting field.rest
           → item_line schema world name user entries field ≡ Err (refused.Text field.line)
       protect-unread none =
           protect-at ∙ with-secret field.rest some
           ∙ ap (added schema world name user field.line entries (length field.rest)) (sym none)
 
       -- or it is one: its block is awaited
-      pub protect-read : (secret : Formula) → Some secret ≡ sentence_in schema world user entries Protecting field.rest
+      pub protect-read : (secret : Formula) → Some secret ≡ sentence_in schema user entries Protecting field.rest
           → item_line schema world name user entries field
           ≡ awaited_for schema world name user entries (adding secret (length field.rest)) (addition_probe user entries secret ∷ []) []
       protect-read secret read =

@@ -10,7 +10,8 @@ use Rattle.entailment.specs.Certificates.{clauses_of_probe}
 use Rattle.dossier.specs.Fields.{is_alone}
 use Rattle.dossier.specs.Words.{line_in, facts_listed}
 use Rattle.dossier.specs.Checked.{Showing, Awaited, block, step, behind_block, refutation_end, refutation_line, at_end}
-use Rattle.dossier.specs.Reading.{Unread, next_line, field_said, PassesLine, TakesLine, IsButMemory, answer, ReadsOn}
+use Rattle.dossier.specs.Promised.{IsButMemory}
+use Rattle.dossier.specs.Reading.{Unread, next_line, field_said, PassesLine, TakesLine, answer, ReadsOn}
 use Rattle.dossier.specs.Blocks.{Probed, reason_of, MayFollow, open_answer}
 use Rattle.dossier.specs.declared.blocks.Reason.{Reason}
 use Rattle.dossier.specs.declared.cut.Field.{Field}

@@ -21,7 +21,7 @@ use Rattle.audit_text.specs.Text.{world_text}
 use Rattle.audit_print.specs.Said.{world_said}
 use Rattle.dossier.specs.Small.{is_small_literal, is_small_number, is_small_line}
 use Rattle.dossier.specs.Words.{line_in, world_of}
-use Rattle.dossier.specs.Written.{literal_text, number_text, line_text, follows_text, open_text, IsBlock, AreBlocks}
+use Rattle.dossier.specs.Written.{literal_text, number_text, line_text, follows_text, open_text, IsRightBlock, AreBlocks}
 use Rattle.dossier.specs.Checked.{Task, admitting, asking, adding, Showing, Awaited, block, step, is_countermodel, behind_task, awaited_for, behind_block}
 use Rattle.dossier.specs.Checked.{open_block, follows_block, refutation_line, block_line, step_line}
 use Rattle.dossier.specs.declared.error.DossierError.{DossierError}
@@ -164,7 +164,7 @@ module _ (schema : DatabaseSchema) (world : FactSet) (name : Text) (user : UserP
   asks-there valid s (adding secret size) probe more may true_there = true_is_not_false (sym true_there ∙ or_first _ _ may)
 
   module _ (valid : is_valid_schema schema ≡ true) where
-    block-leads : (s : Showing) (text : Text) → IsBlock schema s.probe text → Allows s.task (s.probe ∷ s.more)
+    block-leads : (s : Showing) (text : Text) → IsRightBlock schema s.probe text → Allows s.task (s.probe ∷ s.more)
         → LeadsOn (Ok (block s)) text (behind_block schema world name user s (follows s.probe))
     block-leads s text (inl (facts, sorted, few, all, counter, is)) may =
         subst (λ v. LeadsOn (Ok (block s)) text (behind_block schema world name user s v)) (sym (counter-shows s.probe facts all counter))
@@ -193,5 +193,5 @@ module _ (schema : DatabaseSchema) (world : FactSet) (name : Text) (user : UserP
         (append_assoc shown (follows probe ∷ []) (map follows more))
         (leads-both schema world name user (Ok (block s)) (behind_block schema world name user s (follows probe))
         (behind_task schema world name user entries task (shown ++ follows probe ∷ [] ++ map follows more)) first rest
-        (block-leads s first is_block may)
+        (block-leads s first is_block.0 may)
         (blocks-lead entries task more (shown ++ follows probe ∷ []) rest others (allows-rest task probe more may))))

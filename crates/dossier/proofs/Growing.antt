@@ -5,7 +5,8 @@ use Rattle.cqe_base.specs.Schema.{Text}
 use Rattle.cqe_base.specs.Formula.{Formula}
 use Rattle.cqe_base.specs.History.{AnsweredQuery}
 use Rattle.cqe_base.specs.Reading.{reading}
-use Rattle.dossier.specs.Written.{item_head, item_probes, AreBlocks, IsItem, Grows}
+use Rattle.dossier.specs.Written.{item_head, item_probes, AreBlocks, IsItem}
+use Rattle.dossier.specs.Adding.{Grows}
 use Rattle.dossier.specs.Adding.{AddsSaid}
 use Rattle.dossier.specs.Logs.{past_schema, past_user, past_history, IsSamePast, HasAdded}
 use Rattle.dossier.specs.declared.past.Past.{Past}

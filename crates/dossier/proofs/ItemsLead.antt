@@ -86,13 +86,13 @@ module _ (schema : DatabaseSchema) (world : FactSet) (name : Text) (user : UserP
 
     said-line : (n : ℕ) (mark : Mark) (text : Text) → 1 ≤ length text
         → ask_line schema world name user n entries (Some mark) text
-        ≡ asked schema world name user n entries mark (length text) (sentence_in schema world user entries Asking text)
+        ≡ asked schema world name user n entries mark (length text) (sentence_in schema user entries Asking text)
     said-line n mark [] some = absurd (omega (arith, some))
     said-line n mark (b ∷ text) some = refl
 
     module _ (mark : Mark) (named : mark_named (mark_text mark) ≡ Some mark) (no_blank : list_any (λ b. b == 32) (mark_text mark) ≡ false)
         (no_feed : list_any (λ b. b == 10) (mark_text mark) ≡ false)
-        (fits : is_beyond schema world user entries Asking (length said) query ≡ false) where
+        (fits : is_beyond schema user entries Asking (length said) query ≡ false) where
       -- it asks for this sentence
       line-asks : (n : ℕ)
           → item_line schema world name user entries (record { line = n; word = codes "ask"; rest = mark_text mark ++ 32 ∷ said })
@@ -103,7 +103,7 @@ module _ (schema : DatabaseSchema) (world : FactSet) (name : Text) (user : UserP
           ∙ ap (λ m. ask_line schema world name user n entries m said) named
           ∙ said-line n mark said (some-text schema said query read)
           ∙ ap (asked schema world name user n entries mark (length said))
-          (sym (within schema world user entries Asking said short query read fits))
+          (sym (within schema user entries Asking said short query read fits))
 
       -- behind it stands what follows
       ask-leads : (blocks : Text) (after : ℕ → Result Awaited DossierError) (last : Result Awaited DossierError)
@@ -130,7 +130,7 @@ module _ (schema : DatabaseSchema) (world : FactSet) (name : Text) (user : UserP
           → AreBlocks schema (probes (user_at user entries) (log user entries) query) blocks
           → LeadsOn
           (awaited_for schema world name user entries (asking n mark query (length said)) (probes (user_at user entries) (log user entries) query) [])
-          blocks (Ok (behind_item schema world name user entries query mark (length said)))
+          blocks (Ok (behind_item entries query mark (length said)))
       settled-leads settled sound n blocks are =
           subst (λ after. LeadsOn
           (awaited_for schema world name user entries (asking n mark query (length said)) (probes (user_at user entries) (log user entries) query) [])
@@ -142,34 +142,34 @@ module _ (schema : DatabaseSchema) (world : FactSet) (name : Text) (user : UserP
           shown = verdicts_give_marks schema world user entries query verdicts_there refl ∙ sym (sound.has_mark settled)
 
           same : behind_task schema world name user entries (asking n mark query (length said)) verdicts_there
-              ≡ Ok (behind_item schema world name user entries query mark (length said))
+              ≡ Ok (behind_item entries query mark (length said))
           same =
-              ap (λ m. if kind_of mark == kind_of m then Ok (behind_item schema world name user entries query mark (length said)) else Err (refused.Mark n))
+              ap (λ m. if kind_of mark == kind_of m then Ok (behind_item entries query mark (length said)) else Err (refused.Mark n))
               shown
-              ∙ ap (λ b. if b then Ok (behind_item schema world name user entries query mark (length said)) else Err (refused.Mark n))
+              ∙ ap (λ b. if b then Ok (behind_item entries query mark (length said)) else Err (refused.Mark n))
               (same-byte (kind_of mark))
 
     -- ---- the line of an addition
 
     added-line : (n : ℕ) (text : Text) → 1 ≤ length text
         → protect_line schema world name user n entries text
-        ≡ added schema world name user n entries (length text) (sentence_in schema world user entries Protecting text)
+        ≡ added schema world name user n entries (length text) (sentence_in schema user entries Protecting text)
     added-line n [] some = absurd (omega (arith, some))
     added-line n (b ∷ text) some = refl
 
-    added-leads : is_beyond schema world user entries Protecting (length said) query ≡ false
+    added-leads : is_beyond schema user entries Protecting (length said) query ≡ false
         → IsSoundItem schema world user entries (one query Protected (length said)) → (blocks : Text)
         → AreBlocks schema (addition_probe user entries query ∷ []) blocks
         → LeadsOn (Ok (item entries)) (codes "protect" ++ 32 ∷ said ++ codes "\n" ++ blocks)
-        (Ok (behind_item schema world name user entries query Protected (length said)))
+        (Ok (behind_item entries query Protected (length said)))
     added-leads fits sound blocks are =
         leads-line schema world name user (item entries) (codes "protect" ++ 32 ∷ said) blocks
         (λ n. awaited_for schema world name user entries (adding query (length said)) (addition_probe user entries query ∷ []) [])
-        (Ok (behind_item schema world name user entries query Protected (length said)))
+        (Ok (behind_item entries query Protected (length said)))
         (none-both (λ b. b == 10) (codes "protect ") said refl (reading-lacks schema said query read))
         (λ n. ap (item_line schema world name user entries) (field-with n (codes "protect") said refl (some-text schema said query read))
         ∙ added-line n said (some-text schema said query read)
-        ∙ ap (added schema world name user n entries (length said)) (sym (within schema world user entries Protecting said short query read fits)))
+        ∙ ap (added schema world name user n entries (length said)) (sym (within schema user entries Protecting said short query read fits)))
         (λ n. blocks-lead schema world name user valid entries (adding query (length said)) (addition_probe user entries query ∷ []) [] blocks are
         (ap (λ b. b || false) (sound.is_unentailed refl)))
 
@@ -178,36 +178,36 @@ module _ (schema : DatabaseSchema) (world : FactSet) (name : Text) (user : UserP
     item-by : (mark : Mark) → KeepsSizesAt schema user entries (one query mark (length said))
         → IsSoundItem schema world user entries (one query mark (length said))
         → (text : Text) → IsItem schema user entries (one query mark (length said)) said text
-        → LeadsOn (Ok (item entries)) text (Ok (behind_item schema world name user entries query mark (length said)))
+        → LeadsOn (Ok (item entries)) text (Ok (behind_item entries query mark (length said)))
     item-by Yes sizes sound text (blocks, are, is) =
-        subst (λ t. LeadsOn (Ok (item entries)) t (Ok (behind_item schema world name user entries query Yes (length said)))) (sym is)
-        (ask-leads Yes refl refl refl (not-beyond schema world user entries (length said) query Yes sizes) blocks
+        subst (λ t. LeadsOn (Ok (item entries)) t (Ok (behind_item entries query Yes (length said)))) (sym is)
+        (ask-leads Yes refl refl refl (not-beyond schema user entries (length said) query Yes sizes) blocks
         (λ n. awaited_for schema world name user entries (asking n Yes query (length said)) (probes (user_at user entries) (log user entries) query) [])
-        (Ok (behind_item schema world name user entries query Yes (length said))) (λ n. refl)
-        (λ n. settled-leads Yes refl refl refl (not-beyond schema world user entries (length said) query Yes sizes) refl sound n blocks are))
+        (Ok (behind_item entries query Yes (length said))) (λ n. refl)
+        (λ n. settled-leads Yes refl refl refl (not-beyond schema user entries (length said) query Yes sizes) refl sound n blocks are))
     item-by No sizes sound text (blocks, are, is) =
-        subst (λ t. LeadsOn (Ok (item entries)) t (Ok (behind_item schema world name user entries query No (length said)))) (sym is)
-        (ask-leads No refl refl refl (not-beyond schema world user entries (length said) query No sizes) blocks
+        subst (λ t. LeadsOn (Ok (item entries)) t (Ok (behind_item entries query No (length said)))) (sym is)
+        (ask-leads No refl refl refl (not-beyond schema user entries (length said) query No sizes) blocks
         (λ n. awaited_for schema world name user entries (asking n No query (length said)) (probes (user_at user entries) (log user entries) query) [])
-        (Ok (behind_item schema world name user entries query No (length said))) (λ n. refl)
-        (λ n. settled-leads No refl refl refl (not-beyond schema world user entries (length said) query No sizes) refl sound n blocks are))
+        (Ok (behind_item entries query No (length said))) (λ n. refl)
+        (λ n. settled-leads No refl refl refl (not-beyond schema user entries (length said) query No sizes) refl sound n blocks are))
     item-by Refused sizes sound text (blocks, are, is) =
-        subst (λ t. LeadsOn (Ok (item entries)) t (Ok (behind_item schema world name user entries query Refused (length said)))) (sym is)
-        (ask-leads Refused refl refl refl (not-beyond schema world user entries (length said) query Refused sizes) blocks
+        subst (λ t. LeadsOn (Ok (item entries)) t (Ok (behind_item entries query Refused (length said)))) (sym is)
+        (ask-leads Refused refl refl refl (not-beyond schema user entries (length said) query Refused sizes) blocks
         (λ n. awaited_for schema world name user entries (asking n Refused query (length said)) (probes (user_at user entries) (log user entries) query) [])
-        (Ok (behind_item schema world name user entries query Refused (length said))) (λ n. refl)
-        (λ n. settled-leads Refused refl refl refl (not-beyond schema world user entries (length said) query Refused sizes) refl sound n blocks are))
+        (Ok (behind_item entries query Refused (length said))) (λ n. refl)
+        (λ n. settled-leads Refused refl refl refl (not-beyond schema user entries (length said) query Refused sizes) refl sound n blocks are))
     item-by Undecided sizes sound text (blocks, are, is) =
-        subst (λ t. LeadsOn (Ok (item entries)) t (Ok (behind_item schema world name user entries query Undecided (length said)))) (sym is)
-        (ask-leads Undecided refl refl refl (not-beyond schema world user entries (length said) query Undecided sizes) blocks
-        (λ n. Ok (behind_item schema world name user entries query Undecided (length said)))
-        (Ok (behind_item schema world name user entries query Undecided (length said))) (λ n. refl)
-        (λ n. subst (λ t. LeadsOn (Ok (behind_item schema world name user entries query Undecided (length said))) t
-        (Ok (behind_item schema world name user entries query Undecided (length said)))) (sym are)
-        (leads-none schema world name user (Ok (behind_item schema world name user entries query Undecided (length said))))))
+        subst (λ t. LeadsOn (Ok (item entries)) t (Ok (behind_item entries query Undecided (length said)))) (sym is)
+        (ask-leads Undecided refl refl refl (not-beyond schema user entries (length said) query Undecided sizes) blocks
+        (λ n. Ok (behind_item entries query Undecided (length said)))
+        (Ok (behind_item entries query Undecided (length said))) (λ n. refl)
+        (λ n. subst (λ t. LeadsOn (Ok (behind_item entries query Undecided (length said))) t
+        (Ok (behind_item entries query Undecided (length said)))) (sym are)
+        (leads-none schema world name user (Ok (behind_item entries query Undecided (length said))))))
     item-by Protected sizes sound text (blocks, are, is) =
-        subst (λ t. LeadsOn (Ok (item entries)) t (Ok (behind_item schema world name user entries query Protected (length said)))) (sym is)
-        (added-leads (not-beyond schema world user entries (length said) query Protected sizes) sound blocks are)
+        subst (λ t. LeadsOn (Ok (item entries)) t (Ok (behind_item entries query Protected (length said)))) (sym is)
+        (added-leads (not-beyond schema user entries (length said) query Protected sizes) sound blocks are)
 
   item-leads : (entries : History) (entry : AnsweredQuery) (said text : Text) → HasRecord schema said entry → length said ≤ 4096
       → KeepsSizesAt schema user entries entry → IsSoundItem schema world user entries entry → IsItem schema user entries entry said text

@@ -11,6 +11,7 @@ mod Leads
 mod BlocksLead
 mod ItemsLead
 mod Accepting
+mod OneDossier
 mod Spelling
 mod Colons
 mod Worlds

@@ -1,5 +1,5 @@
--- Blocks that are written: a world that a search found, and the sign of a literal.
-use Rattle.std.proofs.Common.{◌≡◌, ◌≤◌, ◌+◌, ℕ, Bool, true, false, not, ◌&&◌, cond, List, [], ◌∷◌, ◌++◌, length, map, filter, sym, ap, subst, ◌∙◌, arith}
+-- Blocks that are written: an end that a search found, the world of a model, and the sign of a literal.
+use Rattle.std.proofs.Common.{◌≡◌, ◌≤◌, ◌+◌, ℕ, Bool, true, false, not, ◌&&◌, cond, List, [], ◌∷◌, ◌++◌, length, map, filter, refl, sym, ap, subst, ◌∙◌, arith}
 use Rattle.std.specs.Prelude.{codes}
 use Rattle.std.specs.FinSet as set
 use Rattle.std.specs.List.Sorted.{IsStrictlySortedBy}
@@ -16,7 +16,7 @@ use Rattle.cqe_base.specs.ClauseForm.{NumberedFact, numbering_of}
 use Rattle.cqe_base.specs.ClauseForm as form
 use Rattle.cqe_base.specs.Entailment.{Signed, holds_in, all_hold_in, IsCountermodel}
 use Rattle.cqe_base.specs.Machine.{End, Model, Refuted}
-use Rattle.cqe_base.specs.MachineLaws.{VariablesAreFew, NumberedFactsAreFew}
+use Rattle.cqe_base.specs.MachineLaws.{VariablesAreFew, NumberedFactsAreFew, BudgetIsWholeCost}
 use Rattle.cqe_base.specs.Outcome.{grounded_signed, grounded_probe}
 use Rattle.cqe_base.proofs.Worlds.{fact_cmp_total}
 use Rattle.cqe_base.proofs.FactSets.{len-from_list}
@@ -27,13 +27,39 @@ use Rattle.entailment.specs.Verdicts.{verdict_of_probe, verdict_of_end, end_of_p
 use Rattle.entailment.specs.declared.probes.Verdict.TheVariants.{Open}
 use Rattle.entailment.proofs.LogNodes.{grounded-nodes, probe-nodes}
 use Rattle.audit_print.proofs.Atoms.{all_listed}
-use Rattle.dossier.specs.Written.{sign_text, IsOpenBlock, IsOpenListing}
+use Rattle.dossier.specs.Written.{sign_text, IsOpenBlock, IsOpenListing, ShowsEnd, ShowsMachine}
 
 -- ---- signs
 
 pub negative-sign : (literal : Literal) → (literal ≡ Positive (variable_of literal) → ⊥) → codes "-" ≡ sign_text literal
 negative-sign (Positive v) isnt = absurd (isnt (λ i. Positive v))
 negative-sign (Negative v) isnt = λ i. codes "-"
+
+-- ---- ends
+
+-- the model whose world was found
+pub model-found : (facts : List NumberedFact) (end : Option End) (world : FactSet) → Open world ≡ verdict_of_end facts end
+    → (signs : List Bool) × (end ≡ Some (Model signs)) × (world ≡ form.world_of facts (sign_at signs))
+model-found facts None world at = absurd cc
+model-found facts (Some (Refuted lines)) world at = absurd cc
+model-found facts (Some (Model signs)) world at = (signs, refl, cc)
+
+module _ (whole : BudgetIsWholeCost) (schema : DatabaseSchema) (premises : List Signed) (goal : Signed) (budget : ℕ) where
+  -- what shows an end that was found shows the machine's
+  pub end-shown : (end : End) (text : Text) → end_of_probe schema premises goal budget ≡ Some end
+      → ShowsEnd schema (record { premises = premises; goal = goal }) end text → ShowsMachine schema (record { premises = premises; goal = goal }) text
+  end-shown end text found shows =
+      let formulas = grounded_probe schema premises goal in
+      let (cost, ends, within) = (whole (form.clause_form formulas) (numbering_of formulas).variables budget end).0 found in
+      (record { end = end; cost = cost }, ends, shows)
+
+  -- and so does a listing of the world that was found
+  pub world-shown : (world : FactSet) (text : Text) → Open world ≡ verdict_of_probe schema premises goal budget → IsOpenListing schema world text
+      → ShowsMachine schema (record { premises = premises; goal = goal }) text
+  world-shown world text verdict listing =
+      let numbered = (numbering_of (grounded_probe schema premises goal)).facts in
+      let (signs, found, same) = model-found numbered (end_of_probe schema premises goal budget) world verdict in
+      end-shown (Model signs) text found (subst (λ w. IsOpenListing schema w text) same listing)
 
 -- ---- how many facts a world has
 
@@ -81,23 +107,13 @@ module _ (schema : DatabaseSchema) (log premise : List Signed) (goal : Signed) w
       → Open world ≡ verdict_of_probe schema (log ++ premise) goal budget → (listing : List Fact) → set.from_list listing ≡ world
       → IsStrictlySortedBy fact_cmp listing → length listing ≤ 100000
   found-few keeps variables facts small budget world verdict listing is sorted =
-      by (end_of_probe schema (log ++ premise) goal budget) verdict
-    where
-      few : length (numbering_of (grounded_probe schema (log ++ premise) goal)).facts ≤ 100000
-      few =
-          let a = facts (grounded_probe schema (log ++ premise) goal) in
-          let b = variables (grounded_probe schema (log ++ premise) goal) in
-          let c = formulas-few keeps in
-          omega (arith, a, b, c, small)
-
-      by : (end : Option End) → Open world ≡ verdict_of_end (numbering_of (grounded_probe schema (log ++ premise) goal)).facts end
-          → length listing ≤ 100000
-      by None at = absurd cc
-      by (Some (Refuted lines)) at = absurd cc
-      by (Some (Model signs)) at =
-          let same : world ≡ form.world_of (numbering_of (grounded_probe schema (log ++ premise) goal)).facts (sign_at signs) = cc in
-          let most = world-few (numbering_of (grounded_probe schema (log ++ premise) goal)).facts (sign_at signs) listing (is ∙ same) sorted in
-          omega (arith, most, few)
+      let numbered = (numbering_of (grounded_probe schema (log ++ premise) goal)).facts in
+      let (signs, found, same) = model-found numbered (end_of_probe schema (log ++ premise) goal budget) world verdict in
+      let most = world-few numbered (sign_at signs) listing (is ∙ same) sorted in
+      let few = facts (grounded_probe schema (log ++ premise) goal) in
+      let taken = variables (grounded_probe schema (log ++ premise) goal) in
+      let all = formulas-few keeps in
+      omega (arith, most, few, taken, all, small)
 
 -- a listing of a world in which the premises are true and the goal is false is a block of the probe
 pub open-listed : (schema : DatabaseSchema) (premises : List Signed) (goal : Signed) (world : FactSet) (text : Text)

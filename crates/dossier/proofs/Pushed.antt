@@ -16,7 +16,8 @@ use Rattle.cqe_base.specs.Censor.{Probe, probes_against, probes_by, guarded, adm
 use Rattle.std.specs.List.{list_all}
 use Rattle.cqe_base.proofs.Truths.{and_first, and_second}
 use Rattle.dossier.specs.Items.{implied_probes}
-use Rattle.dossier.specs.Written.{IsBlock, AreBlocks, AreUnspent, Grows}
+use Rattle.dossier.specs.Written.{IsBlock, AreBlocks}
+use Rattle.dossier.specs.Adding.{AreUnspent, Grows}
 
 -- ---- growth
 

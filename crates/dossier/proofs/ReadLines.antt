@@ -16,7 +16,8 @@ use Rattle.dossier.specs.Fields.{FieldSaid, is_alone}
 use Rattle.dossier.specs.Words.{line_in, world_of, facts_listed}
 use Rattle.dossier.specs.Checked.{Task, admitting, asking, adding, Showing, Awaited, block, step, is_countermodel, awaited_for, behind_block, open_block}
 use Rattle.dossier.specs.Checked.{follows_block, refutation_end, refutation_line, block_line, step_line, after_line, at_end, checked_from}
-use Rattle.dossier.specs.Reading.{Unread, next_line, fields_left, field_said, PassesLine, IsButMemory, answer, ReadsOn}
+use Rattle.dossier.specs.Promised.{IsButMemory}
+use Rattle.dossier.specs.Reading.{Unread, next_line, fields_left, field_said, PassesLine, answer, ReadsOn}
 use Rattle.dossier.specs.Blocks.{Probed, reason_of, MayFollow, open_answer}
 use Rattle.dossier.specs.declared.blocks.Reason.{Reason}
 use Rattle.dossier.specs.declared.cut.Field.{Field}

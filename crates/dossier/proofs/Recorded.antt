@@ -9,7 +9,8 @@ use Rattle.log_journal.specs.Opening.{recorded}
 use Rattle.log_journal.specs.declared.header.Record.{Record}
 use Rattle.user_desk.specs.Entries.{entry_of}
 use Rattle.dossier.specs.Logs.{past_schema, past_user, past_history, IsPastOfSame}
-use Rattle.dossier.specs.Written.{IsItem, AreItems, AreLegal, IsNextLegal, Grows}
+use Rattle.dossier.specs.Written.{IsItem, AreItems, AreLegal}
+use Rattle.dossier.specs.Adding.{IsNextLegal, Grows}
 use Rattle.dossier.specs.Adding.{AddsItem}
 use Rattle.dossier.specs.declared.past.Past.{Past}
 use Rattle.dossier.proofs.Pushed.{grows-then}

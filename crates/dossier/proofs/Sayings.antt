@@ -21,7 +21,8 @@ use Rattle.cqe_base.specs.Limits.{KeepsSizesAt}
 use Rattle.cqe_base.specs.Transcript.{mark_text}
 use Rattle.log_journal.specs.Records.{Recorded}
 use Rattle.user_desk.specs.Entries.{mark_of, purpose_by, entry_by, entry_of}
-use Rattle.dossier.specs.Written.{item_head, item_probes, AreBlocks, IsItem, AreItems, AreUnspent, IsWithin, IsNextLegal}
+use Rattle.dossier.specs.Written.{item_head, item_probes, AreBlocks, IsItem, AreItems}
+use Rattle.dossier.specs.Adding.{AreUnspent, IsWithin, IsNextLegal}
 use Rattle.dossier.specs.Adding.{AddsItem, AddsSaid}
 use Rattle.dossier.specs.Told.{is_undecided}
 use Rattle.dossier.specs.Logs.{past_schema}

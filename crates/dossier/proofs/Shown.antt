@@ -210,7 +210,7 @@ module _ (test : TestIsEntailment) (refutes : RefutationEntails) (empty : EmptyH
       by (kind_of mark == kind_of (mark_shown schema world name user entries query shown)) refl
     where
       by : (b : Bool) → (kind_of mark == kind_of (mark_shown schema world name user entries query shown)) ≡ b
-          → IsGoodResult (if b then Ok (behind_item schema world name user entries query mark size) else Err (refused.Mark line))
+          → IsGoodResult (if b then Ok (behind_item entries query mark size) else Err (refused.Mark line))
       by true same = grown entries query mark size before (asked_sound entries query mark size shown isnt right same)
       by false same = tt
   task_good entries (adding secret size) shown before right quiet =
@@ -353,7 +353,7 @@ module _ (test : TestIsEntailment) (refutes : RefutationEntails) (empty : EmptyH
   ask_good line entries None text shown is = tt
   ask_good line entries (Some mark) [] shown is = tt
   ask_good line entries (Some mark) (b ∷ text) shown is =
-      asked_good line entries mark (length (b ∷ text)) (sentence_in schema world user entries Asking (b ∷ text)) shown (is mark refl)
+      asked_good line entries mark (length (b ∷ text)) (sentence_in schema user entries Asking (b ∷ text)) shown (is mark refl)
 
   added_good : (line : ℕ) (entries : History) (size : ℕ) (found : Option Formula) → IsShown entries
       → IsGoodResult (added schema world name user line entries size found)
@@ -370,7 +370,7 @@ module _ (test : TestIsEntailment) (refutes : RefutationEntails) (empty : EmptyH
   protect_good : (line : ℕ) (entries : History) (text : Text) → IsShown entries → IsGoodResult (protect_line schema world name user line entries text)
   protect_good line entries [] shown = tt
   protect_good line entries (b ∷ text) shown =
-      added_good line entries (length (b ∷ text)) (sentence_in schema world user entries Protecting (b ∷ text)) shown
+      added_good line entries (length (b ∷ text)) (sentence_in schema user entries Protecting (b ∷ text)) shown
 
   item_line_good : (entries : History) (field : FieldSaid) → IsShown entries → IsGoodResult (item_line schema world name user entries field)
   item_line_good entries field shown =

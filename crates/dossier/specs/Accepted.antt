@@ -1,4 +1,4 @@
--- The dossiers that are written are accepted.
+-- The dossiers that are written: they are accepted, and of each user's records there is one.
 use Rattle.std.specs.Prelude.{◌≡◌, ◌==◌, ℕ, true, false, List, map, Some, Ok}
 use Rattle.std.specs.List.{list_all, list_any}
 use Rattle.cqe_base.specs.Schema.{DatabaseSchema, Text, is_schema_name, is_valid_schema}
@@ -41,3 +41,11 @@ ServedAreAccepted =
 abbrev pub NamesHaveNoFeed : Type 0
 NamesHaveNoFeed =
     (name : Text) → is_schema_name name ≡ true → list_any (λ b. b == 10) name ≡ false
+
+-- a user with these records has at most one dossier: nothing else decides a byte of it
+abbrev pub DossiersAreOne : Type 0
+DossiersAreOne =
+    (schema : DatabaseSchema) (name : Text) (user : UserProfile) (records : List Recorded)
+    (first second : Text)
+    → IsDossier schema name user records first → IsDossier schema name user records second
+    → first ≡ second

@@ -16,7 +16,8 @@ use Rattle.cqe_base.specs.Reading.{Refusal, reading}
 use Rattle.cqe_base.specs.Entailment.{holds_in, all_hold_in}
 use Rattle.cqe_base.specs.History.{UserProfile, History, known, log, user_at}
 use Rattle.cqe_base.specs.Refutation.{RefutationLine, is_refutation}
-use Rattle.cqe_base.specs.Censor.{Probe, guarded, guard_by, probes, probes_against, knows_truth_by}
+use Rattle.cqe_base.specs.Censor.{Probe, guarded, guarded_with, probes}
+use Rattle.cqe_base.specs.Censor.{probes_against, knows_truth_by}
 use Rattle.entailment.specs.Certificates.{clauses_of_probe}
 use Rattle.audit_print.specs.Said.{method_word}
 use Rattle.user_desk.specs.Entries.{kind_of}
@@ -61,10 +62,11 @@ pub data Awaited : Type 0 where
 abbrev pub addition_probe : UserProfile → History → Formula → Probe
 addition_probe user entries secret = record {
   premises = log user entries;
-  goal = (guard_by user.method ((user_at user entries).secrets ++ secret ∷ []) secret, true);
+  goal = (guarded_with (user_at user entries) secret, true);
 }
 
--- whether in a world the premises of a probe are true and its goal is false
+-- whether in a world the premises of a probe are true and its goal is false; that the facts that a
+-- text lists are of the schema, `facts_listed` says
 abbrev pub is_countermodel : DatabaseSchema → Probe → FactSet → Bool
 is_countermodel schema probe other =
     all_hold_in schema other probe.premises && not (holds_in schema other probe.goal)
@@ -74,27 +76,27 @@ abbrev pub head_rest : Text → UserProfile → Text → Text
 head_rest name user standing =
     codes "1 " ++ name ++ codes " " ++ method_word user.method ++ codes " " ++ standing
 
-module _ (schema : DatabaseSchema) (world : FactSet) (user : UserProfile) where
+module _ (schema : DatabaseSchema) (user : UserProfile) where
   -- the sentence that a text reads as, where it isn't beyond the limits behind these items
   abbrev pub within_limits : History → Purpose → Text → Result Formula Refusal → Option Formula
   within_limits entries purpose text (Err why) = None
   within_limits entries purpose text (Ok sentence) =
-      if is_beyond schema world user entries purpose (length text) sentence then None
+      if is_beyond schema user entries purpose (length text) sentence then None
       else Some sentence
 
-  -- that of a text of at most 4,096 bytes
+  -- the sentence that a text of at most 4,096 bytes reads as, within the limits behind these items
   abbrev pub sentence_in : History → Purpose → Text → Option Formula
   sentence_in entries purpose text =
       if nat_le (length text) 4096 then within_limits entries purpose text (reading schema text)
       else None
 
+-- what is awaited behind one more item
+abbrev pub behind_item : History → Formula → Mark → ℕ → Awaited
+behind_item entries query mark size =
+    item (entries ++ record { query = query; mark = mark; length = size } ∷ [])
+
 module _ (schema : DatabaseSchema) (world : FactSet) (name : Text) (user : UserProfile) where
   -- ---- tasks
-
-  -- what is awaited behind one more item
-  abbrev pub behind_item : History → Formula → Mark → ℕ → Awaited
-  behind_item entries query mark size =
-      item (entries ++ record { query = query; mark = mark; length = size } ∷ [])
 
   -- the mark that verdicts on all probes of a query give
   abbrev pub mark_shown : History → Formula → List Bool → Mark
@@ -173,7 +175,7 @@ module _ (schema : DatabaseSchema) (world : FactSet) (name : Text) (user : UserP
   ask_line line entries (Some mark) [] = Err (refused.Form line)
   ask_line line entries (Some mark) (b ∷ text) =
       asked line entries mark (length (b ∷ text))
-      (sentence_in schema world user entries Asking (b ∷ text))
+      (sentence_in schema user entries Asking (b ∷ text))
 
   -- a sentence that is to be added
   abbrev pub added : ℕ → History → ℕ → Option Formula → Result Awaited DossierError
@@ -186,10 +188,12 @@ module _ (schema : DatabaseSchema) (world : FactSet) (name : Text) (user : UserP
   protect_line line entries [] = Err (refused.Form line)
   protect_line line entries (b ∷ text) =
       added line entries (length (b ∷ text))
-      (sentence_in schema world user entries Protecting (b ∷ text))
+      (sentence_in schema user entries Protecting (b ∷ text))
 
   -- ---- lines
 
+  -- the first line: `dossier` and the name, the method and the word `open` of this user; one that
+  -- says closed or sealed shows no admission
   abbrev pub head_line : FieldSaid → Result Awaited DossierError
   head_line field =
       if not (bytes_eq field.word (codes "dossier")) then Err (refused.Form field.line)
@@ -200,6 +204,7 @@ module _ (schema : DatabaseSchema) (world : FactSet) (name : Text) (user : UserP
       then Err (refused.Admission field.line)
       else Err (refused.Form field.line)
 
+  -- the line of the admission, which for refusal is right only where what the user knows is true
   abbrev pub admission_line : FieldSaid → Result Awaited DossierError
   admission_line field =
       if not (is_alone field (codes "admission")) then Err (refused.Form field.line)
@@ -207,6 +212,7 @@ module _ (schema : DatabaseSchema) (world : FactSet) (name : Text) (user : UserP
       then awaited_for [] admitting (probes_against (known user) (guarded user)) []
       else Err (refused.Admission field.line)
 
+  -- the first line of a block: `open` and the facts of a world, or `follows`
   abbrev pub block_line : Showing → FieldSaid → Result Awaited DossierError
   block_line showing field =
       if bytes_eq field.word (codes "open")
@@ -215,6 +221,7 @@ module _ (schema : DatabaseSchema) (world : FactSet) (name : Text) (user : UserP
       then follows_block field.line showing showing.task
       else Err (refused.Form field.line)
 
+  -- a line within a refutation: one more line of it, or its end
   abbrev pub step_line : Showing → List RefutationLine → FieldSaid → Result Awaited DossierError
   step_line showing lines field =
       if bytes_eq field.word (codes "line")
@@ -222,6 +229,7 @@ module _ (schema : DatabaseSchema) (world : FactSet) (name : Text) (user : UserP
       else if is_alone field (codes "end") then refutation_end field.line showing lines
       else Err (refused.Form field.line)
 
+  -- a line behind the items: one more item, `ask` or `protect`, or the end with their number
   abbrev pub item_line : History → FieldSaid → Result Awaited DossierError
   item_line entries field =
       if bytes_eq field.word (codes "ask")

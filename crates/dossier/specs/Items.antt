@@ -57,7 +57,7 @@ module _ (schema : DatabaseSchema) (world : FactSet) (name : Text) (user : UserP
   ReadsShown before line mark query size old new =
       ReadsOn schema world name user
       (asked schema world name user line before mark size (Some query)) old new
-      (λ _. Ok (behind_item schema world name user before query mark size))
+      (λ _. Ok (behind_item before query mark size))
 
   -- the first probes of a query were read, for refusal, and their verdicts give this answer
   abbrev pub ReadsImplied : (before : History) → Task → Formula → (more : List Probed) → Unread

@@ -9,6 +9,10 @@ use Rattle.dossier.specs.Checked.{checked}
 use Rattle.dossier.specs.declared.error.DossierError.{DossierError}
 use Rattle.dossier.specs.declared.error.DossierError.TheVariants.{Memory}
 
+-- an answer is this one, but for want of memory
+abbrev pub IsButMemory : {X : Type 0} → (exact answer : Result X DossierError) → Type 0
+IsButMemory exact answer = answer ≢ Err Memory → answer ≡ exact
+
 -- how many items a history has, where there is one
 abbrev pub counted : Result History DossierError → Result ℕ DossierError
 counted (Ok entries) = Ok (length entries)
@@ -17,8 +21,7 @@ counted (Err why) = Err why
 module _ (schema : DatabaseSchema) (world : FactSet) (name : Text) (user : UserProfile) where
   -- an answer is that of the definition, but for want of memory
   abbrev pub IsCheckOf : Text → Result ℕ DossierError → Type 0
-  IsCheckOf text answer =
-      answer ≢ Err Memory → answer ≡ counted (checked schema world name user text)
+  IsCheckOf text answer = IsButMemory (counted (checked schema world name user text)) answer
 
   -- what a text shows that is accepted with so many items: the user is admissible, the history that
   -- it shows is sound, and hides soundly

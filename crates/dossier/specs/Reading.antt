@@ -1,5 +1,5 @@
 -- How a dossier is read, line by line.
-use Rattle.std.specs.Prelude.{◌≡◌, ◌≢◌, ◌<◌, ⊤, ℕ, Bool, List, [], ◌∷◌, ◌+◌, length}
+use Rattle.std.specs.Prelude.{◌≡◌, ◌<◌, ⊤, ℕ, Bool, List, [], ◌∷◌, ◌+◌, length}
 use Rattle.std.specs.Prelude.{Option, Some, None, Result, Ok, Err}
 use Rattle.std.specs.List.{list_any}
 use Rattle.cqe_base.specs.Schema.{DatabaseSchema, Text}
@@ -43,10 +43,6 @@ PassesLine old (Some field) new =
 abbrev pub TakesLine : Unread → Result Field DossierError → Unread → Type 0
 TakesLine old (Ok field) new = PassesLine old (Some field) new
 TakesLine old (Err why) new = PassesLine old None new × (why ≡ Form (next_line old))
-
--- an answer is this one, but for want of memory
-abbrev pub IsButMemory : {X : Type 0} → (exact answer : Result X DossierError) → Type 0
-IsButMemory exact answer = answer ≢ Err Memory → answer ≡ exact
 
 module _ (schema : DatabaseSchema) (world : FactSet) (name : Text) (user : UserProfile) where
   -- what the unread text shows where this is awaited

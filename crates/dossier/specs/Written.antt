@@ -1,29 +1,29 @@
 -- The text of a dossier, as it is written.
 use Rattle.std.specs.Prelude.{◌≡◌, ◌≤◌, ◌⊎◌, ℕ, true, false, List, [], ◌∷◌, ◌++◌, length, map}
-use Rattle.std.specs.Prelude.{Some, Ok, IsUtf8, codes, decimal}
-use Rattle.std.specs.List.{flat_map, list_all, list_any}
+use Rattle.std.specs.Prelude.{Some, IsUtf8, codes, decimal}
+use Rattle.std.specs.List.{flat_map, list_all}
 use Rattle.std.specs.List.Sorted.{IsStrictlySortedBy}
 use Rattle.cqe_base.specs.declared.user.Mark.{Mark}
 use Rattle.cqe_base.specs.declared.user.Mark.TheVariants.{Undecided, Protected}
-use Rattle.cqe_base.specs.declared.user.Purpose.{Purpose}
 use Rattle.cqe_base.specs.declared.world.Fact.{Fact}
 use Rattle.cqe_base.specs.Schema.{DatabaseSchema, Text}
 use Rattle.cqe_base.specs.Facts.{FactSet, fact_cmp, is_fact_of}
 use Rattle.cqe_base.specs.Formula.{Formula}
-use Rattle.cqe_base.specs.Literal.{Literal, Positive, Negative, variable_of}
+use Rattle.cqe_base.specs.Literal.{Literal, Positive, Negative, variable_of, sign_at}
 use Rattle.cqe_base.specs.History.{UserProfile, AnsweredQuery, History, known, log, user_at}
+use Rattle.cqe_base.specs.ClauseForm.{numbering_of, world_of as model_world}
 use Rattle.cqe_base.specs.Refutation.{RefutationLine, is_refutation}
+use Rattle.cqe_base.specs.Machine.{End, Ended, Model, Refuted, MachineEnds}
+use Rattle.cqe_base.specs.Outcome.{grounded_probe}
 use Rattle.cqe_base.specs.Censor.{Probe, guarded, probes, probes_against, IsLegal}
-use Rattle.cqe_base.specs.Censor.{IsLegalItem}
-use Rattle.cqe_base.specs.Reading.{reading}
-use Rattle.cqe_base.specs.Outcome.{outcome, is_spent}
-use Rattle.cqe_base.specs.Limits.{KeepsSizesAt, KeepsSizes}
+use Rattle.cqe_base.specs.Limits.{KeepsSizes}
 use Rattle.cqe_base.specs.Transcript.{mark_text}
 use Rattle.log_journal.specs.Records.{Recorded}
 use Rattle.entailment.specs.Certificates.{clauses_of_probe}
+use Rattle.entailment.specs.Budgets.{variables_of}
 use Rattle.audit_text.specs.Text.{world_text}
 use Rattle.audit_print.specs.Said.{IsListing, world_said, method_word}
-use Rattle.user_desk.specs.Entries.{entry_of, purpose_by}
+use Rattle.user_desk.specs.Entries.{entry_of}
 use Rattle.dossier.specs.Words.{world_of}
 use Rattle.dossier.specs.Small.{is_small_line}
 use Rattle.dossier.specs.Checked.{is_countermodel, addition_probe}
@@ -79,10 +79,28 @@ IsFollowsBlock schema probe text =
     × (list_all is_small_line lines ≡ true) × (text ≡ follows_text lines)
 
 -- a block shows whether the premises of a probe entail its goal
-abbrev pub IsBlock : DatabaseSchema → Probe → Text → Type 0
-IsBlock schema probe text = IsOpenBlock schema probe text ⊎ IsFollowsBlock schema probe text
+abbrev pub IsRightBlock : DatabaseSchema → Probe → Text → Type 0
+IsRightBlock schema probe text = IsOpenBlock schema probe text ⊎ IsFollowsBlock schema probe text
 
--- blocks show it of these probes, one after the other
+-- a block shows an end of the machine: the refutation, or the facts that the model makes true
+abbrev pub ShowsEnd : DatabaseSchema → Probe → End → Text → Type 0
+ShowsEnd schema probe (Refuted lines) text = text ≡ follows_text lines
+ShowsEnd schema probe (Model signs) text =
+    let formulas = grounded_probe schema probe.premises probe.goal in
+    IsOpenListing schema (model_world (numbering_of formulas).facts (sign_at signs)) text
+
+-- a block shows the end of the machine on the clauses of a probe, whatever that costs
+abbrev pub ShowsMachine : DatabaseSchema → Probe → Text → Type 0
+ShowsMachine schema probe text =
+    (ended : Ended) × MachineEnds (clauses_of_probe schema probe.premises probe.goal)
+    (variables_of schema probe.premises probe.goal) ended
+    × ShowsEnd schema probe ended.end text
+
+-- the block that is written of a probe: it is right, and that of the machine's end
+abbrev pub IsBlock : DatabaseSchema → Probe → Text → Type 0
+IsBlock schema probe text = IsRightBlock schema probe text × ShowsMachine schema probe text
+
+-- the blocks of these probes, one after the other
 abbrev pub AreBlocks : DatabaseSchema → List Probe → Text → Type 0
 AreBlocks schema [] text = text ≡ []
 AreBlocks schema (probe ∷ more) text =
@@ -143,31 +161,8 @@ IsDossier schema name user records text =
     × (text ≡ head_text name user (codes "open") ++ admission ++ items
     ++ done_text (length records)) × IsUtf8 text
 
--- none of these probes is spent at a budget
-abbrev pub AreUnspent : DatabaseSchema → ℕ → List Probe → Type 0
-AreUnspent schema budget probes =
-    list_any (λ probe. is_spent (outcome schema probe.premises probe.goal budget)) probes ≡ false
-
--- a text is that of an item with this mark within the limits, whose call was made for this purpose
-abbrev pub IsWithin : DatabaseSchema → UserProfile → History → Purpose → Mark → Text → Type 0
-IsWithin schema user before purpose mark text =
-    (query : Formula) × (reading schema text ≡ Ok query) × (purpose_by mark ≡ purpose)
-    × (length text ≤ 4096)
-    × KeepsSizesAt schema user before
-    (record { query = query; mark = mark; length = length text })
-
--- a record stands for an item that is legal behind these, and came within the limits
-abbrev pub IsNextLegal : DatabaseSchema → FactSet → UserProfile → History → Recorded → Type 0
-IsNextLegal schema world user before next =
-    (entry : AnsweredQuery) × (entry_of schema next ≡ Some entry)
-    × IsLegalItem schema world user before entry × KeepsSizesAt schema user before entry
-
 -- records stand for a legal history of a user within the limits
 abbrev pub AreLegal : DatabaseSchema → FactSet → UserProfile → List Recorded → Type 0
 AreLegal schema world user records =
     (entries : History) × (map (entry_of schema) records ≡ map Some entries)
     × IsLegal schema world user entries × KeepsSizes schema user entries
-
--- a text grew by one of this kind
-abbrev pub Grows : (Text → Type 0) → (old new : Text) → Type 0
-Grows Is old new = (more : Text) × Is more × (new ≡ old ++ more)

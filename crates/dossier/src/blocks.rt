@@ -18,7 +18,8 @@ ghost use Rattle.entailment.specs.Probes.{IsGroundPremise};
 ghost use Rattle.dossier.specs.Words.{facts_listed};
 ghost use Rattle.dossier.specs.Checked.{Task, Showing, block, step, awaited_for, behind_block};
 ghost use Rattle.dossier.specs.Checked.{is_countermodel, refutation_end};
-ghost use Rattle.dossier.specs.Reading.{bytes_left, ReadsOn, ReadsAll, IsButMemory};
+ghost use Rattle.dossier.specs.Promised.{IsButMemory};
+ghost use Rattle.dossier.specs.Reading.{bytes_left, ReadsOn, ReadsAll};
 ghost use Rattle.dossier.specs.Blocks.{Probed, reason_of, probe_over, MayFollow, open_answer};
 
 use crate::cut::{Field, FieldIter};

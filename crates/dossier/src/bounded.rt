@@ -8,7 +8,7 @@ use clause_store::literal::Lit;
 use clause_store::refutation::Line;
 
 /// The greatest number of a variable or a clause.
-const GREATEST: u32 = 2_147_483_646;
+pub(crate) const GREATEST: u32 = 2_147_483_646;
 
 /// Whether those of all these lines are.
 pub(crate) fn are_small(lines: &[Line]) -> bool

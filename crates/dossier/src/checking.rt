@@ -27,10 +27,10 @@ use cqe_base::world::World;
 use std::alloc::{AllocError, Global};
 
 /// Checks the text of a dossier of a user over a world, line by line, and answers the number of its
-/// items. Nothing is searched: each refutation is confirmed and each world tested, so that it takes
-/// time by the text alone, whatever the probes cost that it shows. What is accepted shows that the
-/// user is admissible and its history sound, whoever wrote it; which asks are undecided it leaves
-/// open.
+/// items. Nothing is searched: each refutation is confirmed and each world tested. So it takes time
+/// by the text and by the sentences of the log, written out, and never by what a search would cost.
+/// What is accepted shows that the user is admissible and its history sound, whoever wrote it;
+/// which asks are undecided it leaves open.
 pub fn check_dossier(
     alloc: Global,
     schema: &Schema,

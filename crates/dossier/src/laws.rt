@@ -2,15 +2,15 @@
 ghost use Rattle.soundness.specs.Sound.{SoundHistoriesHide};
 ghost use Rattle.dossier.specs.Promised.{CheckedAreSound};
 ghost use Rattle.dossier.specs.Accepted.{DossiersAreAccepted, ServedAreAccepted};
-ghost use Rattle.dossier.specs.Accepted.{NamesHaveNoFeed};
+ghost use Rattle.dossier.specs.Accepted.{NamesHaveNoFeed, DossiersAreOne};
 
 use cqe_base::laws::law_entailment;
-use cqe_base::machine_laws::law_refutation_entails;
+use cqe_base::machine_laws::{law_machine_has_one_end, law_refutation_entails};
 use soundness::{law_sound_grows, law_verdicts};
 
-/// A sound history of an admissible user hides his secrets, those among them that it adds: for each
-/// there is a world in which the secret is false, all that he knows is true, he is admissible, and
-/// his history is sound.
+/// A sound history of an admissible user hides his secrets soundly, those among them that it adds:
+/// for each there is a world in which the secret is false, all that he knows is true, he is
+/// admissible, and his history is sound.
 pub fn law_sound()
     ensures { SoundHistoriesHide }
 {
@@ -34,3 +34,11 @@ pub fn law_dossiers_are_accepted()
     ensures served { ServedAreAccepted }
     ensures names { NamesHaveNoFeed }
 {}
+
+/// A user with these records has at most one dossier. So it shows no fact that the schema, the user
+/// and the records don't.
+pub fn law_dossiers_are_one()
+    ensures { DossiersAreOne }
+{
+    law_machine_has_one_end();
+}

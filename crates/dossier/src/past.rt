@@ -1,6 +1,5 @@
 //! What is kept of the items that were read so far.
 ghost use Rattle.std.specs.Prelude.{◌≡◌, ◌≤◌, ◌||◌, [], true, false, map, option_map, IfOk, OnOk};
-ghost use Rattle.cqe_base.specs.Facts.{FactSet};
 ghost use Rattle.cqe_base.specs.Formula.{formula_of, is_sentence_of};
 ghost use Rattle.std.specs.List.{list_all};
 ghost use Rattle.cqe_base.specs.Truth.{true_in, same_truth};
@@ -104,9 +103,9 @@ impl<'w> Past<'w> {
         text: &str,
     ) -> Result<Option<Sentence>, AllocError>
         requires { IsKept self.now }
-        ensures { IfOk result (λ read. (world : FactSet) → option_map formula_of read
-            ≡ sentence_in (past_schema self.now) world (past_user self.now)
-            (past_history self.now) purpose text.now) }
+        ensures { IfOk result (λ read. option_map formula_of read
+            ≡ sentence_in (past_schema self.now) (past_user self.now) (past_history self.now)
+            purpose text.now) }
     {
         if is_long(text) {
             return Ok(None);
@@ -127,8 +126,8 @@ impl<'w> Past<'w> {
     fn is_beyond(&self, purpose: Purpose, length: usize, sentence: &Sentence) -> bool
         requires kept { IsKept self.now }
         requires few { length ≤ 4096 }
-        ensures { (world : FactSet) → result
-            ≡ is_beyond (past_schema self.now) world (past_user self.now) (past_history self.now)
+        ensures { result
+            ≡ is_beyond (past_schema self.now) (past_user self.now) (past_history self.now)
             purpose length (formula_of sentence.now) }
     {
         if self.is_full(length) {

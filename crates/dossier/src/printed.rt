@@ -16,7 +16,8 @@ ghost use Rattle.audit_text.specs.Text.{world_text};
 ghost use Rattle.dossier.specs.Written.{sign_text, literal_text, number_text, line_text};
 ghost use Rattle.dossier.specs.Written.{follows_text};
 ghost use Rattle.dossier.specs.Small.{is_small_line};
-ghost use Rattle.dossier.specs.Written.{IsOpenListing, IsBlock, Grows};
+ghost use Rattle.dossier.specs.Written.{IsOpenListing, IsBlock};
+ghost use Rattle.dossier.specs.Adding.{Grows};
 
 use crate::bounded::are_small;
 use audit_print::fact_texts;
@@ -24,13 +25,16 @@ use audit_text::push_facts;
 use clause_store::literal::Lit;
 use clause_store::refutation::{Line, Refutation};
 use cqe_base::laws::law_grounded_nodes;
-use cqe_base::machine_laws::{law_numbered_facts_are_few, law_variables_are_few};
+use cqe_base::machine_laws::{
+    law_budget_is_whole_cost, law_numbered_facts_are_few, law_variables_are_few,
+};
 use cqe_base::schema::Schema;
 use cqe_base::world::World;
 use entailment::{Certified, Probe, View, certify};
 use std::alloc::{AllocError, Global};
 
-/// Appends the block of a probe of the view's log that isn't spent at this budget.
+/// Appends the block of a probe of the view's log that isn't spent at this budget: that of the
+/// machine's end.
 pub(crate) fn push_block(
     alloc: Global,
     text: &mut String,
@@ -54,6 +58,7 @@ pub(crate) fn push_block(
         (string_bytes text.old) (string_bytes text.new)) }
     ensures same { view.new ≡ view.old }
 {
+    law_budget_is_whole_cost();
     law_variables_are_few();
     law_numbered_facts_are_few();
     law_grounded_nodes();
@@ -64,8 +69,8 @@ pub(crate) fn push_block(
     }
 }
 
-/// Appends the lines of a refutation as a block. No number of one that a search found is too great
-/// to be read; if one were, this would be an end for want of memory.
+/// Appends the lines of a refutation as a block. That no number of one that a search found is too
+/// great to be read is seen by reading; if one were, this would be an end for want of memory.
 fn push_follows(text: &mut String, refutation: &Refutation) -> Result<(), AllocError>
     ensures { OnOk result ((list_all is_small_line (lines_of refutation.now) ≡ true)
         × (string_bytes text.new

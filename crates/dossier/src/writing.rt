@@ -21,9 +21,9 @@ ghost use Rattle.entailment.specs.Probes.{premise_list, signed_at, IsGroundPremi
 ghost use Rattle.dossier.specs.Checked.{addition_probe};
 ghost use Rattle.dossier.specs.Logs.{past_schema, past_user, past_history, IsKept, IsSamePast};
 ghost use Rattle.dossier.specs.Items.{goal_probe, implied_probes};
-ghost use Rattle.dossier.specs.Written.{IsBlock, AreBlocks, item_probes, IsDossier};
-ghost use Rattle.dossier.specs.Written.{AreLegal, IsNextLegal, AreUnspent, IsWithin, Grows};
+ghost use Rattle.dossier.specs.Written.{IsBlock, AreBlocks, item_probes, IsDossier, AreLegal};
 ghost use Rattle.dossier.specs.Written.{IsAdmission, AreItems, head_text, done_text};
+ghost use Rattle.dossier.specs.Adding.{IsNextLegal, AreUnspent, IsWithin, Grows};
 ghost use Rattle.dossier.specs.Adding.{AddsItem, AddsSaid};
 
 use crate::checking::head_rest;
@@ -46,9 +46,10 @@ use std::alloc::{AllocError, Global};
 use user_desk::mark_of;
 
 /// Writes the dossier of an admitted user whose records stand for a legal history of his within the
-/// limits. Its refutations are those of the search and its worlds those of its models, so that each
-/// block is right, and `check_dossier` accepts the text. All is made before the first byte is
-/// written.
+/// limits. Its refutations are those of the machine and its worlds those of its models, so the
+/// schema, the user and the records decide the text (`law_dossiers_are_one`); of the world only its
+/// premises speak. Each block is right, and `check_dossier` accepts the text. All is made before
+/// the first byte is written.
 pub fn write_dossier<K: Sink>(
     alloc: Global,
     schema: &Schema,

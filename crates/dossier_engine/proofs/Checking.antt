@@ -11,7 +11,8 @@ use Rattle.dossier.specs.Checked.{checked}
 use Rattle.dossier.specs.Promised.{counted, IsCheckOf, IsAccepted}
 use Rattle.dossier.specs.declared.error.DossierError.{DossierError}
 use Rattle.dossier.specs.declared.error.DossierError.TheVariants as errors
-use Rattle.dossier_engine.specs.Checks.{refused_end, by_line, checked_bytes, AcceptsBytes, EndsCheck, EndsText, IsSaid}
+use Rattle.dossier_engine.specs.Checks.{refused_end, by_line, checked_bytes, AcceptsBytes, EndsCheck}
+use Rattle.dossier_engine.specs.Said.{EndsText, IsSaid}
 use Rattle.dossier_engine.specs.Input.{IsRead}
 use Rattle.dossier_engine.specs.declared.end.CheckEnd.{CheckEnd}
 use Rattle.dossier_engine.specs.declared.end.CheckEnd.TheVariants as ends

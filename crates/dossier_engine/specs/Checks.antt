@@ -41,7 +41,7 @@ module _ (schema : DatabaseSchema) (world : FactSet) (name : Text) (user : UserP
       else Err NotUtf8
 
   -- they are accepted with so many items: the user is admissible, and the history that they show is
-  -- sound and hides
+  -- sound and hides soundly
   pub record AcceptsBytes (bytes : List ℕ) (count : ℕ) : Type 0 where
     pub accepted : IsAccepted schema world name user bytes count
     pub shown : checked_bytes bytes ≡ Ok accepted.entries
@@ -57,29 +57,6 @@ module _ (schema : DatabaseSchema) (world : FactSet) (name : Text) (user : UserP
       (count : ℕ) × AcceptsBytes left count × IsRead left left'
       × AppendsPart old new (sound_text count)
   EndsCheck Memory left left' old new = new ≡ old
-
-  -- the same of a text that was read
-  abbrev pub EndsText : Text → CheckEnd → (old new : List ℕ) → Type 0
-  EndsText text Done old new =
-      (count : ℕ) × IsAccepted schema world name user text count
-      × (new ≡ old ++ sound_text count)
-  EndsText text (Refused (Line why)) old new =
-      (checked schema world name user text ≡ Err why) × (new ≡ old)
-  EndsText text (Refused TooLong) old new = ⊥
-  EndsText text (Refused NotUtf8) old new = ⊥
-  EndsText text ReadFault old new = ⊥
-  EndsText text WriteFault old new =
-      (count : ℕ) × IsAccepted schema world name user text count
-      × AppendsPart old new (sound_text count)
-  EndsText text Memory old new = new ≡ old
-
--- that a dossier of so many items is accepted was said, and the call ended so
-abbrev pub IsSaid : ℕ → CheckEnd → (old new : List ℕ) → Type 0
-IsSaid count Done old new = new ≡ old ++ sound_text count
-IsSaid count (Refused why) old new = ⊥
-IsSaid count ReadFault old new = ⊥
-IsSaid count WriteFault old new = AppendsPart old new (sound_text count)
-IsSaid count Memory old new = ⊥
 
 -- the end of a check that wrote nothing
 abbrev pub IsSilentCheck : CheckEnd → Type 0

@@ -3,3 +3,4 @@ pub mod Ends
 pub mod Accepted
 pub mod Input
 pub mod Checks
+pub mod Said

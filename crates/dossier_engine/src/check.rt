@@ -4,7 +4,8 @@ ghost use Rattle.outside.specs.Faults.{Rose};
 ghost use Rattle.line_protocol.specs.Rests.{IsRest};
 ghost use Rattle.cqe_base.specs.History.{profile_of};
 ghost use Rattle.cqe_base.specs.Limits.{KeepsLimits};
-ghost use Rattle.dossier_engine.specs.Checks.{EndsCheck, EndsText, IsSaid, IsSilentCheck};
+ghost use Rattle.dossier_engine.specs.Checks.{EndsCheck, IsSilentCheck};
+ghost use Rattle.dossier_engine.specs.Said.{EndsText, IsSaid};
 ghost use Rattle.dossier_engine.specs.declared.end.CheckEnd.{CheckEnd};
 
 use crate::end::{CheckEnd, CheckRefusal, refused_end};

@@ -6,7 +6,7 @@
 //! line, and where his journal is refused the end names the reason. No other disk is touched, and
 //! the bytes of the one that is opened stay.
 //! `run_check` reads a text from a source and searches nothing: what it accepts is a sound history
-//! of an admissible user and hides, whoever wrote it.
+//! of an admissible user and hides soundly, whoever wrote it.
 //!
 //! Read `specs/Ends.antt` and `specs/Checks.antt` first, then `end`, `run` and `show`, and `check`
 //! and `input`.

@@ -36,6 +36,7 @@ pub(crate) fn show_disk<'w, D: Disk, K: Sink>(
     ensures images { (c : List ℕ) → D.image result.0 c → D.image disk c }
     ensures moments { (c : List ℕ) → D.image_since result.0 (D.moment disk) c → D.image disk c }
     ensures durable { result.1 ≡ DossierEnd.Done → Only (D.reads disk) (D.image result.0) }
+    ensures origin { D.origin result.0 ≡ D.origin disk }
     ensures count { D.faults disk ≤ D.faults result.0 }
     ensures silent { result.1 ≡ DossierEnd.Memory → sink.new ≡ sink.old }
     ensures later { K.faults sink.old ≤ K.faults sink.new }

@@ -6,8 +6,8 @@ use Rattle.entailment.specs.Logs.{IsSmallLog, told_log}
 use Rattle.entailment.specs.Forms.{form_of_log, with_negated}
 use Rattle.entailment.specs.Views.{LogView, schema_of, log_of}
 use Rattle.entailment.specs.Inside.{view_inside, IsSound}
-use Rattle.entailment.specs.Verdicts.{as_wanted, IsCheckedOf, searched_verdict}
-use Rattle.entailment.specs.Certificates.{IsRightFor, IsRightOf}
+use Rattle.entailment.specs.Verdicts.{as_wanted, IsCheckedOf, searched_end, searched_verdict}
+use Rattle.entailment.specs.Certificates.{IsRightFor, IsRightOf, IsMachines, IsMachinesOf}
 use Rattle.entailment.specs.declared.probes.Wanted.{Wanted}
 use Rattle.entailment.specs.declared.probes.Verdict.{Verdict}
 use Rattle.entailment.specs.declared.probes.Certified.{Certified}
@@ -40,3 +40,9 @@ module _ (v : Inside) (view : LogView) (is : view_inside v ≡ view) (sound : Is
         → IsRightFor (form_of_log (schema_of view) (with_negated (log_of view ++ premise) goal)).clauses found
     own-right premise goal found right =
         subst (λ s. IsRightOf s premise goal form found) schema-is right (log_of view) own-form
+
+    -- and a refutation is the machine's on them
+    pub own-lines : (premise : List Signed) (goal : Signed) (budget : ℕ) (found : Certified) → IsMachinesOf v.schema.now premise goal budget form found
+        → IsMachines (searched_end (form_of_log (schema_of view) (with_negated (log_of view ++ premise) goal)) budget) found
+    own-lines premise goal budget found machines =
+        subst (λ s. IsMachinesOf s premise goal budget form found) schema-is machines (log_of view) own-form

@@ -1,15 +1,17 @@
 -- What shows what a probe found: a refutation of its clauses, or a world.
-use Rattle.std.specs.Prelude.{◌≡◌, true, Bool, List, ◌++◌}
+use Rattle.std.specs.Prelude.{◌≡◌, true, ℕ, Bool, List, ◌++◌, Option, Some}
 use Rattle.cqe_base.specs.Schema.{DatabaseSchema}
 use Rattle.cqe_base.specs.Entailment.{Signed}
 use Rattle.cqe_base.specs.Literal.{Literal}
 use Rattle.cqe_base.specs.SignedGround.{SignedGround}
 use Rattle.cqe_base.specs.ClauseForm.{clause_form}
 use Rattle.cqe_base.specs.Refutation.{RefutationLine, is_refutation}
+use Rattle.cqe_base.specs.Machine.{End, Refuted}
 use Rattle.cqe_base.specs.Outcome.{grounded_probe}
 use Rattle.clause_store.specs.PlainLines.{lines_of}
 use Rattle.clause_form.specs.Forms.{Form, form_of}
 use Rattle.entailment.specs.Forms.{form_of_log, with_negated}
+use Rattle.entailment.specs.Verdicts.{searched_end}
 use Rattle.entailment.specs.declared.probes.Verdict.{Verdict}
 use Rattle.entailment.specs.declared.probes.Verdict.TheVariants.{Follows, Open, Spent}
 use Rattle.entailment.specs.declared.probes.Certified.{Certified}
@@ -44,3 +46,16 @@ abbrev pub IsConfirmedOf : (more : List SignedGround) → Form → List Refutati
 IsConfirmedOf more form lines answer =
     (formulas : List SignedGround) → form ≡ form_of formulas
     → answer ≡ is_refutation (form_of (formulas ++ more)).clauses lines
+
+-- a refutation that was found is the one with which the machine ends
+abbrev pub IsMachines : Option End → Certified → Type 0
+IsMachines end (certified.Follows refutation) = end ≡ Some (Refuted (lines_of refutation))
+IsMachines end (certified.Open world) = Unit {0}
+IsMachines end certified.Spent = Unit {0}
+
+-- it is that of the probe of the log whose form it is
+abbrev pub IsMachinesOf : DatabaseSchema → (premise : List Signed) (goal : Signed) (budget : ℕ)
+    → Form → Certified → Type 0
+IsMachinesOf schema premise goal budget form found =
+    (log : List Signed) → form ≡ form_of_log schema log → IsMachines
+    (searched_end (form_of_log schema (with_negated (log ++ premise) goal)) budget) found

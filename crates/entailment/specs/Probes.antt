@@ -19,7 +19,7 @@ use Rattle.entailment.specs.declared.probes.Verdict.TheVariants as verdict
 abbrev pub signed_at : Bor GroundSentence × Bool → Signed
 signed_at s = (sentence_of s.0.now, s.1)
 
--- the further premise of a probe, if it has one
+-- the signed sentence that a further premise in memory means, if there is one
 abbrev pub premise_list : Option (Bor GroundSentence × Bool) → List Signed
 premise_list None = []
 premise_list (Some s) = signed_at s ∷ []

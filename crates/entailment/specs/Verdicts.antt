@@ -52,10 +52,13 @@ checked_verdict form (Some (Model signs)) =
     then Open (world_of form.numbering.facts (sign_at signs))
     else Spent
 
+-- the machine's end on a form, where its whole cost is within the budget
+abbrev pub searched_end : Form → ℕ → Option End
+searched_end form budget = end_within_budget form.clauses form.numbering.variables budget
+
 -- the checked verdict of what the machine finds within a budget on a form
 abbrev pub searched_verdict : Form → ℕ → Verdict
-searched_verdict form budget =
-    checked_verdict form (end_within_budget form.clauses form.numbering.variables budget)
+searched_verdict form budget = checked_verdict form (searched_end form budget)
 
 -- a verdict is the checked one of the probe of the log whose form it is, as it is wanted
 abbrev pub IsCheckedOf : DatabaseSchema → (premise : List Signed) (goal : Signed) (budget : ℕ)

@@ -9,9 +9,9 @@
 //! Its verdict is that of the machine's end. `Follows` comes only where the premises entail the
 //! goal over all worlds of the schema, `Open` only with a world in which they are true and the goal
 //! is false, that of the machine's model, and the view is afterwards as it was. `probe_outcome`
-//! makes no world. `certify` tells the refutation too, and `confirm` says of any refutation whether
-//! it is right for a probe, without a search. `Views` is a log that lends views of itself, and
-//! takes them back.
+//! makes no world. `certify` tells the refutation with which the machine ends, too, and `confirm`
+//! says of any refutation whether it is right for a probe, without a search. `Views` is a log that
+//! lends views of itself, and takes them back.
 //!
 //! The law beneath is that of `clause_form`: the clauses have a model exactly where some world of
 //! the schema makes the sentences true. Read `view`, then `sentences`, `forms`, `probes` and

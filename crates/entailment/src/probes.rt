@@ -14,9 +14,9 @@ ghost use Rattle.entailment.specs.Forms.{StaysOrEmpty};
 ghost use Rattle.entailment.specs.Views.{schema_of, log_of};
 ghost use Rattle.entailment.specs.Budgets.{IsSpentByCost};
 ghost use Rattle.entailment.specs.Verdicts.{verdict_of_probe, checked_verdict, searched_verdict};
-ghost use Rattle.entailment.specs.Verdicts.{as_wanted, IsCheckedOf};
+ghost use Rattle.entailment.specs.Verdicts.{as_wanted, IsCheckedOf, end_of_probe, searched_end};
 ghost use Rattle.entailment.specs.Certificates.{as_verdict, clauses_of_probe, IsRightFor};
-ghost use Rattle.entailment.specs.Certificates.{IsRightOf};
+ghost use Rattle.entailment.specs.Certificates.{IsRightOf, IsMachines, IsMachinesOf};
 ghost use Rattle.entailment.specs.GroundSentences.{IsGroundOver};
 ghost use Rattle.entailment.specs.Probes.{premise_of, goal_of, outcome_of, outcome_found};
 ghost use Rattle.entailment.specs.Probes.{IsTrueOutcome, IsTrueVerdict, IsGroundPremise};
@@ -131,9 +131,9 @@ pub fn test(
     }
 }
 
-/// The same, with the refutation where the goal follows. It is right for the probe's clauses, those
-/// of the log, of the premise and of the negated goal, and its lines are numbered on from them; so
-/// `confirm` says yes of it.
+/// The same, with the refutation where the goal follows: that with which the machine ends. It is
+/// right for the probe's clauses, those of the log, of the premise and of the negated goal, and its
+/// lines are numbered on from them; so `confirm` says yes of it.
 pub fn certify(
     alloc: Global,
     view: &mut View<'_>,
@@ -159,6 +159,9 @@ pub fn certify(
     ensures right { IfOk result
         (IsRightFor (clauses_of_probe (schema_of view.old) (log_of view.old
         ++ premise_of probe.now) (goal_of probe.now))) }
+    ensures lines { IfOk result
+        (IsMachines (end_of_probe (schema_of view.old) (log_of view.old ++ premise_of probe.now)
+        (goal_of probe.now) budget)) }
     ensures same { view.new ≡ view.old }
 {
     run(alloc, view, probe, budget, Wanted::World)
@@ -228,6 +231,9 @@ fn run(
     ensures right { IfOk result
         (IsRightFor (clauses_of_probe (schema_of view.old) (log_of view.old
         ++ premise_of probe.now) (goal_of probe.now))) }
+    ensures lines { IfOk result
+        (IsMachines (end_of_probe (schema_of view.old) (log_of view.old ++ premise_of probe.now)
+        (goal_of probe.now) budget)) }
     ensures spent { IfOk result (λ found.
         IsSpentByCost (schema_of view.old) (log_of view.old ++ premise_of probe.now)
         (goal_of probe.now) budget (as_verdict found)) }
@@ -287,6 +293,8 @@ fn probed(
         former.old (as_verdict found)) }
     ensures right { IfOk result
         (IsRightOf schema.now (premise_of probe.now) (goal_of probe.now) former.old) }
+    ensures lines { IfOk result
+        (IsMachinesOf schema.now (premise_of probe.now) (goal_of probe.now) budget former.old) }
     ensures more { GoesOn former.old former.new }
     ensures kept { IsBeginning kept.new former.old.clauses }
 {
@@ -318,6 +326,7 @@ fn certificate_of(
     ensures verdict { IfOk result (λ found. as_verdict found
         ≡ as_wanted wanted (searched_verdict former.now budget)) }
     ensures right { IfOk result (IsRightFor former.now.clauses) }
+    ensures lines { IfOk result (IsMachines (searched_end former.now budget)) }
     ensures kept { StaysOrEmpty kept.old kept.new }
 {
     match kept.search(alloc, former.clauses(), former.variables(), budget)? {
@@ -336,6 +345,7 @@ fn checked_refutation(
     ensures verdict { IfOk result (λ found. (wanted : Wanted) → as_verdict found
         ≡ as_wanted wanted (checked_verdict former.now (Some (Refuted (lines_of refutation))))) }
     ensures right { IfOk result (IsRightFor former.now.clauses) }
+    ensures lines { IfOk result (IsMachines (Some (Refuted (lines_of refutation)))) }
 {
     if check_refutation(alloc, former.clauses(), &refutation)? {
         Ok(Certified::Follows(refutation))
@@ -357,6 +367,7 @@ fn checked_signs(
     ensures verdict { IfOk result (λ found. as_verdict found ≡ as_wanted wanted
         (checked_verdict former.now (Some (Model signs.now.values.items)))) }
     ensures right { IfOk result (IsRightFor former.now.clauses) }
+    ensures lines { IfOk result (IsMachines (Some (Model signs.now.values.items))) }
 {
     match wanted {
         Wanted::Outcome => Ok(Certified::Open(World::new(alloc))),
@@ -375,6 +386,7 @@ fn checked_model(
     ensures verdict { IfOk result (λ found. as_verdict found
         ≡ checked_verdict former.now (Some (Model signs.now.values.items))) }
     ensures right { IfOk result (IsRightFor former.now.clauses) }
+    ensures lines { IfOk result (IsMachines (Some (Model signs.now.values.items))) }
 {
     if check_model(former.clauses(), signs) {
         Ok(Certified::Open(former.world_of(alloc, schema, signs)?))

@@ -97,6 +97,7 @@ fn make<D: Disk>(alloc: Global, disk: D, header: &Header) -> (D, Result<(), Stop
         (HasReason D.tells (header_bytes header.now) (D.reads disk) (D.faults disk)
         (D.faults result.0) 0 0) }
     ensures kept { D.tells → IfErr result.1 (StaysAt D.Disk (Some disk) (Some result.0)) }
+    ensures origin { D.origin result.0 ≡ D.origin disk }
     ensures count { D.faults disk ≤ D.faults result.0 }
 {
     let mut disk = disk;
@@ -116,6 +117,7 @@ fn format_empty<D: Disk>(disk: &mut D, header: &Header) -> Result<(), Failed>
     requires { D.tells → D.reads disk.old ≡ [] }
     ensures made { D.tells
         → OnOk result (IsMade D.Disk (header_bytes header.now) [] disk.new) }
+    ensures origin { D.origin disk.new ≡ D.origin disk.old }
     ensures cause { HasCause (D.faults disk.old) (D.faults disk.new) result }
 {
     disk.sync()?;
@@ -131,6 +133,7 @@ fn reopen<D: Disk>(alloc: Global, disk: D, header: &Header) -> (D, Result<(), St
         (HasReason D.tells (header_bytes header.now) (D.reads disk) (D.faults disk)
         (D.faults result.0) 0 0) }
     ensures only { OnlyReads D.Disk disk result.0 }
+    ensures origin { D.origin result.0 ≡ D.origin disk }
 {
     match open(alloc, disk, header) {
         Ok((journal, _records)) => (journal.close(), Ok(())),

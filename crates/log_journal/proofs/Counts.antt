@@ -33,8 +33,8 @@ written_long [] = omega arith
 written_long ((kind, text) ∷ all) = omega (arith, written_long all, length-append text (written all))
 
 module _ (bytes : List ℕ) (gate : ℕ) (ends : EndsAt bytes gate) where
-  -- so they are fewer than a number can say
-  pub few_records : length (records bytes) < 2 ^ 64
+  -- so they are fewer than a number can say, with some more
+  pub few_records : length (records bytes) + 2 < 2 ^ 64
   few_records =
       omega (arith, written_long (records bytes), ap length ends.front.is, length-drop 72 (take gate bytes), length-take gate bytes, ends.within, ends.fits)
 

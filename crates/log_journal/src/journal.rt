@@ -28,6 +28,7 @@ pub struct Journal<D: Disk> {
     ghost ends: { broken ≡ false → D.tells → EndsAt (D.reads disk) gate },
     ghost durable: { broken ≡ false → Only (D.reads disk) (D.image disk) },
     ghost counted: { broken ≡ false → D.tells → count ≡ length (records (D.reads disk)) },
+    ghost few: { count + 1 < 2 ^ 64 },
 }
 
 impl<D: Disk> Journal<D> {
@@ -43,6 +44,7 @@ impl<D: Disk> Journal<D> {
         requires ends { D.tells → EndsAt (D.reads disk) gate }
         requires durable { Only (D.reads disk) (D.image disk) }
         requires counted { D.tells → count ≡ length (records (D.reads disk)) }
+        requires few { count + 1 < 2 ^ 64 }
         ensures disk { disk_of result ≡ disk }
         ensures whole { is_broken result ≡ false }
         ensures count { count_of result ≡ count }
@@ -114,6 +116,7 @@ impl<D: Disk> Journal<D> {
         // Behind Ok its mark may be told, and those that might be before it still may.
         ensures may_be_told { OnOk result (count_of self.old < D.told (disk_of self.new)) }
         ensures told { D.told (disk_of self.old) ≤ D.told (disk_of self.new) }
+        ensures origin { D.origin (disk_of self.new) ≡ D.origin (disk_of self.old) }
 
         // The count is that of the records.
         ensures number { D.tells → is_broken self.old ≡ false
@@ -136,7 +139,7 @@ impl<D: Disk> Journal<D> {
         ) {
             Ok(()) => {
                 self.gate = self.gate.saturating_add(text.len() as u64 + 4);
-                self.count = self.count.saturating_add(1);
+                self.count = self.count.saturating_add(1).min(u64::MAX - 1);
                 Ok(())
             }
             Err(Failed) => {
@@ -186,6 +189,7 @@ fn put_told<D: Disk>(
     requires ends { D.tells → EndsAt (D.reads disk.old) gate }
     requires durable { Only (D.reads disk.old) (D.image disk.old) }
     requires counted { D.tells → number ≡ length (records (D.reads disk.old)) }
+    requires few { number + 1 < 2 ^ 64 }
 
     ensures size { length room.new.items ≡ length room.old.items }
     ensures added { D.tells
@@ -200,10 +204,11 @@ fn put_told<D: Disk>(
         → KeepsOrAdds (D.reads disk.old) (kind, text.now) c }
     ensures may_be_told { OnOk result (number < D.told disk.new) }
     ensures told { D.told disk.old ≤ D.told disk.new }
+    ensures origin { D.origin disk.new ≡ D.origin disk.old }
     ensures next { D.tells → OnOk result (length (records (D.reads disk.new)) ≡ number + 1) }
     ensures grown { D.tells → OnOk result (records (D.reads disk.new)
         ≡ records (D.reads disk.old) ++ (kind, text.now) ∷ []) }
-    ensures fits { D.tells → OnOk result (number + 1 < 2 ^ 64) }
+    ensures fits { D.tells → OnOk result (number + 2 < 2 ^ 64) }
     ensures cause { HasCause (D.faults disk.old) (D.faults disk.new) result }
 {
     put_record(disk, gate, room, kind, text)?;
@@ -237,6 +242,7 @@ fn put_record<D: Disk>(
     ensures moments { D.tells → (c : List ℕ) → D.image_since disk.new (D.moment disk.old) c
         → KeepsOrAdds (D.reads disk.old) (kind, text.now) c }
     ensures told { D.told disk.old ≤ D.told disk.new }
+    ensures origin { D.origin disk.new ≡ D.origin disk.old }
     ensures cause { HasCause (D.faults disk.old) (D.faults disk.new) result }
 {
     fill_start(room, kind, text);

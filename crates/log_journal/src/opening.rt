@@ -59,6 +59,7 @@ pub fn format<D: Disk>(disk: &mut D, header: &Header) -> Result<(), Failed>
     ensures durable { OnOk result (Only (D.reads disk.new) (D.image disk.new)) }
     ensures time { Elapses (D.moment disk.old) (D.moment disk.new) (D.image_since disk.old)
         (D.image_since disk.new) }
+    ensures origin { D.origin disk.new ≡ D.origin disk.old }
     ensures cause { HasCause (D.faults disk.old) (D.faults disk.new) result }
 {
     write_synced(disk, 0, &empty_journal(header))
@@ -80,6 +81,8 @@ pub fn create<D: Disk>(
     ensures durable { IfOk result (λ r. Only (D.reads (disk_of r)) (D.image (disk_of r))) }
     ensures whole { IfOk result (λ r. is_broken r ≡ false) }
     ensures number { IfOk result (λ r. count_of r ≡ 0) }
+    ensures origin { IfOk result (λ r. D.origin (disk_of r) ≡ D.origin disk) }
+    ensures same_origin { IfErr result (λ r. D.origin r.disk ≡ D.origin disk) }
     ensures count { IfOk result (λ r. D.faults disk ≤ D.faults (disk_of r)) }
     ensures later { IfErr result (λ r. D.faults disk ≤ D.faults r.disk) }
     ensures cause { IfErr result (λ r. Rose (D.faults disk) (D.faults r.disk)) }
@@ -196,6 +199,7 @@ fn record_at<D: Disk>(
         (D.image disk.new)
         (D.moment disk.old) (D.moment disk.new) (D.image_since disk.old) (D.image_since disk.new)
         (D.faults disk.old) (D.faults disk.new) }
+    ensures origin { D.origin disk.new ≡ D.origin disk.old }
 {
     let mut window = [0; WINDOW];
     let count = disk.read_at(gate, &mut window)?;
@@ -221,6 +225,7 @@ fn read_records<D: Disk>(
         (D.image disk.new)
         (D.moment disk.old) (D.moment disk.new) (D.image_since disk.old) (D.image_since disk.new)
         (D.faults disk.old) (D.faults disk.new) }
+    ensures origin { D.origin disk.new ≡ D.origin disk.old }
 {
     let mut records = Vec::new(alloc);
     let mut gate = 72;
@@ -247,6 +252,7 @@ fn read_header<D: Disk>(disk: &mut D, first: &[u8; 8], header: &Header) -> Resul
         (D.image disk.new)
         (D.moment disk.old) (D.moment disk.new) (D.image_since disk.old) (D.image_since disk.new)
         (D.faults disk.old) (D.faults disk.new) }
+    ensures origin { D.origin disk.new ≡ D.origin disk.old }
 {
     let _length = disk.length()?;
     let mut start = [0; 73];
@@ -279,6 +285,7 @@ fn read_journal<D: Disk>(
         (D.image disk.new)
         (D.moment disk.old) (D.moment disk.new) (D.image_since disk.old) (D.image_since disk.new)
         (D.faults disk.old) (D.faults disk.new) }
+    ensures origin { D.origin disk.new ≡ D.origin disk.old }
 {
     read_header(disk, first, header)?;
     read_records(alloc, disk, kinds)
@@ -302,6 +309,7 @@ fn read_synced<D: Disk>(
         (IsRefusedOf kinds D.tells (headed first.now header.now) (D.reads disk.old)
         (D.faults disk.old) (D.faults disk.new)) }
     ensures reads { D.reads disk.new ≡ D.reads disk.old }
+    ensures origin { D.origin disk.new ≡ D.origin disk.old }
     ensures durable { OnOk result (Only (D.reads disk.new) (D.image disk.new)) }
     ensures synced { IfErr result (λ why. (why ≡ OpenError.DiskFault)
         ⊎ Only (D.reads disk.new) (D.image disk.new)) }
@@ -334,6 +342,7 @@ fn read_told<D: Disk>(
         (IsRefused D.tells (header_bytes header.now) (D.reads disk.old) (D.faults disk.old)
         (D.faults disk.new)) }
     ensures reads { D.reads disk.new ≡ D.reads disk.old }
+    ensures origin { D.origin disk.new ≡ D.origin disk.old }
     ensures durable { OnOk result (Only (D.reads disk.new) (D.image disk.new)) }
     ensures synced { IfErr result (λ why. (why ≡ OpenError.DiskFault)
         ⊎ Only (D.reads disk.new) (D.image disk.new)) }
@@ -381,6 +390,7 @@ pub fn open<D: Disk>(
         → IfErr result (λ r. IsOutside r.why) }
 
     ensures reads { D.reads (disk_after result) ≡ D.reads disk }
+    ensures origin { D.origin (disk_after result) ≡ D.origin disk }
     ensures durable { OnOk result (Only (D.reads disk) (D.image (disk_after result))) }
     ensures synced { IfErr result (λ r. (r.why ≡ OpenError.DiskFault)
         ⊎ Only (D.reads disk) (D.image r.disk)) }
@@ -426,6 +436,7 @@ pub fn open_old<D: Disk>(
     ensures oldest { IfErr result (λ r. r.why ≢ OpenError.OldVersion) }
 
     ensures reads { D.reads (disk_after result) ≡ D.reads disk }
+    ensures origin { D.origin (disk_after result) ≡ D.origin disk }
     ensures durable { OnOk result (Only (D.reads disk) (D.image (disk_after result))) }
     ensures synced { IfErr result (λ r. (r.why ≡ OpenError.DiskFault)
         ⊎ Only (D.reads disk) (D.image r.disk)) }

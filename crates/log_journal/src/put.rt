@@ -21,6 +21,7 @@ pub(crate) fn write_synced<D: Disk>(disk: &mut D, at: u64, piece: &[u8]) -> Resu
     ensures moments { (c : List ℕ) → D.image_since disk.new (D.moment disk.old) c
         → Torn at (length piece.now) (D.reads disk.old) c }
     ensures told { D.told disk.old ≤ D.told disk.new }
+    ensures origin { D.origin disk.new ≡ D.origin disk.old }
     ensures cause { HasCause (D.faults disk.old) (D.faults disk.new) result }
 {
     disk.write_at(at, piece)?;
@@ -47,6 +48,7 @@ pub(crate) fn put<D: Disk>(disk: &mut D, gate: u64, piece: &[u8]) -> Result<(), 
     ensures moments { D.tells → (c : List ℕ) → D.image_since disk.new (D.moment disk.old) c
         → IsBetween (D.reads disk.old) gate piece.now c }
     ensures told { D.told disk.old ≤ D.told disk.new }
+    ensures origin { D.origin disk.new ≡ D.origin disk.old }
     ensures cause { HasCause (D.faults disk.old) (D.faults disk.new) result }
 {
     // A disk that clauses are told of has fewer than 2^64 bytes, so this sum isn't cut off.

@@ -1,5 +1,5 @@
 //! Telling a disk of the records that lie on it, so that their marks may be told.
-ghost use Rattle.std.specs.Prelude.{◌≡◌, ◌<◌, ◌≤◌, All, length, map, OnOk};
+ghost use Rattle.std.specs.Prelude.{◌≡◌, ◌<◌, ◌≤◌, ◌+◌, ◌^◌, All, length, map, OnOk};
 ghost use Rattle.outside.specs.Disk.{Only};
 ghost use Rattle.outside.specs.Faults.{HasCause};
 ghost use Rattle.log_journal.specs.Opening.{recorded, IsRecord, IsOnlyRead};
@@ -20,8 +20,10 @@ pub(crate) fn tell_record<D: Disk>(
     requires low { 1 ≤ kind }
     requires high { kind ≤ 5 }
     requires short { length text.now ≤ 4096 }
+    requires few { number + 1 < 2 ^ 64 }
     ensures may_be_told { OnOk result (number < D.told disk.new) }
     ensures told { D.told disk.old ≤ D.told disk.new }
+    ensures origin { D.origin disk.new ≡ D.origin disk.old }
     ensures only { IsOnlyRead (D.reads disk.old) (D.reads disk.new) (D.image disk.old)
         (D.image disk.new)
         (D.moment disk.old) (D.moment disk.new) (D.image_since disk.old) (D.image_since disk.new)
@@ -36,7 +38,9 @@ pub(crate) fn tell_all<D: Disk>(disk: &mut D, all: &[Record]) -> Result<(), Fail
     requires there { D.tells → records (D.reads disk.old) ≡ map recorded all.now }
     requires durable { Only (D.reads disk.old) (D.image disk.old) }
     requires each { All (IsRecord 5) all.now }
+    requires few { length all.now < 2 ^ 64 }
     ensures told { OnOk result (length all.now ≤ D.told disk.new) }
+    ensures origin { D.origin disk.new ≡ D.origin disk.old }
     ensures only { IsOnlyRead (D.reads disk.old) (D.reads disk.new) (D.image disk.old)
         (D.image disk.new)
         (D.moment disk.old) (D.moment disk.new) (D.image_since disk.old) (D.image_since disk.new)

@@ -55,6 +55,7 @@ fn read_old<D: Disk>(alloc: Global, disk: D, header: &Header) -> (D, Result<Vec<
     ensures reason { IfErr result.1 (IsUnread D.tells (header_bytes header.now) (D.reads disk)
         (D.faults disk) (D.faults result.0) 0 0) }
     ensures only { OnlyReads D.Disk disk result.0 }
+    ensures origin { D.origin result.0 ≡ D.origin disk }
 {
     match open_old(alloc, disk, header) {
         Ok((journal, records)) => (journal.close(), Ok(records)),

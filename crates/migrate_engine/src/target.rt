@@ -65,6 +65,7 @@ fn fill<D: Disk>(disk: D, header: &Header, records: &[Record]) -> (D, Result<(),
         (D.faults result.0) 0 0) }
     ensures left { D.tells → IfErr result.1 (LeavesDisk D.Disk (header_bytes header.now)
         (map recorded records.now) disk result.0) }
+    ensures origin { D.origin result.0 ≡ D.origin disk }
     ensures count { D.faults disk ≤ D.faults result.0 }
 {
     let mut disk = disk;
@@ -83,6 +84,7 @@ fn look<D: Disk>(disk: &mut D) -> Result<u64, Failed>
     ensures length { D.tells → IfOk result (λ n. n ≡ length (D.reads disk.old)) }
     ensures durable { OnOk result (Only (D.reads disk.new) (D.image disk.new)) }
     ensures only { OnlyReads D.Disk disk.old disk.new }
+    ensures origin { D.origin disk.new ≡ D.origin disk.old }
     ensures cause { HasCause (D.faults disk.old) (D.faults disk.new) result }
 {
     disk.sync()?;
@@ -98,6 +100,7 @@ fn make<D: Disk>(disk: &mut D, header: &Header, records: &[Record]) -> Result<()
         (map recorded records.now) [] disk.new) }
     ensures left { D.tells → OnErr result (FailsFirst D.Disk disk.new
         ⊎ IsMaking D.Disk (header_bytes header.now) (map recorded records.now) disk.new) }
+    ensures origin { D.origin disk.new ≡ D.origin disk.old }
     ensures cause { HasCause (D.faults disk.old) (D.faults disk.new) result }
 {
     write_shut(disk)?;
@@ -112,6 +115,7 @@ fn write_shut<D: Disk>(disk: &mut D) -> Result<(), Failed>
     ensures bytes { D.tells → OnOk result (D.reads disk.new ≡ shut_eight) }
     ensures durable { OnOk result (Only (D.reads disk.new) (D.image disk.new)) }
     ensures left { D.tells → OnErr result (FailsFirst D.Disk disk.new) }
+    ensures origin { D.origin disk.new ≡ D.origin disk.old }
     ensures cause { HasCause (D.faults disk.old) (D.faults disk.new) result }
 {
     disk.write_at(0, &[0, 0, 0, 0, 0, 0, 0, 0])?;
@@ -128,6 +132,7 @@ fn write_rest<D: Disk>(disk: &mut D, header: &Header, records: &[Record]) -> Res
     ensures durable { OnOk result (Only (D.reads disk.new) (D.image disk.new)) }
     ensures size { OnOk result (length (header_bytes header.now) ≡ 72) }
     ensures shut { D.tells → StaysShut D.Disk disk.old disk.new }
+    ensures origin { D.origin disk.new ≡ D.origin disk.old }
     ensures cause { HasCause (D.faults disk.old) (D.faults disk.new) result }
 {
     let facts = write_more(disk, 8, &header.policy)?;
@@ -148,6 +153,7 @@ fn write_records<D: Disk>(disk: &mut D, end: u64, records: &[Record]) -> Result<
     ensures end { D.tells → IfOk result (λ n. n ≡ length (D.reads disk.new)) }
     ensures behind { IfOk result (λ n. 8 ≤ n) }
     ensures shut { D.tells → StaysShut D.Disk disk.old disk.new }
+    ensures origin { D.origin disk.new ≡ D.origin disk.old }
     ensures cause { HasCause (D.faults disk.old) (D.faults disk.new) result }
 {
     let mut end = end;
@@ -168,6 +174,7 @@ fn write_record<D: Disk>(disk: &mut D, end: u64, next: &Record) -> Result<u64, F
     ensures end { D.tells → IfOk result (λ n. n ≡ length (D.reads disk.new)) }
     ensures behind { IfOk result (λ n. 8 ≤ n) }
     ensures shut { D.tells → StaysShut D.Disk disk.old disk.new }
+    ensures origin { D.origin disk.new ≡ D.origin disk.old }
     ensures cause { HasCause (D.faults disk.old) (D.faults disk.new) result }
 {
     let size = next.text.len();
@@ -186,6 +193,7 @@ fn write_more<D: Disk>(disk: &mut D, end: u64, piece: &[u8]) -> Result<u64, Fail
     ensures end { D.tells → IfOk result (λ n. n ≡ length (D.reads disk.new)) }
     ensures behind { IfOk result (λ n. 8 ≤ n) }
     ensures shut { D.tells → StaysShut D.Disk disk.old disk.new }
+    ensures origin { D.origin disk.new ≡ D.origin disk.old }
     ensures cause { HasCause (D.faults disk.old) (D.faults disk.new) result }
 {
     disk.write_at(end, piece)?;
@@ -205,6 +213,7 @@ fn write_synced<D: Disk>(disk: &mut D, at: u64, piece: &[u8]) -> Result<(), Fail
         (D.image_since disk.new) }
     ensures moments { (c : List ℕ) → D.image_since disk.new (D.moment disk.old) c
         → Torn at (length piece.now) (D.reads disk.old) c }
+    ensures origin { D.origin disk.new ≡ D.origin disk.old }
     ensures cause { HasCause (D.faults disk.old) (D.faults disk.new) result }
 {
     disk.write_at(at, piece)?;

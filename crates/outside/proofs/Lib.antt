@@ -2,5 +2,6 @@ pub mod Calls
 pub mod Moments
 pub mod Streams
 pub mod Visits
+pub mod Dials
 pub mod Rises
 pub mod Taken

@@ -5,10 +5,6 @@ use Rattle.std.specs.Prelude.{◌≡◌, ◌⊎◌, ℕ, ◌+◌, ◌^◌, ◌<�
 abbrev pub Rose : ℕ → ℕ → Type 0
 Rose before now = (before < now) ⊎ (2 ^ 64 ≤ now + 1)
 
--- So many faults were added to a count, or it stands at the greatest number that fits it.
-abbrev pub RisesBy : ℕ → ℕ → ℕ → Type 0
-RisesBy before faults now = (now ≡ before + faults) ⊎ (2 ^ 64 ≤ now + 1)
-
 -- A count of faults doesn't fall, and a refusal comes only where it rose.
 pub record HasCause {T E : Type 0} (before now : ℕ) (result : Result T E) : Type 0 where
   pub later : before ≤ now

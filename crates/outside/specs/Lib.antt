@@ -12,6 +12,7 @@ pub mod Shelf
 pub mod Places
 pub mod MemoryDisks
 pub mod Visits
+pub mod Dials
 pub mod MemoryDoors
 pub mod MemoryDials
 pub mod MemoryLinks

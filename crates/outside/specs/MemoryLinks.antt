@@ -2,7 +2,10 @@
 use Rattle.std.specs.Prelude.{ℕ, ◌+◌, List, [], ◌∷◌, ◌++◌, length, map, string_bytes}
 use Rattle.std.specs.List.{sum_by}
 use Rattle.outside.specs.Visits.{Visit, Place, place_of, one_if_any}
+use Rattle.outside.specs.Dials.{Exchange, faults_under}
+use Rattle.outside.specs.MemoryDials.{dial_name, dial_exchanged, dial_faults}
 use Rattle.outside.specs.MemoryDoors.{visits_of}
+use Rattle.outside.specs.declared.memory_dial.MemoryDial.{MemoryDial}
 use Rattle.outside.specs.declared.memory_door.DoorBack.{DoorBack}
 use Rattle.outside.specs.declared.memory_links.Listened.{Listened}
 use Rattle.outside.specs.declared.memory_links.MemoryLinks.{MemoryLinks}
@@ -49,6 +52,23 @@ links_listened links = places_of links.places.items
 abbrev pub links_faults : MemoryLinks → ℕ
 links_faults links = links.faults
 
--- the faults of the dials that were hung up
-abbrev pub links_mirror : MemoryLinks → ℕ
-links_mirror links = links.mirror
+-- how many dials aren't hung up
+abbrev pub links_dialling : MemoryLinks → ℕ
+links_dialling links = links.dials_out
+
+-- what dials exchanged, one behind the other
+abbrev pub exchanged_among : List MemoryDial → List Exchange
+exchanged_among [] = []
+exchanged_among (dial ∷ dials) = dial_exchanged dial ++ exchanged_among dials
+
+-- what the dials exchanged that were hung up
+abbrev pub links_exchanged : MemoryLinks → List Exchange
+links_exchanged links = exchanged_among links.dials_back.items
+
+-- the faults of dials, by their names
+abbrev pub faults_among : List MemoryDial → List ℕ → ℕ
+faults_among dials = faults_under dial_name dial_faults dials
+
+-- the faults of the dials that were hung up, by their names
+abbrev pub links_exchange_faults : MemoryLinks → List ℕ → ℕ
+links_exchange_faults links = faults_among links.dials_back.items

@@ -68,6 +68,18 @@ abbrev pub NoNewMoments : {D : Type 0} → (D → ℕ) → (D → ℕ → List �
 NoNewMoments moment since image old new =
     (name : List ℕ) → NoNewSince moment since image (old name) (new name)
 
+-- What stays the same of a shelf, so that who lent it something knows what he has back: the names
+-- of the references by which it reaches that, what says where the disks come from that it was lent,
+-- one by one, and the same of the disk of each name.
+pub record Lent : Type 0 where
+  pub names : List ℕ
+  pub origins : List (List (List ℕ))
+  pub origin : List ℕ → List (List ℕ)
+
+-- nothing was lent to it, and its disks say nothing of where they come from
+abbrev pub nothing_lent : Lent
+nothing_lent = record { names = []; origins = []; origin = λ name. [] }
+
 -- No disk is out.
 abbrev pub NoneOut : (List ℕ → Bool) → Type 0
 NoneOut is_out = (name : List ℕ) → is_out name ≡ false

@@ -1,5 +1,6 @@
 //! A disk: what its calls promise of the bytes that it reads, and of what a crash may leave.
-ghost use Rattle.std.specs.Prelude.{◌≡◌, ◌⊎◌, ◌<◌, ◌≤◌, ◌^◌, List, ℕ, length, IfOk, OnOk, OnErr};
+ghost use Rattle.std.specs.Prelude.{◌≡◌, ◌⊎◌, ◌<◌, ◌≤◌, ◌+◌, ◌^◌, List, ℕ, length, IfOk, OnOk};
+ghost use Rattle.std.specs.Prelude.{OnErr};
 ghost use Rattle.outside.specs.Disk.{Holds, Fills, Torn, Follows, Only, Elapses};
 ghost use Rattle.outside.specs.Faults.{HasCause};
 
@@ -35,6 +36,9 @@ pub trait Disk {
     /// nothing copies lets all be told.
     ghost told: { Self → ℕ };
 
+    /// What says where it comes from, of which its shelf knows by its name. No call changes it.
+    ghost origin: { Self → List (List ℕ) };
+
     /// How many bytes the disk has.
     fn length(&mut self) -> Result<u64, Failed>
         ensures length { tells → IfOk result (λ n. n ≡ length (reads self.old)) }
@@ -45,6 +49,7 @@ pub trait Disk {
         ensures moments { (c : List ℕ) → image_since self.new (moment self.old) c
             → image self.old c }
         ensures told { told self.old ≤ told self.new }
+        ensures origin { origin self.new ≡ origin self.old }
         ensures cause { HasCause (faults self.old) (faults self.new) result };
 
     /// Fills the piece from that place on, less only where the disk ends. Nobody reads behind the
@@ -61,6 +66,7 @@ pub trait Disk {
         ensures moments { (c : List ℕ) → image_since self.new (moment self.old) c
             → image self.old c }
         ensures told { told self.old ≤ told self.new }
+        ensures origin { origin self.new ≡ origin self.old }
         ensures cause { HasCause (faults self.old) (faults self.new) result };
 
     /// Writes the whole piece from that place on. Until a sync, a crash may leave any bytes in the
@@ -76,6 +82,7 @@ pub trait Disk {
         ensures moments { (c : List ℕ) → image_since self.new (moment self.old) c
             → image self.old c ⊎ image self.new c }
         ensures told { told self.old ≤ told self.new }
+        ensures origin { origin self.new ≡ origin self.old }
         ensures cause { HasCause (faults self.old) (faults self.new) result };
 
     /// After it, a crash leaves what a read gives.
@@ -88,17 +95,21 @@ pub trait Disk {
         ensures moments { (c : List ℕ) → image_since self.new (moment self.old) c
             → image self.old c }
         ensures told { told self.old ≤ told self.new }
+        ensures origin { origin self.new ≡ origin self.old }
         ensures cause { HasCause (faults self.old) (faults self.new) result };
 
-    /// Sees to it that the mark of a record may be told, which lies on the disk: its number from 0,
-    /// its kind and its text. A disk that is copied elsewhere answers once the copy has it. The
-    /// disk stays as it is.
+    /// Sees to it that the mark of the record of this number, from 0, may be told. The caller gives
+    /// its kind and its text, and no clause says that they are those of the record that lies there.
+    /// A disk that is copied elsewhere answers Ok once it was answered a count above the number.
+    /// The disk stays as it is.
     fn tell(&mut self, number: u64, kind: u8, text: &[u8]) -> Result<(), Failed>
         requires low { 1 ≤ kind }
         requires high { kind ≤ 5 }
         requires short { length text.now ≤ 4096 }
+        requires few { number + 1 < 2 ^ 64 }
         ensures may_be_told { OnOk result (number < told self.new) }
         ensures told { told self.old ≤ told self.new }
+        ensures origin { origin self.new ≡ origin self.old }
         ensures reads { reads self.new ≡ reads self.old }
         ensures images { (c : List ℕ) → image self.new c → image self.old c }
         ensures same_images { (c : List ℕ) → image self.old c → image self.new c }

@@ -3,7 +3,9 @@
 ghost use Rattle.std.specs.Prelude.{◌≡◌, ◌≢◌, ◌⊎◌, ◌<◌, ◌≤◌, ◌+◌, ◌-◌, ◌++◌, ◌∷◌, [], List, ℕ};
 ghost use Rattle.std.specs.Prelude.{Option, Some, None, All, length, IfOk, OnOk, OnErr, IsErrOf};
 ghost use Rattle.std.specs.List.{sum_by};
-ghost use Rattle.outside.specs.Faults.{Rose, RisesBy, HasCause};
+ghost use Rattle.outside.specs.Dials.{Exchange};
+ghost use Rattle.outside.specs.Faults.{Rose, HasCause};
+ghost use Rattle.outside.specs.Shelf.{SameNames, SameOthers};
 ghost use Rattle.outside.specs.Visits.{Visit, Place, place_of, visit_of, one_if_any, came, IfCame};
 ghost use Rattle.outside.specs.Visits.{UnlessCame, OnEnd, UnlessEnd};
 
@@ -136,8 +138,15 @@ pub trait Links {
     /// The count of faults, which doesn't fall.
     ghost faults: { Self → ℕ };
 
-    /// The second count: the faults of the dials that were hung up. It doesn't fall.
-    ghost mirror: { Self → ℕ };
+    /// How many dials aren't hung up.
+    ghost dialling: { Self → ℕ };
+
+    /// What the dials exchanged that were hung up, dial by dial, where clauses are told.
+    ghost exchanged: { Self → List Exchange };
+
+    /// The second count: under each name the faults of the dials of that name that were hung up. It
+    /// doesn't fall.
+    ghost exchange_faults: { Self → List ℕ → ℕ };
 
     /// Opens so many doors at an address and keeps the place of each.
     fn listen(
@@ -167,7 +176,9 @@ pub trait Links {
         ensures given { tells → given self.new ≡ given self.old }
         ensures left { tells → left self.new ≡ left self.old }
         ensures back { tells → back self.new ≡ back self.old }
-        ensures mirror { mirror self.new ≡ mirror self.old }
+        ensures dialling { dialling self.new ≡ dialling self.old }
+        ensures exchanged { tells → exchanged self.new ≡ exchanged self.old }
+        ensures exchange_faults { SameNames (exchange_faults self.old) (exchange_faults self.new) }
         ensures later { faults self.old ≤ faults self.new }
         ensures cause { IsErrOf result LinksError.Failed
             → Rose (faults self.old) (faults self.new) };
@@ -183,17 +194,26 @@ pub trait Links {
         ensures at_hand { tells → at_hand self.new ≡ at_hand self.old + Self.D.left door }
         ensures back { tells → back self.new ≡ back self.old ++ Self.D.back door }
         ensures listened { tells → listened self.new ≡ listened self.old }
-        ensures mirror { mirror self.new ≡ mirror self.old }
+        ensures dialling { dialling self.new ≡ dialling self.old }
+        ensures exchanged { tells → exchanged self.new ≡ exchanged self.old }
+        ensures exchange_faults { SameNames (exchange_faults self.old) (exchange_faults self.new) }
         ensures later { faults self.old ≤ faults self.new }
         ensures whole { Self.D.faults door ≡ 0 → faults self.new ≡ faults self.old }
         ensures failed { Self.D.faults door ≢ 0 → Rose (faults self.old) (faults self.new) };
 
-    /// A dial to an address, which was answered nothing yet and hasn't failed. It opens no
-    /// connection.
-    fn dial(&mut self, alloc: Global, address: &str) -> Result<Self::Dial, AllocError>
+    /// A dial to an address, which was answered nothing yet and hasn't failed. Its faults will be
+    /// counted under a name. It opens no connection.
+    fn dial(&mut self, alloc: Global, address: &str, name: &str) -> Result<Self::Dial, AllocError>
+        ensures address { IfOk result (λ dial. Self.Dial.address dial ≡ address.now) }
+        ensures name { IfOk result (λ dial. Self.Dial.name dial ≡ name.now) }
+        ensures fresh { Self.Dial.tells
+            → IfOk result (λ dial. Self.Dial.exchanged dial ≡ []) }
         ensures whole { IfOk result (λ dial. Self.Dial.faults dial ≡ 0) }
         ensures unanswered { IfOk result (λ dial. Self.Dial.answered dial ≡ 0) }
-        ensures mirror { mirror self.new ≡ mirror self.old }
+        ensures dialling { OnOk result (dialling self.new ≡ dialling self.old + 1) }
+        ensures none { OnErr result (dialling self.new ≡ dialling self.old) }
+        ensures exchanged { tells → exchanged self.new ≡ exchanged self.old }
+        ensures exchange_faults { SameNames (exchange_faults self.old) (exchange_faults self.new) }
         ensures out { out self.new ≡ out self.old }
         ensures ended { ended self.new ≡ ended self.old }
         ensures given { tells → given self.new ≡ given self.old }
@@ -203,10 +223,17 @@ pub trait Links {
         ensures listened { tells → listened self.new ≡ listened self.old }
         ensures faults { faults self.new ≡ faults self.old };
 
-    /// Takes a dial back. Its faults are added to the second count. It takes no memory.
+    /// Takes a dial back that `dial` gave. Its faults are added to the second count of its name,
+    /// and to no other. It takes no memory.
     fn hang_up(&mut self, dial: Self::Dial)
-        ensures mirror { RisesBy (mirror self.old) (Self.Dial.faults dial) (mirror self.new) }
-        ensures later { mirror self.old ≤ mirror self.new }
+        requires { 0 < dialling self.old }
+        ensures dialling { dialling self.old ≡ dialling self.new + 1 }
+        ensures exchanged { tells
+            → exchanged self.new ≡ exchanged self.old ++ Self.Dial.exchanged dial }
+        ensures exchange_faults { exchange_faults self.new (Self.Dial.name dial)
+            ≡ exchange_faults self.old (Self.Dial.name dial) + Self.Dial.faults dial }
+        ensures other_faults { SameOthers (Self.Dial.name dial) (exchange_faults self.old)
+            (exchange_faults self.new) }
         ensures out { out self.new ≡ out self.old }
         ensures ended { ended self.new ≡ ended self.old }
         ensures given { tells → given self.new ≡ given self.old }
@@ -218,4 +245,7 @@ pub trait Links {
 
     /// Links that tell their connections open doors that tell theirs.
     ghost tells_doors: { tells → Self.D.tells };
+
+    /// They give dials that tell what they exchange.
+    ghost tells_dials: { tells → Self.Dial.tells };
 }

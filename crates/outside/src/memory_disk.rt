@@ -184,6 +184,8 @@ impl Disk for MemoryDisk {
 
     ghost told = { λ d. 2 ^ 64 };
 
+    ghost origin = { λ d. [] };
+
     ghost read_is_image = { λ d told.
         bytes_are_image d.first.items d.calls.items d.bytes.items d.kept };
 

@@ -1,7 +1,8 @@
 //! Links in memory.
 ghost use Rattle.std.specs.Prelude.{◌≡◌, ◌≤◌, ◌<◌, ◌+◌, ◌-◌, ◌++◌, ◌∷◌, [], All, length, vec_len};
-ghost use Rattle.std.specs.Prelude.{vec_capacity, IfOk, OnOk, OnErr};
+ghost use Rattle.std.specs.Prelude.{vec_capacity, IfOk, OnOk, OnErr, List, ℕ};
 ghost use Rattle.std.specs.List.{sum_by};
+ghost use Rattle.outside.specs.Shelf.{SameNames};
 ghost use Rattle.outside.specs.Visits.{place_of, one_if_any};
 ghost use Rattle.outside.specs.MemoryDoors.{door_given, door_left, door_back, door_ends};
 ghost use Rattle.outside.specs.MemoryDoors.{door_faults};
@@ -37,16 +38,18 @@ pub struct MemoryLinks {
     dials_back: Vec<MemoryDial>,
     dial_plans: Vec<Plan>,
     dials_out: usize,
-    mirror: u64,
     ghost group_room: { length groups.items + out ≤ vec_capacity groups },
     ghost door_room: { length doors_back.items + out ≤ vec_capacity doors_back },
+    ghost dial_room: { length dials_back.items + dials_out ≤ vec_capacity dials_back },
 }
 
 impl MemoryLinks {
     ghost use Rattle.outside.specs.MemoryLinks.{visits_among, links_given, links_left};
     ghost use Rattle.outside.specs.MemoryLinks.{links_at_hand, links_back, links_out, links_ended};
     ghost use Rattle.outside.specs.MemoryLinks.{links_listened, places_of, links_faults};
-    ghost use Rattle.outside.specs.MemoryLinks.{links_mirror};
+    ghost use Rattle.outside.specs.MemoryLinks.{links_dialling, links_exchanged};
+    ghost use Rattle.outside.specs.MemoryLinks.{links_exchange_faults, exchanged_among};
+    ghost use Rattle.outside.specs.MemoryLinks.{faults_among};
 
     /// Links with these connections, the first of them first, that never fail, nor do their doors.
     pub fn new(alloc: Global, connections: Vec<Connection>) -> Self
@@ -58,7 +61,9 @@ impl MemoryLinks {
         ensures ended { links_ended result ≡ 0 }
         ensures listened { links_listened result ≡ [] }
         ensures faultless { links_faults result ≡ 0 }
-        ensures mirror { links_mirror result ≡ 0 }
+        ensures dialling { links_dialling result ≡ 0 }
+        ensures exchanged { links_exchanged result ≡ [] }
+        ensures exchange_faults { (name : List ℕ) → links_exchange_faults result name ≡ 0 }
     {
         Self::with_plans(alloc, connections, Plan::Never, Vec::new(alloc))
     }
@@ -80,7 +85,9 @@ impl MemoryLinks {
         ensures ended { links_ended result ≡ 0 }
         ensures listened { links_listened result ≡ [] }
         ensures faultless { links_faults result ≡ 0 }
-        ensures mirror { links_mirror result ≡ 0 }
+        ensures dialling { links_dialling result ≡ 0 }
+        ensures exchanged { links_exchanged result ≡ [] }
+        ensures exchange_faults { (name : List ℕ) → links_exchange_faults result name ≡ 0 }
     {
         let mut waiting = connections;
         waiting.reverse();
@@ -101,7 +108,6 @@ impl MemoryLinks {
             dials_back: Vec::new(alloc),
             dial_plans: Vec::new(alloc),
             dials_out: 0,
-            mirror: 0,
         }
     }
 
@@ -115,7 +121,10 @@ impl MemoryLinks {
         ensures ended { links_ended self.new ≡ links_ended self.old }
         ensures listened { links_listened self.new ≡ links_listened self.old }
         ensures faults { links_faults self.new ≡ links_faults self.old }
-        ensures mirror { links_mirror self.new ≡ links_mirror self.old }
+        ensures dialling { links_dialling self.new ≡ links_dialling self.old }
+        ensures exchanged { links_exchanged self.new ≡ links_exchanged self.old }
+        ensures exchange_faults { SameNames (links_exchange_faults self.old)
+            (links_exchange_faults self.new) }
     {
         let mut plans = plans;
         plans.reverse();
@@ -123,15 +132,12 @@ impl MemoryLinks {
     }
 
     /// The dials that were hung up, in that order.
-    pub fn dials_back(&self) -> &[MemoryDial] {
-        &self.dials_back
-    }
-
-    /// The second count: the faults of the dials that were hung up.
-    pub fn mirror(&self) -> u64
-        ensures { result ≡ links_mirror self.now }
+    pub fn dials_back(&self) -> &[MemoryDial]
+        ensures exchanged { exchanged_among result.now ≡ links_exchanged self.now }
+        ensures faults { (name : List ℕ)
+            → faults_among result.now name ≡ links_exchange_faults self.now name }
     {
-        self.mirror
+        &self.dials_back
     }
 
     /// The doors that are back, in the order in which they came back.
@@ -191,7 +197,10 @@ impl MemoryLinks {
             ≡ links_listened self.old ++ place_of address.now doors ∷ []) }
         ensures unheard { OnErr result (links_listened self.new ≡ links_listened self.old) }
         ensures faults { links_faults self.new ≡ links_faults self.old }
-        ensures mirror { links_mirror self.new ≡ links_mirror self.old }
+        ensures dialling { links_dialling self.new ≡ links_dialling self.old }
+        ensures exchanged { links_exchanged self.new ≡ links_exchanged self.old }
+        ensures exchange_faults { SameNames (links_exchange_faults self.old)
+            (links_exchange_faults self.new) }
     {
         let count = doors as usize;
         let mut place = String::new(alloc);
@@ -218,7 +227,8 @@ impl MemoryLinks {
 impl Links for MemoryLinks {
     ghost use Rattle.outside.specs.MemoryLinks.{links_given, links_left, links_at_hand, links_back};
     ghost use Rattle.outside.specs.MemoryLinks.{links_out, links_ended, links_listened};
-    ghost use Rattle.outside.specs.MemoryLinks.{links_faults, links_mirror};
+    ghost use Rattle.outside.specs.MemoryLinks.{links_faults, links_dialling, links_exchanged};
+    ghost use Rattle.outside.specs.MemoryLinks.{links_exchange_faults};
 
     type D = MemoryDoor;
 
@@ -242,9 +252,15 @@ impl Links for MemoryLinks {
 
     ghost faults = { links_faults };
 
-    ghost mirror = { links_mirror };
+    ghost dialling = { links_dialling };
+
+    ghost exchanged = { links_exchanged };
+
+    ghost exchange_faults = { links_exchange_faults };
 
     ghost tells_doors = { λ told. told };
+
+    ghost tells_dials = { λ told. told };
 
     fn listen(
         &mut self,
@@ -275,21 +291,21 @@ impl Links for MemoryLinks {
         self.doors_back.push_reserved(back);
     }
 
-    fn dial(&mut self, alloc: Global, _address: &str) -> Result<MemoryDial, AllocError> {
+    fn dial(&mut self, alloc: Global, address: &str, name: &str) -> Result<MemoryDial, AllocError> {
+        let address = String::from_str(alloc, address)?;
+        let name = String::from_str(alloc, name)?;
         let Some(out) = self.dials_out.checked_add(1) else {
             return Err(AllocError);
         };
         self.dials_back.reserve(out)?;
         self.dials_out = out;
         let plan = self.dial_plans.pop().unwrap_or(Plan::Never);
-        Ok(MemoryDial::new(alloc, plan))
+        Ok(MemoryDial::new(alloc, address, name, plan))
     }
 
     fn hang_up(&mut self, dial: MemoryDial) {
-        self.mirror = self.mirror.saturating_add(dial.faults());
-        self.dials_out = self.dials_out.saturating_sub(1);
-        // `dial` has taken the room for it.
-        let _kept = self.dials_back.push(dial);
+        self.dials_out -= 1;
+        self.dials_back.push_reserved(dial);
     }
 }
 

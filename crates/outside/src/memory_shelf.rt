@@ -3,7 +3,7 @@ ghost use Rattle.std.specs.Prelude.{◌≡◌, ◌≤◌, ◌++◌, ◌∷◌, [
 ghost use Rattle.std.specs.Prelude.{IfOk, IfSome, IfNone, OnErr, OnOk, IfErr, IsErrOf, map};
 ghost use Rattle.std.specs.Prelude.{option_copied, string_bytes};
 ghost use Rattle.outside.specs.Faults.{Rose};
-ghost use Rattle.outside.specs.Shelf.{SameNames, SameOthers, IsTaken};
+ghost use Rattle.outside.specs.Shelf.{SameNames, SameOthers, IsTaken, nothing_lent};
 ghost use Rattle.outside.specs.MemoryFiles.{file_among};
 ghost use Rattle.outside.specs.MemoryDisks.{held_at, out_at};
 ghost use Rattle.outside.specs.Places.{at_name};
@@ -162,7 +162,7 @@ impl Shelf for MemoryShelf {
 
     ghost looked = { files_looked_at };
 
-    ghost lent = { λ shelf. [] };
+    ghost lent = { λ shelf. nothing_lent };
 
     ghost tells_disks = { λ told. told };
 

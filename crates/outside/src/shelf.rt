@@ -2,7 +2,8 @@
 ghost use Rattle.std.specs.Prelude.{◌≡◌, ◌≤◌, ◌++◌, ◌∷◌, [], List, ℕ, Bool, true, false, Option};
 ghost use Rattle.std.specs.Prelude.{Some, None, IfOk, OnOk, OnErr, IsErrOf};
 ghost use Rattle.outside.specs.Faults.{Rose};
-ghost use Rattle.outside.specs.Shelf.{IsTaken, Looks, SameNames, SameOthers};
+ghost use Rattle.outside.specs.Shelf.{IsTaken, Lent, Looks, SameNames};
+ghost use Rattle.outside.specs.Shelf.{SameOthers};
 
 use crate::Disk;
 use std::alloc::Global;
@@ -48,9 +49,8 @@ pub trait Shelf {
     /// The names of the files that were looked at, in order, where clauses are told.
     ghost looked: { Self → List (List ℕ) };
 
-    /// The names of the references by which it reaches what was lent to it, where it holds such.
-    /// They stay the same, so that who lent knows what it has back.
-    ghost lent: { Self → List ℕ };
+    /// What stays the same of it, so that who lent it something knows what he has back.
+    ghost lent: { Self → Lent };
 
     /// Reads the file of this name whole.
     fn read_file(&mut self, alloc: Global, name: &str) -> Result<Vec<u8>, ShelfError>
@@ -76,6 +76,8 @@ pub trait Shelf {
         ensures taken { tells
             → IfOk result (IsTaken Self.D.reads Self.D.image (disk self.old name.now)) }
         ensures count { IfOk result (λ taken. Self.D.faults taken ≡ disk_faults self.old name.now) }
+        ensures origin { IfOk result
+            (λ taken. Self.D.origin taken ≡ (lent self.old).origin name.now) }
         ensures gone { tells → OnOk result (disk self.new name.now ≡ None) }
         ensures disks { SameOthers name.now (disk self.old) (disk self.new) }
         ensures out { OnOk result (is_out self.new name.now ≡ true) }
@@ -95,7 +97,10 @@ pub trait Shelf {
 
     /// Puts a disk that was taken back to its place. It takes no memory.
     fn give_disk(&mut self, name: &str, taken: Self::D)
-        requires { is_out self.old name.now ≡ true }
+        requires out { is_out self.old name.now ≡ true }
+
+        // It is the disk of this name.
+        requires own { Self.D.origin taken ≡ (lent self.old).origin name.now }
         ensures held { tells → disk self.new name.now ≡ Some taken }
         ensures disks { SameOthers name.now (disk self.old) (disk self.new) }
         ensures back { is_out self.new name.now ≡ false }

@@ -1,12 +1,11 @@
 -- The counts of faults of what is real.
-use Rattle.std.specs.Prelude.{ℕ, Bool, List}
+use Rattle.std.specs.Prelude.{ℕ, Bool, List, string_bytes}
 use Rattle.outside.specs.Places.{at_name}
 use Rattle.real_edge.specs.declared.streams.StreamSource.{StreamSource}
 use Rattle.real_edge.specs.declared.streams.StreamSink.{StreamSink}
 use Rattle.real_edge.specs.declared.disks.FileDisk.{FileDisk}
 use Rattle.real_edge.specs.declared.files.FileShelf.{FileShelf}
 use Rattle.real_edge.specs.declared.sockets.TcpDoor.{TcpDoor}
-use Rattle.real_edge.specs.declared.sockets.TcpLinks.{TcpLinks}
 use Rattle.real_edge.specs.declared.dials.TcpDial.{TcpDial}
 use Rattle.real_edge.specs.Kept.{out_kept, faults_kept}
 
@@ -42,18 +41,6 @@ file_faults shelf name = faults_kept (at_name shelf.disks name)
 abbrev pub door_faults : {C L : Type 0} → TcpDoor C L → ℕ
 door_faults door = door.faults
 
--- how often opening sockets failed, and how many doors came back that had failed
-abbrev pub links_faults : {R : Type 0} → TcpLinks R → ℕ
-links_faults links = links.faults
-
--- how many doors aren't back
-abbrev pub links_out : {R : Type 0} → TcpLinks R → ℕ
-links_out links = links.out
-
--- the faults of the dials that were hung up
-abbrev pub links_mirror : {R : Type 0} → TcpLinks R → ℕ
-links_mirror links = links.mirror
-
 -- the number that a dial was last answered
 abbrev pub dial_answered : {R : Type 0} → TcpDial R → ℕ
 dial_answered dial = dial.answered
@@ -61,3 +48,11 @@ dial_answered dial = dial.answered
 -- how often a dial failed
 abbrev pub dial_faults : {R : Type 0} → TcpDial R → ℕ
 dial_faults dial = dial.faults
+
+-- the address that it calls
+abbrev pub dial_address : {R : Type 0} → TcpDial R → List ℕ
+dial_address dial = string_bytes dial.address
+
+-- the name under which its faults are counted
+abbrev pub dial_name : {R : Type 0} → TcpDial R → List ℕ
+dial_name dial = string_bytes dial.name

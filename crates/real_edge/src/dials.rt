@@ -1,5 +1,5 @@
 //! A standby that is reached over TCP.
-ghost use Rattle.std.specs.Prelude.{◌≡◌};
+ghost use Rattle.std.specs.Prelude.{◌≡◌, [], string_bytes};
 
 use crate::waits::{CONNECT, STANDBY_ANSWER, STANDBY_FRAME};
 use outside::{Dial, Failed};
@@ -13,26 +13,30 @@ const GREATEST_COUNT: u64 = 4_294_967_296;
 
 /// A dial to an address, as `127.0.0.1:7008`. Each exchange has a connection of its own, and fails
 /// where the standby isn't reached, doesn't answer in time (see `waits`), or answers what is no
-/// count of records. It isn't tried again.
+/// count of records. It isn't tried again. Its faults are counted under a name.
 #[derive(Drop)]
 pub struct TcpDial<'r, R> {
     runtime: &'r R,
     address: String,
+    name: String,
     answered: u64,
     faults: u64,
 }
 
 impl<'r, R> TcpDial<'r, R> {
-    ghost use Rattle.real_edge.specs.Counts.{dial_answered, dial_faults};
+    ghost use Rattle.real_edge.specs.Counts.{dial_address, dial_name, dial_answered, dial_faults};
 
     /// A dial that was answered nothing yet and hasn't failed.
-    pub fn new(runtime: &'r R, address: String) -> Self
+    pub fn new(runtime: &'r R, address: String, name: String) -> Self
+        ensures address { dial_address result ≡ string_bytes address }
+        ensures name { dial_name result ≡ string_bytes name }
         ensures unanswered { dial_answered result ≡ 0 }
         ensures faultless { dial_faults result ≡ 0 }
     {
         TcpDial {
             runtime,
             address,
+            name,
             answered: 0,
             faults: 0,
         }
@@ -47,7 +51,15 @@ impl<'r, R> TcpDial<'r, R> {
 }
 
 impl<R: Net> Dial for TcpDial<'_, R> {
-    ghost use Rattle.real_edge.specs.Counts.{dial_answered, dial_faults};
+    ghost use Rattle.real_edge.specs.Counts.{dial_address, dial_name, dial_answered, dial_faults};
+
+    ghost tells = { ⊥ };
+
+    ghost address = { dial_address };
+
+    ghost name = { dial_name };
+
+    ghost exchanged = { λ dial. [] };
 
     ghost answered = { dial_answered };
 

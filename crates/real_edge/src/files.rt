@@ -3,7 +3,7 @@ ghost use Rattle.std.specs.Prelude.{◌≡◌, ◌≢◌, ◌≤◌, [], List, �
 ghost use Rattle.std.specs.Prelude.{IfErr, IfSome, OnOk, IsErrOf};
 ghost use Rattle.outside.specs.Faults.{Rose};
 ghost use Rattle.outside.specs.Places.{at_name};
-ghost use Rattle.outside.specs.Shelf.{SameNames, SameOthers};
+ghost use Rattle.outside.specs.Shelf.{SameNames, SameOthers, nothing_lent};
 ghost use Rattle.real_edge.specs.Kept.{faults_kept};
 ghost use Rattle.real_edge.specs.Refusals.{opening_refusal, reading_refusal};
 
@@ -105,7 +105,7 @@ where
 
     ghost looked = { λ shelf. [] };
 
-    ghost lent = { λ shelf. [] };
+    ghost lent = { λ shelf. nothing_lent };
 
     ghost tells_disks = { λ told. told };
 

@@ -1,4 +1,4 @@
-use crate::{TcpDoor, TcpLinks};
+use crate::{TcpDial, TcpDoor, TcpLinks};
 use outside::{Dial, Door, Failed, Links, LinksError, Sink, Source, write_all};
 use std::alloc::Global;
 use std::cell::Cell;
@@ -45,7 +45,7 @@ fn echo<C: Clock>(alloc: Global, door: &mut TcpDoor<'_, C, TcpListener>) -> Resu
 #[test]
 fn doors_of_one_socket_give_its_connections(rt: HostRuntime) -> Result<(), Fail> {
     let alloc = rt.alloc();
-    let mut links = TcpLinks::new(&rt);
+    let mut links = TcpLinks::new(rt.alloc(), &rt);
     let mut doors = links.listen(alloc, "127.0.0.1:0", 2)?;
     let mut second = doors.pop().expect(&rt, "a second door");
     let mut first = doors.pop().expect(&rt, "a first door");
@@ -66,7 +66,7 @@ fn doors_of_one_socket_give_its_connections(rt: HostRuntime) -> Result<(), Fail>
 #[test]
 fn a_client_who_sends_more_than_is_read_gets_his_replies(rt: HostRuntime) -> Result<(), Fail> {
     let alloc = rt.alloc();
-    let mut links = TcpLinks::new(&rt);
+    let mut links = TcpLinks::new(rt.alloc(), &rt);
     let mut doors = links.listen(alloc, "127.0.0.1:0", 1)?;
     let mut door = doors.pop().expect(&rt, "a door");
     let mut client = client(&rt, door.address()?, &[b'x'; 9000])?;
@@ -86,7 +86,7 @@ fn a_client_who_sends_more_than_is_read_gets_his_replies(rt: HostRuntime) -> Res
 
 #[test]
 fn an_address_that_cannot_be_bound_is_a_fault(rt: HostRuntime) {
-    let mut links = TcpLinks::new(&rt);
+    let mut links = TcpLinks::new(rt.alloc(), &rt);
     for (address, faults) in [("", 1), ("127.0.0.1", 2), ("127.0.0.1:65536", 3)] {
         assert_eq!(rt;
             links.listen(rt.alloc(), address, 1).err(),
@@ -211,30 +211,34 @@ fn waits_of(
 #[test]
 fn a_connection_waits_longer_once_its_client_was_heard(rt: HostRuntime) -> Result<(), Fail> {
     let waits = [60, 30, 600].map(|seconds| Some(Duration::from_secs(seconds)));
-    assert_eq!(rt; waits_of(&rt, TcpLinks::new(&rt))?, waits);
+    assert_eq!(rt; waits_of(&rt, TcpLinks::new(rt.alloc(), &rt))?, waits);
     Ok(())
 }
 
 #[test]
 fn a_standby_waits_no_longer_once_its_client_was_heard(rt: HostRuntime) -> Result<(), Fail> {
     let waits = [60, 30, 30].map(|seconds| Some(Duration::from_secs(seconds)));
-    assert_eq!(rt; waits_of(&rt, TcpLinks::for_standby(&rt))?, waits);
+    assert_eq!(rt;
+        waits_of(&rt, TcpLinks::for_standby(rt.alloc(), &rt))?,
+        waits
+    );
     Ok(())
 }
 
 #[test]
 fn a_standby_that_is_not_reached_is_a_fault(rt: HostRuntime) -> Result<(), Fail> {
     let alloc = rt.alloc();
-    let mut links = TcpLinks::new(&rt);
+    let mut links = TcpLinks::new(rt.alloc(), &rt);
     let mut doors = links.listen(alloc, "127.0.0.1:0", 1)?;
     let door = doors.pop().expect(&rt, "a door");
     let address = format!(in alloc; "{}", door.address()?)?;
     links.take_back(door);
-    let mut dial = links.dial(alloc, &address)?;
+    let mut dial = links.dial(alloc, &address, "logs/ann.log")?;
     assert_eq!(rt; dial.exchange(b"frame", 0), Err(Failed));
     assert_eq!(rt; dial.faults(), 1);
     links.hang_up(dial);
-    assert_eq!(rt; links.mirror(), 1);
+    let faults = links.dials_back().first().map(TcpDial::faults);
+    assert_eq!(rt; faults, Some(1));
     assert_eq!(rt; links.faults(), 0);
     Ok(())
 }

@@ -1,6 +1,7 @@
 //! Sockets as connections: a listening socket as a door, and what opens such doors. Clauses aren't
 //! told what comes in.
-ghost use Rattle.std.specs.Prelude.{◌≡◌, ◌≤◌, [], None, All, length, vec_capacity, IfOk, IfNone};
+ghost use Rattle.std.specs.Prelude.{◌≡◌, ◌≤◌, ◌+◌, [], List, ℕ, None, All, length, vec_capacity};
+ghost use Rattle.std.specs.Prelude.{IfOk, IfNone};
 ghost use Rattle.outside.specs.Faults.{Rose};
 ghost use Rattle.real_edge.specs.Counts.{door_faults};
 
@@ -172,49 +173,54 @@ pub struct TcpLinks<'r, R> {
     later_bytes: u64,
     out: u64,
     faults: u64,
-    // The faults of the dials that were hung up.
-    mirror: u64,
+    // The dials that were hung up, with the room for the others.
+    dials_back: Vec<TcpDial<'r, R>>,
+    dials_out: usize,
+    ghost dial_room: { length dials_back.items + dials_out ≤ vec_capacity dials_back },
 }
 
 impl<'r, R> TcpLinks<'r, R> {
-    ghost use Rattle.real_edge.specs.Counts.{links_faults, links_out, links_mirror};
+    ghost use Rattle.real_edge.specs.Links.{links_faults, links_out, links_dialling};
+    ghost use Rattle.real_edge.specs.Links.{links_exchange_faults};
 
     /// Links that haven't failed and have opened no door.
-    pub fn new(runtime: &'r R) -> Self
+    pub fn new(alloc: Global, runtime: &'r R) -> Self
         ensures faultless { links_faults result ≡ 0 }
         ensures none_out { links_out result ≡ 0 }
-        ensures mirror { links_mirror result ≡ 0 }
+        ensures none_dialling { links_dialling result ≡ 0 }
+        ensures exchange_faults { (name : List ℕ) → links_exchange_faults result name ≡ 0 }
     {
         TcpLinks {
             runtime,
             later_bytes: LATER_BYTES,
             out: 0,
             faults: 0,
-            mirror: 0,
+            dials_back: Vec::new(alloc),
+            dials_out: 0,
         }
     }
 
     /// Links of a standby, whose clients may take less time between later bytes. They haven't
     /// failed and have opened no door.
-    pub fn for_standby(runtime: &'r R) -> Self
+    pub fn for_standby(alloc: Global, runtime: &'r R) -> Self
         ensures faultless { links_faults result ≡ 0 }
         ensures none_out { links_out result ≡ 0 }
-        ensures mirror { links_mirror result ≡ 0 }
+        ensures none_dialling { links_dialling result ≡ 0 }
+        ensures exchange_faults { (name : List ℕ) → links_exchange_faults result name ≡ 0 }
     {
         TcpLinks {
             runtime,
             later_bytes: FRAME_BYTES,
             out: 0,
             faults: 0,
-            mirror: 0,
+            dials_back: Vec::new(alloc),
+            dials_out: 0,
         }
     }
 
-    /// The faults of the dials that were hung up.
-    pub fn mirror(&self) -> u64
-        ensures { result ≡ links_mirror self.now }
-    {
-        self.mirror
+    /// The dials that were hung up, in that order.
+    pub fn dials_back(&self) -> &[TcpDial<'r, R>] {
+        &self.dials_back
     }
 
     /// How often it failed.
@@ -230,7 +236,8 @@ where
     R::Listener: Send,
     R::Stream: Send,
 {
-    ghost use Rattle.real_edge.specs.Counts.{links_faults, links_out, links_mirror};
+    ghost use Rattle.real_edge.specs.Links.{links_faults, links_out, links_dialling};
+    ghost use Rattle.real_edge.specs.Links.{links_exchange_faults};
 
     type D = TcpDoor<'r, R, R::Listener>;
 
@@ -254,9 +261,15 @@ where
 
     ghost faults = { links_faults };
 
-    ghost mirror = { links_mirror };
+    ghost dialling = { links_dialling };
+
+    ghost exchanged = { λ links. [] };
+
+    ghost exchange_faults = { links_exchange_faults };
 
     ghost tells_doors = { λ told. told };
+
+    ghost tells_dials = { λ told. told };
 
     fn listen(
         &mut self,
@@ -289,13 +302,25 @@ where
         self.out -= 1;
     }
 
-    fn dial(&mut self, alloc: Global, address: &str) -> Result<TcpDial<'r, R>, AllocError> {
+    fn dial(
+        &mut self,
+        alloc: Global,
+        address: &str,
+        name: &str,
+    ) -> Result<TcpDial<'r, R>, AllocError> {
         let address = String::from_str(alloc, address)?;
-        Ok(TcpDial::new(self.runtime, address))
+        let name = String::from_str(alloc, name)?;
+        let Some(out) = self.dials_out.checked_add(1) else {
+            return Err(AllocError);
+        };
+        self.dials_back.reserve(out)?;
+        self.dials_out = out;
+        Ok(TcpDial::new(self.runtime, address, name))
     }
 
     fn hang_up(&mut self, dial: TcpDial<'r, R>) {
-        self.mirror = self.mirror.saturating_add(dial.faults());
+        self.dials_out -= 1;
+        self.dials_back.push_reserved(dial);
     }
 }
 

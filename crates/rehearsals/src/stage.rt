@@ -5,8 +5,8 @@ ghost use Rattle.outside.specs.MemoryShelves.{is_disk_out};
 use crate::scene::{Call, Client, Named};
 use cqe_top::top;
 use outside::{
-    Connection, MemoryDisk, MemoryLinks, MemoryShelf, MemorySink, MemorySource, OpenGate, Pieces,
-    Plan,
+    Connection, MemoryDial, MemoryDisk, MemoryLinks, MemoryShelf, MemorySink, MemorySource,
+    OpenGate, Pieces, Plan,
 };
 use std::alloc::{AllocError, Global};
 use std::sync::Wait;
@@ -132,9 +132,16 @@ fn broken_dials(alloc: Global) -> Result<Vec<Plan>, AllocError> {
 fn frames(alloc: Global, links: &MemoryLinks) -> Result<Vec<u8>, AllocError> {
     let mut frames = Vec::new(alloc);
     for dial in links.dials_back() {
-        frames.extend_from_slice(dial.frames())?;
+        add_frames(&mut frames, dial)?;
     }
     Ok(frames)
+}
+
+fn add_frames(frames: &mut Vec<u8>, dial: &MemoryDial) -> Result<(), AllocError> {
+    for one in dial.exchanges() {
+        frames.extend_from_slice(one.frame.as_slice())?;
+    }
+    Ok(())
 }
 
 /// What the clients that were served sent and got.

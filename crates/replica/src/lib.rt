@@ -3,8 +3,7 @@
 //! primary's that has the record of every told mark.
 //!
 //! specs/Replica.antt is the machine, over records of any type, and specs/Standby.antt what is
-//! claimed of it. The crate has no code but the law; what takes records, and what tells marks,
-//! cites the same definitions.
+//! claimed of it. The crate has no code but the law. What takes records cites `records_after`.
 #![tactic(auto)]
 
 ghost use Rattle.replica.specs.Replica.{MachineExamples};

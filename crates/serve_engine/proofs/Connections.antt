@@ -14,8 +14,9 @@ use Rattle.user_desk.specs.declared.standing.DeskError.{DeskError}
 use Rattle.desk_crew.specs.Shelved.{Journals}
 use Rattle.serve_engine.specs.Doors.{AreServedDoors}
 use Rattle.serve_engine.specs.Served.{SessionMarks, Served}
+use Rattle.serve_engine.specs.Alike.{IsServedAlike, BytesComeAgain}
 use Rattle.serve_engine.specs.Serving.{Serves, ServesNobody, ServesNone, ServesDoors, ServesNoDoor, EndsServing, EndsDoors, LeavesHistories, LeavesJournals}
-use Rattle.serve_engine.proofs.Standing.{zip_both}
+use Rattle.serve_engine.proofs.Standing.{zip_still, zip_both}
 use Rattle.serve_engine.specs.declared.run.ServeEnd.{ServeEnd}
 use Rattle.serve_engine.specs.declared.run.ServeEnd.TheVariants.{Done, LinksFault, ShelfFault, Memory}
 
@@ -107,8 +108,8 @@ module _ {O S K : Type 0} (Door : DoorGhosts O S K) where
     have total marks [] (e ∷ others) new is = absurd is
     have total marks (d ∷ doors) [] new is = absurd is
 
-module _ (schema : DatabaseSchema) (world : FactSet) (header : List ℕ) (journals : Journals) (users : List User) {O S K : Type 0} (Door : DoorGhosts O S K)
-    (t : Door.tells)
+module _ (again : BytesComeAgain) (schema : DatabaseSchema) (world : FactSet) (header : List ℕ) (journals : Journals) (users : List User) {O S K : Type 0}
+    (Door : DoorGhosts O S K) (t : Door.tells)
     (doors others : List O) (new : AreNew Door doors) (given given' : ℕ) (back back' : List Visit) (gave : given' ≡ given + sum_by Door.given others)
     (came : back' ≡ back ++ flat_map Door.back others) where
   serves_all : (refusals : List (Option DeskError)) (is_broken : Bool)
@@ -125,6 +126,13 @@ module _ (schema : DatabaseSchema) (world : FactSet) (header : List ℕ) (journa
         given_is = gave ∙ ap (λ n. given + n) has.gave;
         visit_marks = serves.marks t;
         visits = record { visits = flat_map Door.back others; behind = came; many = has.many; stand = has.stand };
+        alike = record {
+          visits = flat_map Door.back others;
+          behind = came;
+          many = has.many;
+          stand = zip_still (Served schema world users serves.members) (IsServedAlike schema world users serves.members)
+              (again schema world users serves.members) (flat_map Door.back others) (serves.marks t) has.stand;
+        };
         all_told = serves.all_told t;
       }
 

@@ -41,7 +41,7 @@ use Rattle.desk_crew.specs.Crew.{IsSeatAsOpened, IsClosed, refusal_of, seat_user
 use Rattle.desk_crew.specs.Crew.{seat_state, IsLeft}
 use Rattle.desk_crew.proofs.Shelving.{left_on}
 use Rattle.desk_crew.specs.Seats.{DeskSeat}
-use Rattle.desk_crew.specs.Shelved.{Journals, journals, journals_by, StandsAllAlong, AreLater, IsSeatOf, AreSeatsOf, IsBack, AreBack}
+use Rattle.desk_crew.specs.Shelved.{Journals, journals, journals_by, StandsAllAlong, AreLater, AreOwn, IsSeatOf, AreSeatsOf, IsBack, AreBack}
 use Rattle.desk_crew.specs.Registered.{registered_journals}
 use Rattle.desk_crew.proofs.Giving.{CanGive, AreGiven, AllReturned}
 use Rattle.desk_crew.proofs.Taking.{AllSeated, seats_can, all_returned}
@@ -380,6 +380,14 @@ module _ {D : Type 0} {g h : _} where
   )
   later_on_seats faults count [] (new ∷ news) on later = absurd on
   later_on_seats faults count (old ∷ olds) [] on later = absurd on
+
+  pub own_on_seats : (origin : D → List (List ℕ)) (known : Text → List (List ℕ)) (olds news : List (DeskSeat D g h)) → AreSeatsOn olds news
+      → AreOwn origin known olds → AreOwn origin known news
+  own_on_seats origin known [] [] on own = tt
+  own_on_seats origin known (old ∷ olds) (new ∷ news) on own =
+      (ap (λ (f : Fixed D). origin f.disk) on.0.kept_is ∙ own.0 ∙ ap known (sym on.0.journal_is), own_on_seats origin known olds news on.1 own.1)
+  own_on_seats origin known [] (new ∷ news) on own = absurd on
+  own_on_seats origin known (old ∷ olds) [] on own = absurd on
 
 -- ---- ends
 

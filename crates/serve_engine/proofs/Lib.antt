@@ -14,3 +14,4 @@ pub mod Backing
 pub mod Histories
 pub mod Connections
 pub mod Joining
+pub mod Alike

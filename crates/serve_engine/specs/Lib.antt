@@ -1,4 +1,5 @@
 pub mod Served
+pub mod Alike
 pub mod Members
 -- definitions, and a proof, which a ghost field names: SeesLegally-prop
 pub mod Held

@@ -24,6 +24,7 @@ use Rattle.worker_pool.specs.Workers.{HasVisits}
 use Rattle.serve_engine.specs.Doors.{AreServedDoors}
 use Rattle.serve_engine.specs.Served.{Member, member_broke, SessionMarks, entries_told}
 use Rattle.serve_engine.specs.Served.{failures_told, SameEntries, Served}
+use Rattle.serve_engine.specs.Alike.{IsServedAlike}
 use Rattle.serve_engine.specs.declared.serving.Outcome.{Outcome}
 use Rattle.serve_engine.specs.declared.serving.Outcome.TheVariants as outcome
 use Rattle.serve_engine.specs.declared.run.ServeEnd.{ServeEnd}
@@ -117,6 +118,9 @@ module _ (schema : DatabaseSchema) (world : FactSet) (header : List ℕ) (journa
       pub visit_marks : List SessionMarks
       pub visits : HasVisits (λ visits.
           AllZip (Served schema world users members) visits visit_marks) count back back'
+      -- and the same bytes serve each of them in each world that is alike to who is logged in
+      pub alike : HasVisits (λ visits.
+          AllZip (IsServedAlike schema world users members) visits visit_marks) count back back'
       pub all_told : AreAllTold 0 members visit_marks
 
     -- no connection was served: no journal was opened, or all were and are closed again

@@ -8,10 +8,11 @@
 //! in was replied to by his one history, the same for all his sessions. What his journal says of
 //! that history, as it was opened and as it is back, is `HasServed` of `specs/Serving.antt`; and
 //! that it has nothing behind its opening but the marks that connections told him, each once, is
-//! `AreAllTold` there.
+//! `AreAllTold` there. The same bytes serve each connection in each database that is alike to who
+//! is logged in (`IsServedAlike` of `specs/Alike.antt`).
 //!
 //! Read `job`, `serving`, `sharing`, then `run`; `laws` says that a connection that was served
-//! stays so.
+//! stays so, and that its bytes come again in other databases.
 #![tactic(auto)]
 
 mod job;

@@ -14,6 +14,7 @@ ghost use Rattle.serve_engine.specs.Serving.{IsBroken};
 ghost use Rattle.serve_engine.specs.Serving.{end_of};
 ghost use Rattle.serve_engine.specs.declared.run.ServeEnd.{ServeEnd};
 
+use crate::laws::law_served_alike;
 use crate::serving::Outcome;
 use crate::sharing::serve_seats;
 use cqe_base::laws::{law_hides, law_legal_grows};
@@ -134,7 +135,12 @@ where
         (registered_journals registry.now.directory.now registry.now.users.now)
         (F.disk_faults shelf.old) (F.disk_faults shelf.new) }
     ensures out { L.out links.new ≡ L.out links.old }
-    ensures mirror { L.mirror links.new ≡ L.mirror links.old }
+
+    // It calls nobody by a dial.
+    ensures dialling { L.dialling links.new ≡ L.dialling links.old }
+    ensures exchanged { L.tells → L.exchanged links.new ≡ L.exchanged links.old }
+    ensures exchange_faults { SameNames (L.exchange_faults links.old)
+        (L.exchange_faults links.new) }
     ensures shelf_later { F.faults shelf.old ≤ F.faults shelf.new }
     ensures links_later { L.faults links.old ≤ L.faults links.new }
     ensures shelf_cause { result ≡ ServeEnd.ShelfFault
@@ -144,6 +150,7 @@ where
     ensures disk_cause { IsBroken result
         → SomeRose (F.disk_faults shelf.old) (F.disk_faults shelf.new) }
 {
+    law_served_alike();
     let doors = match links.listen(alloc, listening.address, listening.workers) {
         Ok(doors) => doors,
         Err(LinksError::Failed) => return ServeEnd::LinksFault,
@@ -253,7 +260,10 @@ fn take_back_all<L: Links>(links: &mut L, doors: Vec<L::D>)
         → L.at_hand links.new ≡ L.at_hand links.old + sum_by L.D.left doors.items }
     ensures back { L.tells → L.back links.new ≡ L.back links.old ++ flat_map L.D.back doors.items }
     ensures listened { L.tells → L.listened links.new ≡ L.listened links.old }
-    ensures mirror { L.mirror links.new ≡ L.mirror links.old }
+    ensures dialling { L.dialling links.new ≡ L.dialling links.old }
+    ensures exchanged { L.tells → L.exchanged links.new ≡ L.exchanged links.old }
+    ensures exchange_faults { SameNames (L.exchange_faults links.old)
+        (L.exchange_faults links.new) }
     ensures later { L.faults links.old ≤ L.faults links.new }
     ensures failed { SomeFailed L.D.faults doors.items
         → Rose (L.faults links.old) (L.faults links.new) }

@@ -7,3 +7,4 @@ pub mod Serving
 pub mod Listing
 pub mod Meeting
 pub mod Legality
+pub mod Alike

@@ -2,6 +2,7 @@ pub mod Heard
 pub mod Lists
 pub mod Talks
 pub mod Replied
+pub mod Alike
 pub mod Desks
 pub mod Owners
 pub mod Members

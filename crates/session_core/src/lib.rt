@@ -8,11 +8,13 @@
 //! answer to the lines that were read; and each end has its cause.
 //!
 //! Read `specs/Heard.antt`, `specs/Lists.antt`, `specs/Talks.antt`, `specs/Replied.antt` and
-//! `specs/Sessions.antt` first, then `counters`, `asking` and `session`.
+//! `specs/Sessions.antt` first, then `counters`, `asking` and `session`; `laws` says that the same
+//! replies come in each world in which the history is legal.
 #![tactic(auto)]
 
 mod asking;
 mod counters;
+pub mod laws;
 mod session;
 
 pub use counters::{Counters, CountersOf, Passes};

@@ -1,5 +1,2 @@
-pub mod Guarding
-pub mod Shielding
-pub mod MarksAgain
 pub mod Sounding
 pub mod Marking

@@ -12,19 +12,18 @@ use Rattle.cqe_base.specs.Truth.{true_in}
 use Rattle.cqe_base.specs.Entailment.{Signed, all_hold_in, IsCountermodel}
 use Rattle.cqe_base.specs.History.{UserProfile, AnsweredQuery, History, disjunction_of, told_by, is_added, secrets_by, user_at, known, log, is_user_of}
 use Rattle.cqe_base.specs.History.{is_history_of}
-use Rattle.cqe_base.specs.Censor.{guarded, guarded_by, guard_by, admission_budget, mark_by, rule, safe_with, safe_after, knows_truth_by, IsAdmissible, IsLegal}
-use Rattle.cqe_base.proofs.Truths.{true_is_not_false, false_if_not_true, list_any-false, and_first, and_second}
-use Rattle.cqe_base.proofs.Logs.{log-nil, log-push, log_sentences, user_at-nil, secrets-push, secret_sentences, known_holds, history-first, history-second}
-use Rattle.cqe_base.proofs.Disjunctions.{disjunction_false, guard_sentence}
+use Rattle.cqe_base.specs.Censor.{guarded, guarded_by, guarded_with, mark_by, rule, safe_after, knows_truth_by, IsAdmissible, IsLegal}
+use Rattle.cqe_base.proofs.Truths.{true_is_not_false, false_if_not_true, list_any-false, and_first}
+use Rattle.cqe_base.proofs.Logs.{log-nil, log-push, user_at-nil, secrets-push, known_holds, history-first, history-second}
+use Rattle.cqe_base.proofs.Disjunctions.{disjunction_false}
 use Rattle.cqe_base.proofs.Worlds.{entails-true, entails-false}
-use Rattle.cqe_base.proofs.Outcomes.{outcome-Open}
 use Rattle.cqe_base.proofs.Legal.{each-push}
-use Rattle.cqe_base.proofs.Secrets.{HasCountermodel, opened}
+use Rattle.cqe_base.proofs.Guarding.{guarded-push}
+use Rattle.cqe_base.proofs.Shielding.{HasCountermodel, table_shields}
+use Rattle.cqe_base.proofs.MarksAgain.{table_again, told_true, disjunction_then}
+use Rattle.cqe_base.proofs.Secrets.{safe_shields}
 use Rattle.soundness.specs.Sound.{is_settled, unspent_mark, entails_with, IsSoundItem, IsSound, IsSoundThere, SoundHistoriesHide, EmptyHistoryIsSound}
 use Rattle.soundness.specs.Sound.{SoundHistoriesGrow, LegalHistoriesAreSound}
-use Rattle.soundness.proofs.Guarding.{guarded-push}
-use Rattle.soundness.proofs.Shielding.{table_shields}
-use Rattle.soundness.proofs.MarksAgain.{table_again, told_true, disjunction_then}
 
 module _ (schema : DatabaseSchema) (world : FactSet) (user : UserProfile) where
   -- each sentence that is guarded where these are the secrets is false in some world in which the premises are true
@@ -55,12 +54,12 @@ module _ (schema : DatabaseSchema) (world : FactSet) (user : UserProfile) where
       subst (λ premises. HasCountermodel schema premises g) (sym (append-nil (log user before)))
       (by (guarded-push user.method (user_at user before).secrets s g guards))
     where
-      by : Contains (guarded_by user.method (user_at user before).secrets) g ⊎ (g ≡ guard_by user.method ((user_at user before).secrets ++ s ∷ []) s)
+      by : Contains (guarded_by user.method (user_at user before).secrets) g ⊎ (g ≡ guarded_with (user_at user before) s)
           → HasCountermodel schema (log user before) g
       by (inl old) = all g old
       by (inr e) =
           subst (HasCountermodel schema (log user before)) (sym e)
-          (entails-false schema (log user before) (guard_by user.method ((user_at user before).secrets ++ s ∷ []) s, true) unentailed)
+          (entails-false schema (log user before) (guarded_with (user_at user before) s, true) unentailed)
 
   item_shields : (before : History) (item : AnsweredQuery) → IsSoundItem schema world user before item
       → AllShielded (user_at user before).secrets (log user before)
@@ -191,26 +190,16 @@ settled_asked Protected e = absurd (true_is_not_false (sym e))
 
 module _ (schema : DatabaseSchema) (world : FactSet) (user : UserProfile) (valid : is_valid_schema schema ≡ true)
     (of_schema : is_user_of schema user ≡ true) where
-  -- the probe of the log against what is guarded with a safe sentence was open
-  safe_shields : (before : History) (s : Formula) → is_history_of schema before ≡ true → is_sentence_of schema s ≡ true
-      → safe_after schema user before s ≡ true → HasCountermodel schema (log user before) (guard_by user.method ((user_at user before).secrets ++ s ∷ []) s)
-  unfolding safe_with
-  safe_shields before s sentences one safe =
-      outcome-Open schema (log user before) (guard_by user.method ((user_at user before).secrets ++ s ∷ []) s, true) admission_budget valid
-      (log_sentences schema user before of_schema sentences)
-      (guard_sentence schema user.method (user_at user before).secrets s
-      (secret_sentences schema user before (and_second _ _ of_schema) sentences) one)
-      (opened _ safe)
-
+  -- the probe of the log against what is guarded with a safe sentence was open, so that isn't entailed
   safe_unentailed : (before : History) (s : Formula) → is_history_of schema before ≡ true → is_sentence_of schema s ≡ true
       → safe_after schema user before s ≡ true → entails_with schema user before s ≡ false
   safe_unentailed before s sentences one safe =
-      let shield : HasCountermodel schema (log user before) (guard_by user.method ((user_at user before).secrets ++ s ∷ []) s) =
-      safe_shields before s sentences one safe in
+      let shield : HasCountermodel schema (log user before) (guarded_with (user_at user before) s) =
+      safe_shields schema world user valid of_schema before s sentences one safe in
       false_if_not_true _
       (λ e. true_is_not_false
-      (sym (entails-true schema (log user before) (guard_by user.method ((user_at user before).secrets ++ s ∷ []) s, true) e shield.0
-      shield.1.of_schema shield.1.premises_true) ∙ shield.1.goal_false))
+      (sym (entails-true schema (log user before) (guarded_with (user_at user before) s, true) e shield.0 shield.1.of_schema shield.1.premises_true)
+      ∙ shield.1.goal_false))
 
   module _ (entries : History) (sentences : is_history_of schema entries ≡ true) (legal : IsLegal schema world user entries) (before : History)
       (item : AnsweredQuery) (after : History) (is : entries ≡ before ++ item ∷ after) where

@@ -10,8 +10,8 @@ use Rattle.cqe_base.specs.Truth.{true_in}
 use Rattle.cqe_base.specs.Entailment.{all_hold_in, entails}
 use Rattle.cqe_base.specs.History.{UserProfile, AnsweredQuery, History, known, log, is_added}
 use Rattle.cqe_base.specs.History.{user_at, is_user_of, is_history_of}
-use Rattle.cqe_base.specs.Censor.{guard_by, implied, yes_harm, no_harm, mark_by, IsAdmissible}
-use Rattle.cqe_base.specs.Censor.{IsLegal}
+use Rattle.cqe_base.specs.Censor.{guarded_with, implied, yes_harm, no_harm, mark_by}
+use Rattle.cqe_base.specs.Censor.{IsAdmissible, IsLegal}
 
 -- whether this is the mark of an ask that was settled: yes, no or refused
 abbrev pub is_settled : Mark → Bool
@@ -34,7 +34,7 @@ unspent_mark schema world user entries query =
 abbrev pub entails_with : DatabaseSchema → UserProfile → History → Formula → Bool
 entails_with schema user entries secret =
     entails schema (log user entries)
-    (guard_by user.method ((user_at user entries).secrets ++ secret ∷ []) secret, true)
+    (guarded_with (user_at user entries) secret, true)
 
 -- an item is sound behind a history: an ask that was settled has the mark of the rule without its
 -- first line there, and what was added isn't entailed there
@@ -72,7 +72,7 @@ pub record HidesSoundly (schema : DatabaseSchema) (user : UserProfile) (entries 
       × ((secret : Formula) → Contains (user_at user entries).secrets secret
       → true_in schema other secret ≡ false)
 
--- a sound history of an admissible user hides his secrets
+-- a sound history of an admissible user hides his secrets soundly
 abbrev pub SoundHistoriesHide : Type 0
 SoundHistoriesHide =
     (schema : DatabaseSchema) (world : FactSet) (user : UserProfile) (entries : History)

@@ -30,7 +30,7 @@ others_found count verdicts = list_any (λ verdict. verdict) (drop count verdict
 
 -- the mark by verdicts, with so many guarded sentences: first the log with the query against each
 -- of them, then with its negation; for refusal before these the log against the query and against
--- its negation
+-- its negation, so that the verdicts are always two or more there, and of fewer any mark would do
 abbrev pub mark_found : Method → ℕ → List Bool → Bool → Mark
 mark_found Lying count verdicts truth =
     mark_by Lying false None (first_found count verdicts) (others_found count verdicts) truth

@@ -1,14 +1,15 @@
 -- What a book has of its users, where a record comes for one of them.
-use Rattle.std.proofs.Common.{◌≡◌, ◌⊎◌, inl, inr, ℕ, ◌+◌, ◌==◌, ◌||◌, Bool, true, false, Some, List, [], ◌∷◌, ◌++◌, length, map, refl, sym, ap, subst}
-use Rattle.std.proofs.Common.{◌∙◌, append_assoc, option_map}
+use Rattle.std.proofs.Common.{◌≡◌, ℕ, ◌+◌, ◌==◌, ◌||◌, Bool, true, false, Some, List, [], ◌∷◌, ◌++◌, length, map, refl, sym, ap, ◌∙◌}
+use Rattle.std.proofs.Common.{option_map}
 use Rattle.std.specs.Prelude.{bytes_eq, slice_set, if◌then◌else◌}
 use Rattle.std.proofs.lemmas.Bool.{eq-eqb, eqb-true}
 use Rattle.std.proofs.lemmas.Option.{same_Some}
-use Rattle.log_journal.specs.Journal.{is_broken}
-use Rattle.log_journal.specs.Records.{Recorded, IsJournal, Adds, KeepsOrAdds}
-use Rattle.standby_core.specs.Copies.{Copy, copy_in, copy_at, copy_after, copies_after, held_name, HasCount, HasFailed}
+use Rattle.outside.specs.declared.disk.Disk.{Ghosts as DiskGhosts}
+use Rattle.log_journal.specs.Journal.{disk_of, is_broken}
+use Rattle.log_journal.specs.Records.{Recorded}
+use Rattle.standby_core.specs.Copies.{Copy, copy_in, copy_at, copy_after, copies_after, held_name, held_origin, HasCount, HasFailed}
 use Rattle.standby_core.specs.Frames.{Carried}
-use Rattle.standby_core.specs.Lasting.{HasBeginning, Lasts, AllLast, IsCounted, AllCounted, has_broken}
+use Rattle.standby_core.specs.Lasting.{Lasts, AllLast, IsCounted, AllCounted, has_broken}
 use Rattle.standby_core.specs.Named.{first_named}
 use Rattle.standby_core.specs.declared.book.Held.{Held}
 use Rattle.standby_core.proofs.Naming.{Stands, here, further}
@@ -47,21 +48,6 @@ copy_grown name count number rs failed kind text count' rs' failed' next counted
   records = (grown ∙ sym (ap (λ b. if b then rs ++ (kind, text) ∷ [] else rs) (eq-eqb number (length rs) (next ∙ counted)))) i;
   failed = still i;
 }
-
--- ---- what lasts
-
-pub begins_added : (header : List ℕ) (first : List Recorded) (added : Recorded) (old new : List ℕ) → Adds old added new → HasBeginning header first old
-    → HasBeginning header first new
-begins_added header first added old new adds begins =
-    (begins.0 ++ added ∷ [], subst (λ l. IsJournal header l new) (append_assoc first begins.0 (added ∷ [])) (adds header (first ++ begins.0) begins.1).0)
-
-pub begins_either : (header : List ℕ) (first : List Recorded) (added : Recorded) (old new : List ℕ) → KeepsOrAdds old added new → HasBeginning header first old
-    → HasBeginning header first new
-begins_either header first added old new keeps begins = by (keeps header (first ++ begins.0) begins.1)
-  where
-    by : IsJournal header (first ++ begins.0) new ⊎ IsJournal header ((first ++ begins.0) ++ added ∷ []) new → HasBeginning header first new
-    by (inl same) = (begins.0, same)
-    by (inr more) = (begins.0 ++ added ∷ [], subst (λ l. IsJournal header l new) (append_assoc first begins.0 (added ∷ [])) more)
 
 abbrev copy_name : Copy → List ℕ
 copy_name copy = copy.name
@@ -102,23 +88,32 @@ module _ {D : Type 0} {g : _} where
     copies_same test journals place old new (further held first others after miss stands) same =
         λ i. copy_in reads held ∷ copies_same test others after first new stands same i
 
-    -- what lasts of one lasts of all
-    pub lasts_set : (image : D → List ℕ → Type 0) (header : List ℕ) (test : Held D g → Bool) (journals : List (Held D g)) (place : ℕ) (old new : Held D g)
-        → Stands test journals place old
-        → ((first : List Recorded) → Lasts reads image header first old → Lasts reads image header first new)
-        → (firsts : List (List Recorded)) → AllLast reads image header firsts journals → AllLast reads image header firsts (slice_set journals place new)
-    lasts_set image header test journals place old new (here held others is) lasts [] all = absurd all
-    lasts_set image header test journals place old new (further held one others after miss stands) lasts [] all = absurd all
-    lasts_set image header test journals place old new (here held others is) lasts (first ∷ firsts) all = (lasts first all.0, all.1)
-    lasts_set image header test journals place old new (further held one others after miss stands) lasts (first ∷ firsts) all =
-        (all.0, lasts_set image header test others after one new stands lasts firsts all.1)
-
   -- the names stay
   pub names_set : (test : Held D g → Bool) (journals : List (Held D g)) (place : ℕ) (old new : Held D g) → Stands test journals place old
       → held_name new ≡ held_name old → map held_name (slice_set journals place new) ≡ map held_name journals
   names_set test journals place old new (here held others is) same = λ i. same i ∷ map held_name others
   names_set test journals place old new (further held first others after miss stands) same =
       λ i. held_name held ∷ names_set test others after first new stands same i
+
+  -- what lasts of one lasts of all
+  pub lasts_set : (Disk : DiskGhosts D) (header : List ℕ) (test : Held D g → Bool) (journals : List (Held D g)) (place : ℕ) (old new : Held D g)
+      → Stands test journals place old
+      → ((opened : D) → Lasts Disk header opened (disk_of old.journal) (copy_in Disk.reads old)
+      → Lasts Disk header opened (disk_of new.journal) (copy_in Disk.reads new))
+      → (disks : List D) → AllLast Disk header disks journals → AllLast Disk header disks (slice_set journals place new)
+  lasts_set Disk header test journals place old new (here held others is) lasts [] all = absurd all
+  lasts_set Disk header test journals place old new (further held one others after miss stands) lasts [] all = absurd all
+  lasts_set Disk header test journals place old new (here held others is) lasts (opened ∷ disks) all = (lasts opened all.0, all.1)
+  lasts_set Disk header test journals place old new (further held one others after miss stands) lasts (opened ∷ disks) all =
+      (all.0, lasts_set Disk header test others after one new stands lasts disks all.1)
+
+  -- and where their disks come from
+  pub origins_set : (origin : D → List (List ℕ)) (test : Held D g → Bool) (journals : List (Held D g)) (place : ℕ) (old new : Held D g)
+      → Stands test journals place old → held_origin origin new ≡ held_origin origin old
+      → map (held_origin origin) (slice_set journals place new) ≡ map (held_origin origin) journals
+  origins_set origin test journals place old new (here held others is) same = λ i. same i ∷ map (held_origin origin) others
+  origins_set origin test journals place old new (further held first others after miss stands) same =
+      λ i. held_origin origin held ∷ origins_set origin test others after first new stands same i
 
   -- the counts are kept
   pub counted_set : (faults : D → ℕ) (test : Held D g → Bool) (journals : List (Held D g)) (place : ℕ) (old new : Held D g) → Stands test journals place old

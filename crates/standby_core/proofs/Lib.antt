@@ -1,10 +1,15 @@
 pub mod Agreeing
 pub mod Booking
+pub mod Calling
 pub mod Causes
 pub mod Filling
 pub mod Frames
 pub mod Framing
+pub mod Hanging
 pub mod Keeping
+pub mod Lasting
+pub mod Making
 pub mod Naming
 pub mod Serving
 pub mod Slotting
+pub mod There

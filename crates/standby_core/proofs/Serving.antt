@@ -11,7 +11,7 @@ use Rattle.standby_core.specs.declared.serve.StandbyEnd.{StandbyEnd}
 use Rattle.standby_core.specs.declared.serve.StandbyEnd.TheVariants as end
 
 -- all of a list and some of what stands behind it
-take_into : (xs ys : List ℕ) (n : ℕ) → take (length xs + n) (xs ++ ys) ≡ xs ++ take n ys
+pub take_into : {X : Type 0} (xs ys : List X) (n : ℕ) → take (length xs + n) (xs ++ ys) ≡ xs ++ take n ys
 take_into [] ys n =
     let none : 0 + n ≡ n = omega arith in
     ap (λ k. take k ys) none

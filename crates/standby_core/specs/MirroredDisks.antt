@@ -1,8 +1,8 @@
 -- What a mirrored disk shows.
-use Rattle.std.specs.Prelude.{ℕ, ◌^◌, Option, Some, None}
+use Rattle.std.specs.Prelude.{ℕ, ◌^◌, List, [], ◌++◌, Option, Some, None}
 use Rattle.standby_core.specs.declared.mirror.Mirror.{Mirror}
 use Rattle.standby_core.specs.declared.mirrored_disk.MirroredDisk.{MirroredDisk}
-use Rattle.standby_core.specs.Mirrors.{dial_of}
+use Rattle.standby_core.specs.Mirrors.{dial_of, texts_of}
 
 -- the disk under it
 abbrev pub inner_of : {D C : Type 0} {g : _} → MirroredDisk D C g → D
@@ -15,6 +15,12 @@ mirror_of disk = disk.mirror
 -- the disk of these two
 abbrev pub mirrored : {D C : Type 0} {g : _} → D → Option (Mirror C g) → MirroredDisk D C g
 mirrored inner mirror = record { inner = inner; mirror = mirror }
+
+-- what says where it comes from: what does of its mirror, and what does of the disk under it
+abbrev pub origin_with : {C : Type 0} {g : _} → (C → List ℕ) → (C → List ℕ)
+    → Option (Mirror C g) → List (List ℕ) → List (List ℕ)
+origin_with name address None below = []
+origin_with name address (Some mirror) below = texts_of name address mirror ++ below
 
 -- the marks of records with lower numbers may be told: all where there is no mirror
 abbrev pub told_by : {C : Type 0} {g : _} → (C → ℕ) → Option (Mirror C g) → ℕ

@@ -1,5 +1,5 @@
 -- What a mirror shows.
-use Rattle.std.specs.Prelude.{ℕ, List, string_bytes}
+use Rattle.std.specs.Prelude.{ℕ, List, [], ◌∷◌, string_bytes}
 use Rattle.log_journal.specs.declared.header.Header.{Header}
 use Rattle.standby_core.specs.declared.mirror.Mirror.{Mirror}
 
@@ -15,6 +15,11 @@ header_of mirror = mirror.header
 abbrev pub user_of : {C : Type 0} {g : _} → Mirror C g → List ℕ
 user_of mirror = string_bytes mirror.user
 
--- what stands in its room, from which its dial is given a frame
-abbrev pub room_of : {C : Type 0} {g : _} → Mirror C g → List ℕ
-room_of mirror = mirror.room
+-- what says where a disk with it comes from: the name and the address of its dial, the user in its
+-- frames, and the digests in their header
+abbrev pub texts_of : {C : Type 0} {g : _} → (C → List ℕ) → (C → List ℕ) → Mirror C g
+    → List (List ℕ)
+texts_of name address mirror =
+    name (dial_of mirror) ∷ address (dial_of mirror) ∷ user_of mirror ∷ (header_of mirror).policy
+    ∷ (header_of mirror).facts
+    ∷ []

@@ -4,8 +4,8 @@ ghost use Rattle.std.specs.Prelude.{string_bytes, bytes_eq, IfOk, IfSome, OnOk, 
 ghost use Rattle.std.specs.Prelude.{None, position};
 ghost use Rattle.outside.specs.Faults.{Rose};
 ghost use Rattle.log_journal.specs.Journal.{disk_of, is_broken, count_of};
-ghost use Rattle.log_journal.specs.Records.{Recorded};
-ghost use Rattle.standby_core.specs.Copies.{copy_in, copy_after, held_name};
+ghost use Rattle.standby_core.specs.Copies.{copy_in, copy_after, copy_failed, held_name};
+ghost use Rattle.standby_core.specs.Copies.{held_origin};
 ghost use Rattle.standby_core.specs.Lasting.{Lasts, IsCounted};
 
 use log_journal::{AppendError, Journal};
@@ -88,7 +88,7 @@ impl<D: Disk> StandbyBook<D> {
             → HasCount (copies_in D.reads self.old) name.now number }
 
         // What it leaves of the copies.
-        ensures alone { IsErrOf result TakeError.DiskFault
+        ensures alone { D.tells → IsErrOf result TakeError.DiskFault
             → FailsAlone (copies_in D.reads self.old) (copies_in D.reads self.new) name.now }
         ensures refused { IsErrOf result TakeError.UnknownName → self.new ≡ self.old }
         ensures untouched { IsErrOf result TakeError.Broken
@@ -96,12 +96,15 @@ impl<D: Disk> StandbyBook<D> {
         ensures memory { IsErrOf result TakeError.Memory
             → copies_in D.reads self.new ≡ copies_in D.reads self.old }
 
-        // What was there stays: each crash leaves the records with which a journal began.
-        ensures lasts { D.tells → (header : List ℕ) (firsts : List (List Recorded))
-            → AllLast D.reads D.image header firsts self.old.journals.items
-            → AllLast D.reads D.image header firsts self.new.journals.items }
+        // What was there stays: each crash leaves the records that each journal took, and at each
+        // moment since it was opened each left some first of them.
+        ensures lasts { D.tells → (header : List ℕ) (disks : List D)
+            → AllLast D.Disk header disks self.old.journals.items
+            → AllLast D.Disk header disks self.new.journals.items }
         ensures names { map held_name self.new.journals.items
             ≡ map held_name self.old.journals.items }
+        ensures origins { map (held_origin D.origin) self.new.journals.items
+            ≡ map (held_origin D.origin) self.old.journals.items }
         ensures counted { (counts : List ℕ)
             → AllCounted D.faults counts self.old.journals.items
             → AllCounted D.faults counts self.new.journals.items }
@@ -133,6 +136,7 @@ impl<D: Disk> Held<D> {
         requires short { length text.now ≤ 4096 }
         ensures counted { self.new.count ≡ count_of self.new.journal }
         ensures name { self.new.name ≡ self.old.name }
+        ensures origin { held_origin D.origin self.new ≡ held_origin D.origin self.old }
         ensures taken { D.tells → OnOk result (copy_in D.reads self.new
             ≡ copy_after (copy_in D.reads self.old) (record {
               name = string_bytes self.old.name;
@@ -151,9 +155,11 @@ impl<D: Disk> Held<D> {
         ensures untouched { IsErrOf result TakeError.Broken → self.new ≡ self.old }
         ensures memory { IsErrOf result TakeError.Memory
             → copy_in D.reads self.new ≡ copy_in D.reads self.old }
-        ensures lasts { D.tells → (header : List ℕ) (first : List Recorded)
-            → Lasts D.reads D.image header first self.old
-            → Lasts D.reads D.image header first self.new }
+        ensures failed { D.tells → IsErrOf result TakeError.DiskFault
+            → copy_in D.reads self.new ≡ copy_failed (copy_in D.reads self.old) }
+        ensures lasts { D.tells → (header : List ℕ) (opened : D)
+            → Lasts D.Disk header opened (disk_of self.old.journal) (copy_in D.reads self.old)
+            → Lasts D.Disk header opened (disk_of self.new.journal) (copy_in D.reads self.new) }
         ensures faults { (count : ℕ) → IsCounted D.faults count self.old
             → IsCounted D.faults count self.new }
         ensures broke { IsErrOf result TakeError.DiskFault ⊎ IsErrOf result TakeError.Broken

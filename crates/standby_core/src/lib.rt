@@ -8,11 +8,12 @@
 //! user, and each answer is the count of the records that the standby has then. What that is worth
 //! whatever becomes of the frames on their way stands in `replica`.
 //!
-//! Read `specs/Frames.antt` and `specs/Copies.antt` first, then `frame`, `mirror`, `mirrored_disk`,
-//! `slot`, `mirrors`, `shelf`, `book` and `serve`.
+//! Read `specs/Frames.antt`, `specs/Calls.antt` and `specs/Copies.antt` first, then `frame`,
+//! `mirror`, `mirrored_disk`, `slot`, `mirrors`, `dialling`, `shelf`, `book` and `serve`.
 #![tactic(auto)]
 
 mod book;
+mod dialling;
 mod frame;
 mod mirror;
 mod mirrored_disk;
@@ -22,9 +23,10 @@ mod shelf;
 mod slot;
 
 pub use book::{Held, StandbyBook, TakeError};
+pub use dialling::{hang_up_all, mirrors_for};
 pub use frame::{Frame, FrameOutcome, FrameRoom, Judged, judge, read_frame};
 pub use mirror::Mirror;
 pub use mirrored_disk::MirroredDisk;
-pub use mirrors::{Mirrors, hang_up_all, mirrors_for};
+pub use mirrors::Mirrors;
 pub use serve::{StandbyEnd, serve_standby};
 pub use shelf::MirroredShelf;

@@ -1,13 +1,14 @@
 //! A disk of which a standby has a copy.
-ghost use Rattle.std.specs.Prelude.{◌≡◌, ◌<◌, ◌≤◌, ◌+◌, length, OnOk};
+ghost use Rattle.std.specs.Prelude.{◌≡◌, ◌<◌, ◌≤◌, ◌+◌, ◌^◌, List, ℕ, length, OnOk};
 ghost use Rattle.outside.specs.Faults.{HasCause};
 
 use crate::Mirror;
 use outside::{Dial, Disk, Failed};
 
-/// A disk with a mirror, whose records are told once the standby has them: each call but `tell` is
-/// that of the disk under it. Its faults are those of the disk and those of the dial. One without a
-/// mirror is as the disk under it; a `MirroredShelf` gives none.
+/// A disk with a mirror: the mark of a record may be told once its dial was answered a count above
+/// the record's number. Each call but `tell` is that of the disk under it. Its faults are those of
+/// the disk and those of the dial. One without a mirror is as the disk under it; a `MirroredShelf`
+/// gives none.
 #[derive(Drop)]
 pub struct MirroredDisk<D, C: Dial> {
     inner: D,
@@ -16,7 +17,7 @@ pub struct MirroredDisk<D, C: Dial> {
 
 impl<D, C: Dial> MirroredDisk<D, C> {
     ghost use Rattle.standby_core.specs.MirroredDisks.{inner_of, mirror_of, mirrored};
-    ghost use Rattle.standby_core.specs.MirroredDisks.{told_by, faults_by};
+    ghost use Rattle.standby_core.specs.MirroredDisks.{told_by, faults_by, origin_with};
 
     /// A disk with a mirror, or without one.
     pub fn new(inner: D, mirror: Option<Mirror<C>>) -> Self
@@ -35,8 +36,14 @@ impl<D, C: Dial> MirroredDisk<D, C> {
 
     // Tells the standby of a record, where there is one.
     fn ask(&mut self, number: u64, kind: u8, text: &[u8]) -> Result<(), Failed>
+        requires low { 1 ≤ kind }
+        requires high { kind ≤ 5 }
         requires short { length text.now ≤ 4096 }
+        requires few { number + 1 < 2 ^ 64 }
         ensures inner { inner_of self.new ≡ inner_of self.old }
+        ensures origin { (below : List (List ℕ))
+            → origin_with C.name C.address (mirror_of self.new) below
+            ≡ origin_with C.name C.address (mirror_of self.old) below }
         ensures above { OnOk result (number < told_by C.answered (mirror_of self.new)) }
         ensures told { told_by C.answered (mirror_of self.old)
             ≤ told_by C.answered (mirror_of self.new) }
@@ -52,6 +59,7 @@ impl<D, C: Dial> MirroredDisk<D, C> {
 
 impl<D: Disk, C: Dial> Disk for MirroredDisk<D, C> {
     ghost use Rattle.standby_core.specs.MirroredDisks.{inner_of, mirror_of, told_by, faults_by};
+    ghost use Rattle.standby_core.specs.MirroredDisks.{origin_with};
 
     ghost tells = { D.tells };
 
@@ -66,6 +74,9 @@ impl<D: Disk, C: Dial> Disk for MirroredDisk<D, C> {
     ghost faults = { λ disk. D.faults (inner_of disk) + faults_by C.faults (mirror_of disk) };
 
     ghost told = { λ disk. told_by C.answered (mirror_of disk) };
+
+    ghost origin = { λ disk. origin_with C.name C.address (mirror_of disk)
+        (D.origin (inner_of disk)) };
 
     ghost read_is_image = { λ disk told. D.read_is_image (inner_of disk) told };
 

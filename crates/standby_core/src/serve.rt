@@ -1,9 +1,8 @@
 //! Serving a connection of a primary.
 ghost use Rattle.std.specs.Prelude.{◌≡◌, ◌⊎◌, ◌≤◌, List, ℕ, map, IsTrue, Err, IfErr};
 ghost use Rattle.outside.specs.Faults.{Rose};
-ghost use Rattle.log_journal.specs.Records.{Recorded};
 ghost use Rattle.standby_core.specs.Books.{copies_in};
-ghost use Rattle.standby_core.specs.Copies.{held_name};
+ghost use Rattle.standby_core.specs.Copies.{held_name, held_origin};
 ghost use Rattle.standby_core.specs.Exchanges.{Serves, IsAnswered, Took, IsTaking};
 ghost use Rattle.standby_core.specs.Frames.{Carried, IsFrame};
 ghost use Rattle.standby_core.specs.Lasting.{AllLast, AllCounted, has_broken};
@@ -45,12 +44,14 @@ pub fn serve_standby<R: Wait, D: Disk, S: Source, K: Sink>(
         (copies_in D.reads book.new) result)
         × IsAnswered result served.answers (K.written sink.old) (K.written sink.new) }
 
-    // What was there stays, and where a disk failed its count rose.
-    ensures lasts { D.tells → (own : List ℕ) (firsts : List (List Recorded))
-        → AllLast D.reads D.image own firsts book.old.journals.items
-        → AllLast D.reads D.image own firsts book.new.journals.items }
+    // What was there stays, at each moment, and where a disk failed its count rose.
+    ensures lasts { D.tells → (own : List ℕ) (disks : List D)
+        → AllLast D.Disk own disks book.old.journals.items
+        → AllLast D.Disk own disks book.new.journals.items }
     ensures names { map held_name book.new.journals.items
         ≡ map held_name book.old.journals.items }
+    ensures origins { map (held_origin D.origin) book.new.journals.items
+        ≡ map (held_origin D.origin) book.old.journals.items }
     ensures counted { (counts : List ℕ) → AllCounted D.faults counts book.old.journals.items
         → AllCounted D.faults counts book.new.journals.items }
     ensures broke { (result ≡ StandbyEnd.Take TakeError.DiskFault)
@@ -94,11 +95,13 @@ fn take_frame<D: Disk, K: Sink>(
     ensures took { D.tells → K.tells → Took header.now room.now (copies_in D.reads book.old)
         (copies_in D.reads book.new) (K.written sink.old) (K.written sink.new) result }
     ensures ends { IfErr result IsTaking }
-    ensures lasts { D.tells → (own : List ℕ) (firsts : List (List Recorded))
-        → AllLast D.reads D.image own firsts book.old.journals.items
-        → AllLast D.reads D.image own firsts book.new.journals.items }
+    ensures lasts { D.tells → (own : List ℕ) (disks : List D)
+        → AllLast D.Disk own disks book.old.journals.items
+        → AllLast D.Disk own disks book.new.journals.items }
     ensures names { map held_name book.new.journals.items
         ≡ map held_name book.old.journals.items }
+    ensures origins { map (held_origin D.origin) book.new.journals.items
+        ≡ map (held_origin D.origin) book.old.journals.items }
     ensures counted { (counts : List ℕ) → AllCounted D.faults counts book.old.journals.items
         → AllCounted D.faults counts book.new.journals.items }
     ensures broke { (result ≡ Err (StandbyEnd.Take TakeError.DiskFault))

@@ -1,8 +1,10 @@
 //! A shelf whose disks a standby copies.
-ghost use Rattle.std.specs.Prelude.{◌≡◌, ◌∷◌, [], ◌+◌};
+ghost use Rattle.std.specs.Prelude.{◌≡◌, ◌+◌, List, ℕ, false, map};
 ghost use Rattle.outside.specs.Shelf.{NoneOut};
-ghost use Rattle.standby_core.specs.Places.{faults_in};
-ghost use Rattle.standby_core.specs.Slots.{slots_of, place_at, mirrored_at, HavePlaces};
+ghost use Rattle.standby_core.specs.Places.{faults_in, is_away};
+ghost use Rattle.standby_core.specs.MirrorSets.{slots_of};
+ghost use Rattle.standby_core.specs.Slots.{slot_texts, place_at, made_at, mirrored_at};
+ghost use Rattle.standby_core.specs.Slots.{mirrored_lent, HavePlaces, HaveMirrors};
 
 use crate::{MirroredDisk, Mirrors};
 use outside::{Dial, Shelf, ShelfError};
@@ -19,12 +21,14 @@ pub struct MirroredShelf<'a, F: Shelf, C: Dial> {
     shelf: &'a mut F,
     mirrors: &'a mut Mirrors<C>,
     ghost there: { HavePlaces (F.is_out shelf.now) (slots_of mirrors.now) },
+    ghost back: { HaveMirrors (F.is_out shelf.now) (slots_of mirrors.now) },
 }
 
 impl<'a, F: Shelf, C: Dial> MirroredShelf<'a, F, C> {
-    /// No disk of the shelf is out yet. It takes no memory.
+    /// No disk of the shelf is out yet, nor is a mirror. It takes no memory.
     pub fn new(shelf: &'a mut F, mirrors: &'a mut Mirrors<C>) -> Self
-        requires { NoneOut (F.is_out shelf.old) }
+        requires inside { NoneOut (F.is_out shelf.old) }
+        requires there { (name : List ℕ) → is_away (place_at (slots_of mirrors.old) name) ≡ false }
         ensures same_shelf { result.shelf.ghost_name ≡ shelf.entry.ghost_name }
         ensures same_mirrors { result.mirrors.ghost_name ≡ mirrors.entry.ghost_name }
         ensures shelf { result.shelf.now ≡ shelf.old }
@@ -53,7 +57,10 @@ impl<F: Shelf, C: Dial + Drop> Shelf for MirroredShelf<'_, F, C> {
 
     ghost looked = { λ s. F.looked s.shelf.now };
 
-    ghost lent = { λ s. s.shelf.ghost_name ∷ s.mirrors.ghost_name ∷ F.lent s.shelf.now };
+    ghost lent = { λ s. mirrored_lent s.shelf.ghost_name s.mirrors.ghost_name
+        (map (slot_texts C.name C.address) (slots_of s.mirrors.now))
+        (made_at C.name C.address (slots_of s.mirrors.now))
+        (F.lent s.shelf.now) };
 
     ghost tells_disks = { λ told. F.tells_disks told };
 
@@ -80,6 +87,7 @@ impl<F: Shelf, C: Dial + Drop> Shelf for MirroredShelf<'_, F, C> {
 
     fn give_disk(&mut self, name: &str, taken: MirroredDisk<F::D, C>) {
         let (inner, mirror) = taken.split();
+        let Some(mirror) = mirror else { unreachable!() };
         self.mirrors.put_back(name, mirror);
         self.shelf.give_disk(name, inner);
     }

@@ -1,12 +1,13 @@
 //! A place among the mirrors, under the name of its disk.
-ghost use Rattle.std.specs.Prelude.{◌≡◌, Some, IfSome, IfNone};
-ghost use Rattle.standby_core.specs.Mirrors.{dial_of};
+ghost use Rattle.std.specs.Prelude.{◌≡◌, Some, IfSome, IfNone, string_bytes};
+ghost use Rattle.standby_core.specs.Mirrors.{dial_of, texts_of};
 ghost use Rattle.standby_core.specs.MirroredDisks.{faults_by};
-ghost use Rattle.standby_core.specs.Places.{new_in, place_with};
+ghost use Rattle.standby_core.specs.Places.{mirror_in, new_in, texts_or};
 
 use crate::Mirror;
 use outside::Dial;
 use std::mem;
+use std::snapshot::Snapshot;
 
 // What stands under the name of a disk. A mirror is taken with its disk, and once: so its count of
 // faults was 0 as it was taken, and is that of its dial as it is back.
@@ -17,16 +18,20 @@ pub(crate) enum Place<C: Dial> {
     Back(Mirror<C>),
 }
 
-// A place under its name.
+// A place under its name, with the mirror as it was made. Its dial has the same name.
 #[derive(Drop)]
 pub(crate) struct Slot<C: Dial> {
     pub(crate) journal: String,
     pub(crate) place: Place<C>,
+    pub(crate) made: Snapshot<Mirror<C>>,
     ghost fresh: { faults_by C.faults (new_in (Some place)) ≡ 0 },
+    ghost named: { C.name (dial_of made.value) ≡ string_bytes journal },
+    ghost same: { texts_or C.name C.address (texts_of C.name C.address made.value)
+        (mirror_in (Some place)) ≡ texts_of C.name C.address made.value },
 }
 
 impl<C: Dial + Drop> Slot<C> {
-    ghost use Rattle.standby_core.specs.Slots.{slot_name};
+    ghost use Rattle.standby_core.specs.Slots.{slot_name, slot_texts};
 
     /// Takes the mirror, where it wasn't taken yet.
     pub(crate) fn take(&mut self) -> Option<Mirror<C>>
@@ -34,6 +39,10 @@ impl<C: Dial + Drop> Slot<C> {
         ensures out { IfSome result (λ mirror. self.new.place ≡ Place.Out) }
         ensures none { IfNone result (self.new.place ≡ self.old.place) }
         ensures name { slot_name self.new ≡ slot_name self.old }
+        ensures made { slot_texts C.name C.address self.new
+            ≡ slot_texts C.name C.address self.old }
+        ensures own { IfSome result (λ mirror. texts_of C.name C.address mirror
+            ≡ slot_texts C.name C.address self.old) }
         ensures faultless { IfSome result (λ mirror. C.faults (dial_of mirror) ≡ 0) }
     {
         match mem::replace(&mut self.place, Place::Out) {
@@ -46,24 +55,26 @@ impl<C: Dial + Drop> Slot<C> {
         }
     }
 
-    /// Puts a mirror back that wasn't used.
+    /// Puts its mirror back, which wasn't used.
     pub(crate) fn put_new(&mut self, mirror: Mirror<C>)
-        requires { C.faults (dial_of mirror) ≡ 0 }
+        requires faultless { C.faults (dial_of mirror) ≡ 0 }
+        requires own { texts_of C.name C.address mirror ≡ slot_texts C.name C.address self.old }
         ensures put { self.new.place ≡ Place.New mirror }
         ensures name { slot_name self.new ≡ slot_name self.old }
+        ensures made { slot_texts C.name C.address self.new
+            ≡ slot_texts C.name C.address self.old }
     {
         let _before = mem::replace(&mut self.place, Place::New(mirror));
     }
 
-    /// Puts a mirror back, or none.
-    pub(crate) fn put_back(&mut self, mirror: Option<Mirror<C>>)
-        ensures put { self.new.place ≡ place_with mirror }
+    /// Puts its mirror back.
+    pub(crate) fn put_back(&mut self, mirror: Mirror<C>)
+        requires { texts_of C.name C.address mirror ≡ slot_texts C.name C.address self.old }
+        ensures put { self.new.place ≡ Place.Back mirror }
         ensures name { slot_name self.new ≡ slot_name self.old }
+        ensures made { slot_texts C.name C.address self.new
+            ≡ slot_texts C.name C.address self.old }
     {
-        let place = match mirror {
-            Some(mirror) => Place::Back(mirror),
-            None => Place::Out,
-        };
-        let _before = mem::replace(&mut self.place, place);
+        let _before = mem::replace(&mut self.place, Place::Back(mirror));
     }
 }

@@ -3,6 +3,7 @@ pub mod Giving
 pub mod Returning
 pub mod Places
 pub mod Parting
+pub mod Owning
 pub mod Mirroring
 pub mod Begun
 pub mod Visits

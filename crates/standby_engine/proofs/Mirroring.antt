@@ -1,14 +1,16 @@
 -- What a standby leaves of the journals that it opened.
-use Rattle.std.proofs.Common.{◌≡◌, inl, inr, ℕ, suc, ◌≤◌, Bool, true, false, ◌||◌, List, [], ◌∷◌, ◌++◌, length, map, drop, refl, sym, ap, subst, ◌∙◌, arith}
-use Rattle.std.specs.Prelude.{Option, bytes_eq, string_bytes}
+use Rattle.std.proofs.Common.{◌≡◌, inl, inr, ℕ, suc, ◌≤◌, Bool, true, false, ◌||◌, List, [], ◌∷◌, ◌++◌, length, map, take, drop, refl, sym, ap, subst, ◌∙◌}
+use Rattle.std.proofs.Common.{arith}
+use Rattle.std.specs.Prelude.{Option, Some, bytes_eq, string_bytes}
 use Rattle.std.specs.List.{AllByRecursion, AllZip, list_any}
 use Rattle.std.specs.Cmp.Lexicographic.{same_text}
 use Rattle.std.proofs.lemmas.Bool.{or_from}
-use Rattle.outside.specs.Disk.{Only}
+use Rattle.outside.specs.Disk.{Elapses}
 use Rattle.outside.specs.Faults.{Rose}
-use Rattle.outside.specs.Shelf.{SameNames, SameBeside, AllOut, AreOut, SomeRose, is_among, bytes_on, image_on}
+use Rattle.outside.specs.Shelf.{SameNames, SameBeside, AllOut, AreOut, SomeRose, is_among, bytes_on, image_on, since_on}
 use Rattle.outside.specs.declared.disk.Disk.{Ghosts as DiskGhosts}
-use Rattle.outside.proofs.Taken.{taken_reads, began_rests}
+use Rattle.outside.proofs.Moments.{elapses_none}
+use Rattle.outside.proofs.Taken.{taken_reads, taken_images, began_rests}
 use Rattle.cqe_base.specs.Schema.{Text, has_duplicate}
 use Rattle.cqe_base.specs.declared.user.User.{User}
 use Rattle.cqe_base.proofs.Lists.{text_is}
@@ -18,22 +20,24 @@ use Rattle.log_journal.specs.Names.{journal_name, JournalsDiffer}
 use Rattle.log_journal.specs.Opening.{IsRefused}
 use Rattle.log_journal.specs.Records.{Recorded, IsJournal}
 use Rattle.log_journal.specs.Walk.{records}
-use Rattle.log_journal.proofs.Walks.{journals_are_walked}
 use Rattle.log_journal.specs.declared.header.OpenError.{OpenError}
 use Rattle.log_journal.specs.declared.header.OpenError.TheVariants.{NotAJournal, OtherPolicy, Damaged, DiskFault, Memory, OldVersion}
 use Rattle.desk_crew.specs.Registered.{registered_journals}
-use Rattle.desk_crew.specs.Shelved.{journals_by}
+use Rattle.desk_crew.specs.Shelved.{journals_by, StandsAllAlong}
 use Rattle.desk_crew.proofs.Giving.{AreReturned, AllReturned}
+use Rattle.desk_crew.proofs.Lasting.{taken_moment, stands_along}
 use Rattle.desk_crew.proofs.Shelving.{among-append, among_none_first, among_none_second, by_among, none_out, at_names}
 use Rattle.desk_crew.proofs.Taking.{names, journals_distinct}
 use Rattle.standby_core.specs.Copies.{Copy, copy_in, held_name}
-use Rattle.standby_core.specs.Lasting.{AllLast, AllCounted, has_broken}
+use Rattle.standby_core.specs.Lasting.{HasCopied, Lasts, AllLast, AllCounted, has_broken}
 use Rattle.standby_core.specs.declared.book.Held.{Held}
-use Rattle.standby_engine.specs.Opened.{place_journal, place_refusal, given_journal, journals_in, names_in, others_in, IsGiven, ArePlacesOf}
-use Rattle.standby_engine.specs.Standing.{AreCopied, AreCopiesOf, SomeFailed}
+use Rattle.standby_core.proofs.Lasting.{taken_all, copied_fewer, enough}
+use Rattle.standby_engine.specs.Opened.{place_journal, place_refusal, given_journal, journals_in, names_in, others_in, IsGiven, IsPlaceUnder, ArePlacesOf}
+use Rattle.standby_engine.specs.Standing.{HasBeginning, GrowsJournal, AreCopied, IsCopyOf, AreCopiesOf, SomeFailed}
 use Rattle.standby_engine.specs.declared.opening.Given.{Given as Back}
 use Rattle.standby_engine.specs.declared.opening.Place.{Place}
 use Rattle.standby_engine.specs.declared.opening.Place.TheVariants.{Opened, Refused}
+use Rattle.standby_engine.proofs.Begun.{CountsNow, OnlyNow, walked_records, begins_with}
 use Rattle.standby_engine.proofs.Places.{IsUnder, under_names, zip_parts, place_journals, same_under}
 
 -- a refusal of bytes that are told
@@ -45,10 +49,6 @@ refused_told t header bytes before now OldVersion is = (is.0, λ u. is.1 t)
 refused_told t header bytes before now NotAJournal is = λ u. is t
 refused_told t header bytes before now OtherPolicy is = λ u. is t
 refused_told t header bytes before now (Damaged number) is = λ u. is t
-
--- a journal's records are those that a walk finds
-walked_records : (header : List ℕ) (all : List Recorded) (bytes : List ℕ) → IsJournal header all bytes → records bytes ≡ all
-walked_records header all bytes journal = ((journals_are_walked header all bytes).0 journal).are
 
 -- two lists that are the same have the same first, and the same rest
 same_first : (x y : Text) (xs ys : List Text) → x ∷ xs ≡ y ∷ ys → x ≡ y
@@ -132,13 +132,7 @@ module _ (directory header : List ℕ) {D : Type 0} {g : _} (told : Type 0) (Dis
   abbrev Placed : List User → List (Place D g) → Type 0
   Placed users places = ArePlacesOf told Disk header directory disk0 count0 users places
 
-  -- the records with which each opened journal began, and the count of its disk's faults then
-  abbrev pub firsts_of : Disk.tells → (users : List User) (places : List (Place D g)) → Placed users places → List (List Recorded)
-  firsts_of t (u ∷ users) (Opened journal held ∷ places) are = (are.0.opened t).0 ∷ firsts_of t users places are.1
-  firsts_of t (u ∷ users) (Refused journal disk why ∷ places) are = firsts_of t users places are.1
-  firsts_of t (u ∷ users) [] are = []
-  firsts_of t [] places are = []
-
+  -- the count of its disk's faults with which each opened journal began
   abbrev pub counts_of : (users : List User) (places : List (Place D g)) → Placed users places → List ℕ
   counts_of (u ∷ users) (Opened journal held ∷ places) are = Disk.faults are.0.taken ∷ counts_of users places are.1
   counts_of (u ∷ users) (Refused journal disk why ∷ places) are = counts_of users places are.1
@@ -153,7 +147,7 @@ module _ (directory header : List ℕ) {D : Type 0} {g : _} (told : Type 0) (Dis
 
   -- as it is opened each journal lasts, and is counted
   pub first_lasts : (t : Disk.tells) (users : List User) (places : List (Place D g)) (are : Placed users places)
-      → AllLast Disk.reads Disk.image header (firsts_of t users places are) (journals_in places)
+      → AllLast Disk header (map held_disk (journals_in places)) (journals_in places)
   first_lasts t [] [] are = tt
   first_lasts t [] (p ∷ places) are = absurd are
   first_lasts t (u ∷ users) [] are = absurd are
@@ -283,25 +277,104 @@ module _ (directory header : List ℕ) {D : Type 0} {g : _} (told : Type 0) (Dis
     some_failed (u ∷ users) (Refused journal disk why ∷ places) are after back counted broken =
         inr (some_failed users places are.1 after (record { others = back.others.1; opened = back.opened }) counted broken)
 
+    -- ---- the journal of a user, which was opened, and is back
+
+    module _ (s : told) (t : Disk.tells) (counts_now : CountsNow Disk) (only_now : OnlyNow Disk) (u : User) (journal : _) (held h : Held D g)
+        (is : IsPlaceUnder told Disk header disk0 count0 (journal_name directory (string_bytes u.name)) (string_bytes u.name) (Opened journal held))
+        (under : IsUnder told Disk disk1 count1 (string_bytes journal) (held_disk h))
+        (lasts : Lasts Disk header (held_disk held) (held_disk h) (copy_in Disk.reads h)) where
+      abbrev own : Text
+      own = journal_name directory (string_bytes u.name)
+
+      abbrev began_with : List Recorded
+      began_with = records (Disk.reads (held_disk held))
+
+      is_now : disk1 own ≡ Some (held_disk h)
+      is_now = ap disk1 (sym is.journal_is) ∙ under.held s
+
+      same_bytes : Disk.reads (held_disk held) ≡ bytes_on Disk.reads (disk0 own)
+      same_bytes = is.only.reads ∙ taken_reads Disk.reads Disk.image (disk0 own) is.taken (is.from s)
+
+      -- it had these records as it was opened
+      opened_with : IsJournal header began_with (bytes_on Disk.reads (disk0 own))
+      opened_with =
+          let has : began_with ≡ (is.opened t).0 = ap records is.only.reads ∙ walked_records header (is.opened t).0 (Disk.reads is.taken) (is.opened t).1.0 in
+          subst (IsJournal header began_with) (taken_reads Disk.reads Disk.image (disk0 own) is.taken (is.from s))
+          (subst (λ rs. IsJournal header rs (Disk.reads is.taken)) (sym has) (is.opened t).1.0)
+
+      -- each crash leaves those of its copy
+      leaves_copied : (c : List ℕ) → image_on Disk.image (disk1 own) c → HasCopied header (length (copy_in Disk.reads h).records) (copy_in Disk.reads h) c
+      leaves_copied c here = lasts.leaves_it c (subst (λ o. image_on Disk.image o c) is_now here)
+
+      as_begun : (c : List ℕ) → HasCopied header (length (copy_in Disk.reads h).records) (copy_in Disk.reads h) c
+          → HasCopied header (length began_with) (copy_in Disk.reads h) c
+      as_begun c left =
+          copied_fewer header (copy_in Disk.reads h) (length (copy_in Disk.reads h).records) (length began_with) c
+          (enough Disk header (held_disk held) (held_disk h) (copy_in Disk.reads h) lasts) left
+
+      -- and each at the moments since then some first ones, and so what follows from them
+      stood_along : (stands : List ℕ → Type 0) → ((c : List ℕ) → HasCopied header (length began_with) (copy_in Disk.reads h) c → stands c)
+          → StandsAllAlong (journals_by Disk.reads Disk.image Disk.moment Disk.image_since directory disk0 disk1 count0 count1) (string_bytes u.name) true
+          stands
+      stood_along stands weaker =
+          let now = held_disk h in
+          stands_along (journals_by Disk.reads Disk.image Disk.moment Disk.image_since directory disk0 disk1 count0 count1) (string_bytes u.name) false stands
+          (Disk.moment is.taken) (Disk.moment (held_disk held)) (Disk.moment now) (Disk.moment now) (Disk.image_since is.taken)
+          (Disk.image_since (held_disk held)) (Disk.image_since now) (Disk.image is.taken) (Disk.image now)
+          (taken_moment Disk.reads Disk.image Disk.moment (disk0 own) is.taken (is.from s))
+          (λ c here. taken_images Disk.reads Disk.image (disk0 own) is.taken c (is.from s) here) is.only.time is.only.moments lasts.time
+          (subst (λ o. Elapses (Disk.moment now) (Disk.moment now) (Disk.image_since now) (since_on Disk.image_since o)) (sym is_now)
+          (elapses_none (Disk.moment now) (Disk.image_since now) (Disk.image now) (counts_now now) (only_now now)))
+          (λ c here. only_now now c (subst (λ o. since_on Disk.image_since o (Disk.moment now) c) is_now here))
+          (λ fine c here. weaker c (lasts.stood c here)) (λ fine c here. weaker c (as_begun c (lasts.leaves_it c here)))
+          (λ refused. absurd cc) (λ refused. absurd cc)
+
+      pub has_grown : GrowsJournal header (journals_by Disk.reads Disk.image Disk.moment Disk.image_since directory disk0 disk1 count0 count1)
+          (string_bytes u.name)
+      has_grown = record {
+        first = began_with;
+        opened = opened_with;
+        leaves = λ c here. begins_with header began_with lasts.more (copy_in Disk.reads h) c lasts.grew (as_begun c (leaves_copied c here));
+        moments = stood_along (HasBeginning header began_with)
+            (λ c some. begins_with header began_with lasts.more (copy_in Disk.reads h) c lasts.grew some);
+      }
+
+      pub has_copied : count_of held.journal ≡ length began_with → held_name h ≡ held_name held
+          → IsCopyOf header (journals_by Disk.reads Disk.image Disk.moment Disk.image_since directory disk0 disk1 count0 count1) (string_bytes u.name)
+          (copy_in Disk.reads held) (copy_in Disk.reads h)
+      has_copied counts names_are =
+          let counted : held.count ≡ length began_with = is.sound.1 ∙ counts in
+          let all : take held.count began_with ≡ began_with = taken_all held.count began_with counted in
+          record {
+            named = is.named;
+            opened = subst (λ rs. IsJournal header rs (bytes_on Disk.reads (disk0 own))) (sym all) opened_with;
+            counted = counted ∙ ap length (sym all);
+            whole = is.sound.0;
+            still_named = names_are ∙ is.named;
+            leaves = leaves_copied;
+            moments = stood_along (HasCopied header (length (take held.count began_with)) (copy_in Disk.reads h))
+                (λ c some. subst (λ n. HasCopied header n (copy_in Disk.reads h) c) (sym (ap length all)) some);
+            size = λ whole.
+                let now = ap (λ o. length (bytes_on Disk.reads o)) is_now in
+                let was = ap length same_bytes in
+                omega (arith, now, was, lasts.size whole);
+          }
+
     -- each journal that was opened grew, and each other is as it was
-    pub all_copied : told → (t : Disk.tells) (users : List User) (places : List (Place D g)) (are : Placed users places) (after : List (Held D g))
-        → AreBack places after → AllLast Disk.reads Disk.image header (firsts_of t users places are) after
+    pub all_copied : told → Disk.tells → CountsNow Disk → OnlyNow Disk
+        → (users : List User) (places : List (Place D g)) (are : Placed users places) (after : List (Held D g))
+        → AreBack places after → AllLast Disk header (map held_disk (journals_in places)) after
         → AreCopied header (journals_by Disk.reads Disk.image Disk.moment Disk.image_since directory disk0 disk1 count0 count1) users
         (map place_refusal places)
-    all_copied s t [] [] are after back lasts = tt
-    all_copied s t [] (p ∷ places) are after back lasts = absurd are
-    all_copied s t (u ∷ users) [] are after back lasts = absurd are
-    all_copied s t (u ∷ users) (Opened journal held ∷ places) are [] back lasts = absurd lasts
-    all_copied s t (u ∷ users) (Opened journal held ∷ places) are (h ∷ after) back lasts = (
-      record {
-        first = (are.0.opened t).0;
-        opened = subst (IsJournal header (are.0.opened t).0)
-            (taken_reads Disk.reads Disk.image (disk0 (journal_name directory (string_bytes u.name))) are.0.taken (are.0.from s)) (are.0.opened t).1.0;
-        leaves = λ c here. lasts.0.leaves_it c (subst (λ o. image_on Disk.image o c) (ap disk1 (sym are.0.journal_is) ∙ back.opened.0.held s) here);
-      },
-      all_copied s t users places are.1 after (record { others = back.others; opened = back.opened.1 }) lasts.1,
+    all_copied s t counts_now only_now [] [] are after back lasts = tt
+    all_copied s t counts_now only_now [] (p ∷ places) are after back lasts = absurd are
+    all_copied s t counts_now only_now (u ∷ users) [] are after back lasts = absurd are
+    all_copied s t counts_now only_now (u ∷ users) (Opened journal held ∷ places) are [] back lasts = absurd lasts
+    all_copied s t counts_now only_now (u ∷ users) (Opened journal held ∷ places) are (h ∷ after) back lasts = (
+      has_grown s t counts_now only_now u journal held h are.0 back.opened.0 lasts.0,
+      all_copied s t counts_now only_now users places are.1 after (record { others = back.others; opened = back.opened.1 }) lasts.1,
     )
-    all_copied s t (u ∷ users) (Refused journal disk why ∷ places) are after back lasts =
+    all_copied s t counts_now only_now (u ∷ users) (Refused journal disk why ∷ places) are after back lasts =
         let own = journal_name directory (string_bytes u.name) in
         let same = same_under directory header told Disk disk0 count0 s disk1 count1 own (string_bytes u.name) (Refused journal disk why) are.0 back.others.0 in
         let read = taken_reads Disk.reads Disk.image (disk0 own) are.0.taken (are.0.from s) in
@@ -314,47 +387,27 @@ module _ (directory header : List ℕ) {D : Type 0} {g : _} (told : Type 0) (Dis
                 (subst (λ n. IsRefused (Unit {0}) header (Disk.reads are.0.taken) (Disk.faults are.0.taken) n why) now refused)),
             (same.0, same.1, began_rests Disk (disk0 own) (disk1 own) same.2),
           ),
-          all_copied s t users places are.1 after (record { others = back.others.1; opened = back.opened }) lasts,
+          all_copied s t counts_now only_now users places are.1 after (record { others = back.others.1; opened = back.opened }) lasts,
         )
 
     -- the copies of those that were opened, as the serving began and as it was left, are those of these users' journals
-    pub all_served : told → (t : Disk.tells)
-        → ((held : Held D g) → is_broken held.journal ≡ false → Only (Disk.reads (disk_of held.journal)) (Disk.image (disk_of held.journal)))
+    pub all_served : told → Disk.tells → CountsNow Disk → OnlyNow Disk
         → ((held : Held D g) → is_broken held.journal ≡ false → count_of held.journal ≡ length (records (Disk.reads (disk_of held.journal))))
         → (users : List User) (places : List (Place D g)) (are : Placed users places) (after : List (Held D g))
-        → AreBack places after → AllLast Disk.reads Disk.image header (firsts_of t users places are) after
+        → AreBack places after → AllLast Disk header (map held_disk (journals_in places)) after
         → map held_name after ≡ map held_name (journals_in places)
         → AreCopiesOf header (journals_by Disk.reads Disk.image Disk.moment Disk.image_since directory disk0 disk1 count0 count1) users
         (map place_refusal places) (map (copy_in Disk.reads) (journals_in places)) (map (copy_in Disk.reads) after)
-    all_served s t only counts [] [] are [] back lasts named = tt
-    all_served s t only counts [] [] are (h ∷ after) back lasts named = absurd lasts
-    all_served s t only counts [] (p ∷ places) are after back lasts named = absurd are
-    all_served s t only counts (u ∷ users) [] are after back lasts named = absurd are
-    all_served s t only counts (u ∷ users) (Opened journal held ∷ places) are [] back lasts named = absurd lasts
-    all_served s t only counts (u ∷ users) (Opened journal held ∷ places) are (h ∷ after) back lasts named =
-        let first = (are.0.opened t).0 in
-        let opened = (are.0.opened t).1.0 in
-        let read = taken_reads Disk.reads Disk.image (disk0 (journal_name directory (string_bytes u.name))) are.0.taken (are.0.from s) in
-        let walked = walked_records header first (Disk.reads are.0.taken) opened in
-        let has : records (Disk.reads (disk_of held.journal)) ≡ first = ap records are.0.only.reads ∙ walked in (
-          record {
-            named = are.0.named;
-            opened = subst (λ rs. IsJournal header rs (bytes_on Disk.reads (disk0 (journal_name directory (string_bytes u.name))))) (sym has)
-                (subst (IsJournal header first) read opened);
-            counted = are.0.sound.1 ∙ counts held are.0.sound.0;
-            whole = are.0.sound.0;
-            still_named = same_first (held_name h) (held_name held) _ _ named ∙ are.0.named;
-            leaves = λ whole c here.
-                let image : Disk.image (disk_of h.journal) c =
-                subst (λ o. image_on Disk.image o c) (ap disk1 (sym are.0.journal_is) ∙ back.opened.0.held s) here in
-                let begins = lasts.0.reads_it whole in
-                let is : records (Disk.reads (disk_of h.journal)) ≡ first ++ begins.0 =
-                walked_records header (first ++ begins.0) (Disk.reads (disk_of h.journal)) begins.1 in
-                subst (IsJournal header (records (Disk.reads (disk_of h.journal)))) (sym (only h whole c image))
-                (subst (λ rs. IsJournal header rs (Disk.reads (disk_of h.journal))) (sym is) begins.1);
-          },
-          all_served s t only counts users places are.1 after (record { others = back.others; opened = back.opened.1 }) lasts.1
-              (same_rest _ _ _ _ named),
-        )
-    all_served s t only counts (u ∷ users) (Refused journal disk why ∷ places) are after back lasts named =
-        all_served s t only counts users places are.1 after (record { others = back.others.1; opened = back.opened }) lasts named
+    all_served s t counts_now only_now counts [] [] are [] back lasts named = tt
+    all_served s t counts_now only_now counts [] [] are (h ∷ after) back lasts named = absurd lasts
+    all_served s t counts_now only_now counts [] (p ∷ places) are after back lasts named = absurd are
+    all_served s t counts_now only_now counts (u ∷ users) [] are after back lasts named = absurd are
+    all_served s t counts_now only_now counts (u ∷ users) (Opened journal held ∷ places) are [] back lasts named = absurd lasts
+    all_served s t counts_now only_now counts (u ∷ users) (Opened journal held ∷ places) are (h ∷ after) back lasts named = (
+      has_copied s t counts_now only_now u journal held h are.0 back.opened.0 lasts.0 (counts held are.0.sound.0)
+          (same_first (held_name h) (held_name held) _ _ named),
+      all_served s t counts_now only_now counts users places are.1 after (record { others = back.others; opened = back.opened.1 }) lasts.1
+          (same_rest _ _ _ _ named),
+    )
+    all_served s t counts_now only_now counts (u ∷ users) (Refused journal disk why ∷ places) are after back lasts named =
+        all_served s t counts_now only_now counts users places are.1 after (record { others = back.others.1; opened = back.opened }) lasts named

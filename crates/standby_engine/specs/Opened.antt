@@ -1,5 +1,6 @@
 -- The journals of a standby that were opened, and those that were refused.
-use Rattle.std.specs.Prelude.{◌≡◌, ◌≢◌, ℕ, false, List, [], ◌∷◌, Option, Some, None, string_bytes}
+use Rattle.std.specs.Prelude.{◌≡◌, ◌≢◌, ℕ, false, List, [], ◌∷◌, map, Option, Some, None}
+use Rattle.std.specs.Prelude.{string_bytes}
 use Rattle.std.specs.List.{AllByRecursion, AllZip}
 use Rattle.outside.specs.Shelf.{IsTaken, SameBytes, NoNewImages, NoNewMoments}
 use Rattle.outside.specs.declared.disk.Disk.{Ghosts as DiskGhosts}
@@ -11,7 +12,7 @@ use Rattle.log_journal.specs.Records.{Recorded, IsJournal}
 use Rattle.log_journal.specs.declared.header.OpenError.TheVariants.{Memory}
 use Rattle.user_desk.specs.declared.standing.DeskError.{DeskError}
 use Rattle.user_desk.specs.declared.standing.DeskError.TheVariants.{Journal}
-use Rattle.standby_core.specs.Copies.{held_name}
+use Rattle.standby_core.specs.Copies.{copy_in, held_name}
 use Rattle.standby_core.specs.Lasting.{Lasts}
 use Rattle.standby_core.specs.declared.book.Held.{Held}
 use Rattle.standby_engine.specs.declared.opening.Given.{Given}
@@ -43,6 +44,17 @@ place_refusal (Refused journal disk why) = Some (Journal why)
 abbrev pub given_journal : {D : Type 0} → Given D → List ℕ
 given_journal given = string_bytes given.journal
 
+-- the disks of these come from where the shelf knows those under their names to come from
+abbrev pub AreOwn : {D : Type 0} → (D → List (List ℕ)) → (List ℕ → List (List ℕ)) → List (Given D)
+    → Type 0
+AreOwn origin known all = map origin (map (λ one. one.disk) all) ≡ map known (map given_journal all)
+
+-- so do those of these places
+abbrev pub PlacesOwn : {D : Type 0} {g : _} → (D → List (List ℕ)) → (List ℕ → List (List ℕ))
+    → List (Place D g) → Type 0
+PlacesOwn origin known places =
+    map origin (map place_disk places) ≡ map known (map place_journal places)
+
 -- the journals among places that were opened, in order
 abbrev pub journals_in : {D : Type 0} {g : _} → List (Place D g) → List (Held D g)
 journals_in [] = []
@@ -62,11 +74,12 @@ others_in (Opened journal held ∷ places) = others_in places
 others_in (Refused journal disk why ∷ places) =
     record { journal = journal; disk = disk } ∷ others_in places
 
--- A disk that was opened is a journal with these first records, and lasts so.
+-- A disk that was opened is a journal with these first records, and lasts so from then on.
 abbrev pub IsOpenedAs : {D : Type 0} {g : _} → DiskGhosts D → List ℕ → D → Place D g
     → List Recorded → Type 0
 IsOpenedAs Disk header taken (Opened journal held) first =
-    IsJournal header first (Disk.reads taken) × Lasts Disk.reads Disk.image header first held
+    IsJournal header first (Disk.reads taken)
+    × Lasts Disk header (disk_of held.journal) (disk_of held.journal) (copy_in Disk.reads held)
 IsOpenedAs Disk header taken (Refused journal disk why) first = Unit {0}
 
 -- no append of it failed yet, and the count is that of its records; or the refusal has its cause
@@ -94,6 +107,7 @@ module _ {D : Type 0} (told : Type 0) (Disk : DiskGhosts D) where
     pub held : told → disk (given_journal given) ≡ Some given.disk
     pub counted : count (given_journal given) ≡ Disk.faults given.disk
 
+  -- these disks are back, each under its name
   abbrev pub AreGiven : (List ℕ → Option D) → (List ℕ → ℕ) → List (Given D) → Type 0
   AreGiven disk count all = AllByRecursion (IsGiven disk count) all
 

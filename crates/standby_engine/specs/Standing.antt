@@ -1,32 +1,37 @@
 -- What a standby leaves of its users' journals.
-use Rattle.std.specs.Prelude.{◌≡◌, ◌≢◌, ◌⊎◌, ℕ, ◌+◌, Bool, true, List, [], ◌∷◌, ◌++◌, length}
-use Rattle.std.specs.Prelude.{Option, Some, None, Vec, false, string_bytes}
+use Rattle.std.specs.Prelude.{◌≡◌, ◌≢◌, ◌⊎◌, ℕ, ◌+◌, ◌≤◌, max, Bool, true, false, List, [], ◌∷◌}
+use Rattle.std.specs.Prelude.{◌++◌, length, Option, Some, None, Vec, string_bytes}
 use Rattle.std.specs.List.{list_any}
 use Rattle.std.specs.declared.alloc.Global.{Global}
 use Rattle.outside.specs.Faults.{Rose}
 use Rattle.outside.specs.Visits.{Visit}
 use Rattle.cqe_base.specs.declared.user.User.{User}
-use Rattle.desk_crew.specs.Shelved.{Journals, KeepsJournal, KeepsJournals}
+use Rattle.desk_crew.specs.Shelved.{Journals, KeepsJournal, KeepsJournals, StandsAllAlong}
 use Rattle.log_journal.specs.Opening.{IsRefused, header_bytes}
-use Rattle.log_journal.specs.Records.{Recorded, IsJournal}
+use Rattle.log_journal.specs.Records.{Recorded, IsJournal, needed_bytes}
 use Rattle.log_journal.specs.declared.header.Header.{Header}
 use Rattle.log_journal.specs.declared.header.OpenError.TheVariants.{Memory as Wanting}
 use Rattle.user_desk.specs.declared.standing.DeskError.{DeskError}
 use Rattle.user_desk.specs.declared.standing.DeskError.TheVariants.{Journal}
 use Rattle.standby_core.specs.Copies.{Copy}
-use Rattle.standby_core.specs.Lasting.{HasBeginning}
+use Rattle.standby_core.specs.Lasting.{HasCopied}
 use Rattle.standby_engine.specs.Served.{AreServed}
 use Rattle.standby_engine.specs.declared.run.CopyEnd.{CopyEnd}
 use Rattle.standby_engine.specs.declared.run.CopyEnd.TheVariants.{Done, LinksFault}
 use Rattle.standby_engine.specs.declared.serving.DoorEnd.{DoorEnd}
 use Rattle.standby_engine.specs.declared.serving.DoorEnd.TheVariants.{Ended, Limit, Failed}
 
+-- the bytes are a journal with this header whose first records are these
+abbrev pub HasBeginning : List ℕ → List Recorded → List ℕ → Type 0
+HasBeginning header first bytes = (more : List Recorded) × IsJournal header (first ++ more) bytes
+
 -- The journal of this name had these records, and whatever a crash leaves of it as the call ends
--- has them in front.
+-- has them in front, as whatever one could leave since it was opened.
 pub record GrowsJournal (header : List ℕ) (journals : Journals) (name : List ℕ) : Type 0 where
   pub first : List Recorded
   pub opened : IsJournal header first (journals.bytes name)
   pub leaves : (c : List ℕ) → journals.image name c → HasBeginning header first c
+  pub moments : StandsAllAlong journals name true (HasBeginning header first)
 
 -- it was opened and grew so, or it was refused for this reason and is as it was
 abbrev pub IsCopied : List ℕ → Journals → List ℕ → Option DeskError → Type 0
@@ -54,7 +59,9 @@ SomeFailed journals (user ∷ users) =
     ⊎ SomeFailed journals users
 
 -- The copy of a user's journal as the serving began, and as it was left. It began with the records
--- of the opening; and where no append to it failed, each crash leaves the records of the copy.
+-- of the opening, and each crash as the call ends leaves the records with which it was left. At
+-- each moment since it was opened each left those of the opening, and some first of those that
+-- came. Where no append to it failed, its journal has no more bytes than it had, or than it needs.
 pub record IsCopyOf (header : List ℕ) (journals : Journals) (name : List ℕ) (begun left : Copy) :
     Type 0 where
   pub named : begun.name ≡ name
@@ -62,8 +69,11 @@ pub record IsCopyOf (header : List ℕ) (journals : Journals) (name : List ℕ) 
   pub counted : begun.count ≡ length begun.records
   pub whole : begun.failed ≡ false
   pub still_named : left.name ≡ name
-  pub leaves : left.failed ≡ false
-      → (c : List ℕ) → journals.image name c → IsJournal header left.records c
+  pub leaves : (c : List ℕ) → journals.image name c
+      → HasCopied header (length left.records) left c
+  pub moments : StandsAllAlong journals name true (HasCopied header (length begun.records) left)
+  pub size : left.failed ≡ false → length (journals.reads name)
+      ≤ max (length (journals.bytes name)) (needed_bytes left.records)
 
 -- so it is with the journal of each user, in order, that wasn't refused
 abbrev pub AreCopiesOf : List ℕ → Journals → List User → List (Option DeskError) → List Copy

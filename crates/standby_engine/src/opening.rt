@@ -9,6 +9,7 @@ ghost use Rattle.log_journal.specs.Names.{journal_name};
 ghost use Rattle.log_journal.specs.Opening.{header_bytes, IsOnlyRead};
 ghost use Rattle.log_journal.specs.Records.{Recorded};
 ghost use Rattle.desk_crew.specs.Registered.{registered_journals, HaveOwnNames};
+ghost use Rattle.standby_engine.specs.Opened.{AreOwn, PlacesOwn};
 ghost use Rattle.standby_engine.specs.Opened.{place_journal, place_disk, place_refusal, HasMemory};
 ghost use Rattle.standby_engine.specs.Opened.{given_journal, IsOpenedAs, IsFreshOrRefused};
 ghost use Rattle.standby_engine.specs.Opened.{IsNamed, IsPlaceUnder, IsPlaceOf, ArePlacesOf};
@@ -101,6 +102,8 @@ pub(crate) fn open_journals<F: Shelf>(
         directory.now (F.disk shelf.old) (F.disk_faults shelf.old) users.now places.items) }
     ensures out { IfOk result
         (λ places. AreOut (map place_journal places.items) (F.is_out shelf.new)) }
+    ensures own { IfOk result
+        (λ places. PlacesOwn F.D.origin (F.lent shelf.new).origin places.items) }
     ensures counts { OnOk result (SameNames (F.disk_faults shelf.old) (F.disk_faults shelf.new)) }
     ensures refused_out { OnErr result (NoneOut (F.is_out shelf.new)) }
     ensures refused { F.tells
@@ -112,6 +115,7 @@ pub(crate) fn open_journals<F: Shelf>(
     ensures fell { NoneFell (F.disk_faults shelf.old) (F.disk_faults shelf.new) }
     ensures files { SameNames (F.file shelf.old) (F.file shelf.new) }
     ensures looked { F.looked shelf.new ≡ F.looked shelf.old }
+    ensures lent { F.lent shelf.new ≡ F.lent shelf.old }
     ensures later { F.faults shelf.old ≤ F.faults shelf.new }
     ensures cause { IsErrOf result NotOpened.Shelf
         → Rose (F.faults shelf.old) (F.faults shelf.new) }
@@ -147,6 +151,8 @@ fn open_one<F: Shelf>(
         ≡ false }
     ensures opened { IfOk result (IsPlaceOf F.tells F.D.Disk (header_bytes header.now)
         directory.now (F.disk shelf.old) (F.disk_faults shelf.old) user.now) }
+    ensures own { IfOk result (λ place. F.D.origin (place_disk place)
+        ≡ (F.lent shelf.old).origin (place_journal place)) }
     ensures out { OnOk result (F.is_out shelf.new
         (journal_name directory.now (string_bytes user.now.name)) ≡ true) }
     ensures others_out { SameOthers (journal_name directory.now (string_bytes user.now.name))
@@ -162,6 +168,7 @@ fn open_one<F: Shelf>(
         → OnErr result (AllStay F.D.Disk (F.disk shelf.old) (F.disk shelf.new)) }
     ensures files { SameNames (F.file shelf.old) (F.file shelf.new) }
     ensures looked { F.looked shelf.new ≡ F.looked shelf.old }
+    ensures lent { F.lent shelf.new ≡ F.lent shelf.old }
     ensures later { F.faults shelf.old ≤ F.faults shelf.new }
     ensures cause { IsErrOf result NotOpened.Shelf
         → Rose (F.faults shelf.old) (F.faults shelf.new) }
@@ -186,6 +193,8 @@ fn open_named<F: Shelf>(
     requires { F.is_out shelf.old (string_bytes journal) ≡ false }
     ensures opened { IfOk result (IsPlaceUnder F.tells F.D.Disk (header_bytes header.now)
         (F.disk shelf.old) (F.disk_faults shelf.old) (string_bytes journal) (string_bytes name)) }
+    ensures own { IfOk result (λ place. F.D.origin (place_disk place)
+        ≡ (F.lent shelf.old).origin (place_journal place)) }
     ensures out { OnOk result (F.is_out shelf.new (string_bytes journal) ≡ true) }
     ensures others_out { SameOthers (string_bytes journal) (F.is_out shelf.old)
         (F.is_out shelf.new) }
@@ -199,6 +208,7 @@ fn open_named<F: Shelf>(
         → OnErr result (AllStay F.D.Disk (F.disk shelf.old) (F.disk shelf.new)) }
     ensures files { SameNames (F.file shelf.old) (F.file shelf.new) }
     ensures looked { F.looked shelf.new ≡ F.looked shelf.old }
+    ensures lent { F.lent shelf.new ≡ F.lent shelf.old }
     ensures later { F.faults shelf.old ≤ F.faults shelf.new }
     ensures cause { IsErrOf result NotOpened.Shelf
         → Rose (F.faults shelf.old) (F.faults shelf.new) }
@@ -231,6 +241,7 @@ fn open_held<D: Disk>(
         × IsOpenedAs D.Disk (header_bytes header.now) disk result first }
     ensures sound { IsFreshOrRefused D.Disk (header_bytes header.now) disk result }
     ensures named { IsNamed result (string_bytes name) }
+    ensures origin { D.origin (place_disk result) ≡ D.origin disk }
     ensures only { IsOnlyRead (D.reads disk) (D.reads (place_disk result)) (D.image disk)
         (D.image (place_disk result)) (D.moment disk) (D.moment (place_disk result))
         (D.image_since disk) (D.image_since (place_disk result)) (D.faults disk)
@@ -254,6 +265,7 @@ fn open_held<D: Disk>(
 pub(crate) fn give_back<F: Shelf>(shelf: &mut F, all: Vec<Given<F::D>>)
     requires distinct { has_duplicate (map given_journal all.items) ≡ false }
     requires out { AllOut (map given_journal all.items) (F.is_out shelf.old) }
+    requires own { AreOwn F.D.origin (F.lent shelf.old).origin all.items }
     ensures back { AreGiven F.tells F.D.Disk (F.disk shelf.new) (F.disk_faults shelf.new)
         all.items }
     ensures inside { AllIn (map given_journal all.items) (F.is_out shelf.new) }
@@ -266,6 +278,7 @@ pub(crate) fn give_back<F: Shelf>(shelf: &mut F, all: Vec<Given<F::D>>)
     ensures faults { F.faults shelf.new ≡ F.faults shelf.old }
     ensures files { SameNames (F.file shelf.old) (F.file shelf.new) }
     ensures looked { F.looked shelf.new ≡ F.looked shelf.old }
+    ensures lent { F.lent shelf.new ≡ F.lent shelf.old }
 {
     let mut all = all;
     while let Some(given) = all.pop() {

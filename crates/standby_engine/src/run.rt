@@ -68,7 +68,8 @@ pub fn run_standby<R: Wait, F: Shelf, L: Links>(
     requires most { copying.sessions ≤ 2 ^ 30 }
 
     // Each connection that was given is served, in order, by the copies of the users' journals, and
-    // whatever a crash leaves of a journal that was opened has the records that it had.
+    // whatever a crash leaves of a journal that was opened has the records that it had, at each
+    // moment since then too.
     ensures serves { F.tells → L.tells → EndsCopying header.now
         (journals_on F.Shelf F.D.Disk directory.now shelf.old shelf.new) users.now
         (L.given links.old) (L.given links.new) (L.back links.old) (L.back links.new) result }
@@ -101,7 +102,12 @@ pub fn run_standby<R: Wait, F: Shelf, L: Links>(
     ensures other_counts { SameBeside (registered_journals directory.now users.now)
         (F.disk_faults shelf.old) (F.disk_faults shelf.new) }
     ensures out { L.out links.new ≡ L.out links.old }
-    ensures mirror { L.mirror links.new ≡ L.mirror links.old }
+
+    // It calls nobody by a dial.
+    ensures dialling { L.dialling links.new ≡ L.dialling links.old }
+    ensures exchanged { L.tells → L.exchanged links.new ≡ L.exchanged links.old }
+    ensures exchange_faults { SameNames (L.exchange_faults links.old)
+        (L.exchange_faults links.new) }
     ensures shelf_later { F.faults shelf.old ≤ F.faults shelf.new }
     ensures links_later { L.faults links.old ≤ L.faults links.new }
     ensures shelf_cause { result ≡ CopyEnd.ShelfFault

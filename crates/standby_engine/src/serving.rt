@@ -1,9 +1,8 @@
 //! The connections of a primary, one after the other.
 ghost use Rattle.std.specs.Prelude.{◌≡◌, ◌≤◌, ◌+◌, ℕ, List, map};
 ghost use Rattle.outside.specs.Faults.{Rose};
-ghost use Rattle.log_journal.specs.Records.{Recorded};
 ghost use Rattle.standby_core.specs.Books.{copies_in, held_in};
-ghost use Rattle.standby_core.specs.Copies.{held_name};
+ghost use Rattle.standby_core.specs.Copies.{held_name, held_origin};
 ghost use Rattle.standby_core.specs.Lasting.{AllLast, AllCounted};
 ghost use Rattle.standby_engine.specs.Served.{IsDoorServed};
 ghost use Rattle.standby_engine.specs.declared.serving.DoorEnd.{DoorEnd};
@@ -43,11 +42,13 @@ pub(crate) fn serve_door<R: Wait, D: Disk, O: Door>(
     ensures left { O.tells → O.left door.old + O.given door.old
         ≡ O.left door.new + O.given door.new }
     ensures failed { result ≡ DoorEnd.Failed → Rose (O.faults door.old) (O.faults door.new) }
-    ensures lasts { D.tells → (own : List ℕ) (firsts : List (List Recorded))
-        → AllLast D.reads D.image own firsts (held_in book.old)
-        → AllLast D.reads D.image own firsts (held_in book.new) }
+    ensures lasts { D.tells → (own : List ℕ) (disks : List D)
+        → AllLast D.Disk own disks (held_in book.old)
+        → AllLast D.Disk own disks (held_in book.new) }
     ensures names { map held_name (held_in book.new)
         ≡ map held_name (held_in book.old) }
+    ensures origins { map (held_origin D.origin) (held_in book.new)
+        ≡ map (held_origin D.origin) (held_in book.old) }
     ensures counted { (counts : List ℕ) → AllCounted D.faults counts (held_in book.old)
         → AllCounted D.faults counts (held_in book.new) }
 {

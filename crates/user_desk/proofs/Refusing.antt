@@ -77,12 +77,12 @@ no_true b isnt is = let e : false ≡ true = sym isnt ∙ is in cc
 module _ (schema : DatabaseSchema) (world : FactSet) (user : UserProfile) where
   -- the limits let an item through that was asked
   fits_asked : (before : History) (entry : AnsweredQuery) → KeepsSizesAt schema user before entry
-      → is_beyond schema world user before Asking entry.length entry.query ≡ false
+      → is_beyond schema user before Asking entry.length entry.query ≡ false
   fits_asked before entry sizes = ap (λ b. b || is_too_large schema user before entry.query) sizes.room ∙ sizes.small
 
   -- the limits let an item through, by what its call was made for
   fits_by : (before : History) (entry : AnsweredQuery) (mark : Mark) → KeepsSizesAt schema user before entry → entry.mark ≡ mark
-      → is_beyond schema world user before (purpose_by mark) entry.length entry.query ≡ false
+      → is_beyond schema user before (purpose_by mark) entry.length entry.query ≡ false
   fits_by before entry Yes sizes is = fits_asked before entry sizes
   fits_by before entry No sizes is = fits_asked before entry sizes
   fits_by before entry Refused sizes is = fits_asked before entry sizes
@@ -93,9 +93,9 @@ module _ (schema : DatabaseSchema) (world : FactSet) (user : UserProfile) where
 
   fits : (before : History) (text : Text) (entry : AnsweredQuery) (query : Formula) (mark : Mark) → KeepsSizesAt schema user before entry
       → entry.length ≡ length text → query ≡ entry.query → entry.mark ≡ mark
-      → is_beyond schema world user before (purpose_by mark) (length text) query ≡ false
+      → is_beyond schema user before (purpose_by mark) (length text) query ≡ false
   fits before text entry query mark sizes size same is =
-      (λ k. is_beyond schema world user before (purpose_by mark) (sym size k) (same k)) ∙ fits_by before entry mark sizes is
+      (λ k. is_beyond schema user before (purpose_by mark) (sym size k) (same k)) ∙ fits_by before entry mark sizes is
 
   -- the record of a lawful item isn't refused
   lawful : (before : History) (next : Recorded) (entry : AnsweredQuery) (why : DeskError) → entry_of schema next ≡ Some entry
@@ -108,7 +108,7 @@ module _ (schema : DatabaseSchema) (world : FactSet) (user : UserProfile) where
       let shows = entry_shows next.1 (mark_of next.0) (reading schema next.1) entry is in
       let same = same_ok (reading schema next.1) refused.1 entry.query refused.2 shows.reads in
       let marked = same_some (mark_of next.0) entry.mark refused.3 shows.marks refused.4 in
-      no_true (is_beyond schema world user before (purpose_by refused.3) (length next.1) refused.1)
+      no_true (is_beyond schema user before (purpose_by refused.3) (length next.1) refused.1)
       (fits before next.1 entry refused.1 refused.3 sizes shows.size same marked) refused.5
   lawful before next entry (Unlawful number stored computed) is legal sizes refused =
       let shows = entry_shows next.1 (mark_of next.0) (reading schema next.1) entry is in

@@ -96,7 +96,7 @@ no_secret_size kind place false false false false is = cc
 module _ (schema : DatabaseSchema) (world : FactSet) (user : UserProfile) (before : History) (kind : ℕ) (text : Text) where
   beyond_by : (purpose : Purpose) (sentence : Formula) (told : Run.Reply) → told ≡ reply_to schema world user before purpose (length text) sentence
       → entry_added text (Ok sentence) told ≡ None → (told ≡ unsafe_secret → ⊥)
-      → is_beyond schema world user before purpose (length text) sentence ≡ true
+      → is_beyond schema user before purpose (length text) sentence ≡ true
   beyond_by Asking query told is none fine =
       beyond text query told (is_full before (length text)) (is_too_large schema user before query) (mark_after schema world user before query) is none
   beyond_by Protecting secret told is none fine =

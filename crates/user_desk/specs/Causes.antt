@@ -27,6 +27,14 @@ use Rattle.user_desk.specs.declared.standing.DeskError.TheVariants.{NotAdmitted,
 use Rattle.user_desk.specs.declared.standing.Standing.{Standing}
 use Rattle.user_desk.specs.declared.standing.Standing.TheVariants.{Open, Closed, Sealed}
 
+-- whether the history is full for a text of this length, or its sentence too large for the view; or
+-- it is to be added, and is too large for a secret or finds no room
+abbrev pub is_beyond : DatabaseSchema → UserProfile → History → Purpose → ℕ → Formula → Bool
+is_beyond schema user before Asking size query =
+    is_full before size || is_too_large schema user before query
+is_beyond schema user before Protecting size secret = is_full before size
+    || (is_too_large_secret schema user before secret || has_all_secrets user before)
+
 module _ (schema : DatabaseSchema) (world : FactSet) (user : UserProfile) where
   -- the bytes open a desk with these entries: they stand for them, and they are a legal history
   -- within the limits, which is empty where the user isn't admitted
@@ -43,13 +51,6 @@ module _ (schema : DatabaseSchema) (world : FactSet) (user : UserProfile) where
     pub enough : least ≤ count
     pub opens : Opens header (take count entries) bytes
 
-  -- whether the history is full for a text of this length, or its sentence too large for the view;
-  -- or it is to be added, and is too large for a secret or finds no room
-  abbrev pub is_beyond : History → Purpose → ℕ → Formula → Bool
-  is_beyond before Asking size query = is_full before size || is_too_large schema user before query
-  is_beyond before Protecting size secret = is_full before size
-      || (is_too_large_secret schema user before secret || has_all_secrets user before)
-
   -- Behind these items a record is refused for this reason, and for none that stands before it: its
   -- text isn't a sentence; its text or its sentence is beyond the limits; it was asked, and the
   -- rule gives another mark than the stored one; or it was added, and isn't safe.
@@ -59,15 +60,15 @@ module _ (schema : DatabaseSchema) (world : FactSet) (user : UserProfile) where
   RefusesRecord before next (Size number) =
       (number ≡ length before) × (query : Formula) × (reading schema next.1 ≡ Ok query)
       × (mark : Mark) × (mark_of next.0 ≡ Some mark)
-      × (is_beyond before (purpose_by mark) (length next.1) query ≡ true)
+      × (is_beyond schema user before (purpose_by mark) (length next.1) query ≡ true)
   RefusesRecord before next (Unlawful number stored computed) =
       (number ≡ length before) × (query : Formula) × (reading schema next.1 ≡ Ok query)
-      × (is_beyond before Asking (length next.1) query ≡ false)
+      × (is_beyond schema user before Asking (length next.1) query ≡ false)
       × (mark_of next.0 ≡ Some stored) × (is_added stored ≡ false)
       × (computed ≡ mark_after schema world user before query) × (stored ≢ computed)
   RefusesRecord before next (Unsafe number) =
       (number ≡ length before) × (secret : Formula) × (reading schema next.1 ≡ Ok secret)
-      × (is_beyond before Protecting (length next.1) secret ≡ false)
+      × (is_beyond schema user before Protecting (length next.1) secret ≡ false)
       × (mark_of next.0 ≡ Some Protected) × (safe_after schema user before secret ≡ false)
   RefusesRecord before next why = ⊥
 

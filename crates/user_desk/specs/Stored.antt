@@ -33,12 +33,14 @@ module _ {D : Type 0} where
   abbrev pub HasRoomFor : Stored D → ℕ → Type 0
   HasRoomFor store size = size + 4 ≤ store.room
 
-module _ {D : Type 0} (moment : D → ℕ) (since : D → ℕ → List ℕ → Type 0) (faults : D → ℕ) where
+module _ {D : Type 0} (moment : D → ℕ) (since : D → ℕ → List ℕ → Type 0) (faults : D → ℕ)
+    (origin : D → List (List ℕ)) where
   -- Since the opening the clock has gone on, and the count of faults hasn't fallen; it rose where
-  -- an append failed, and without a journal the disk is as it was.
+  -- an append failed, and without a journal the disk is as it was. It comes from where it came.
   pub record GoesOn (store : Stored D) : Type 0 where
     pub time : Elapses (moment store.opened) (moment store.disk) (since store.opened)
         (since store.disk)
     pub count : faults store.opened ≤ faults store.disk
     pub cause : store.has_failed ≡ true → Rose (faults store.opened) (faults store.disk)
     pub idle : store.has_journal ≡ false → store.disk ≡ store.opened
+    pub comes : origin store.disk ≡ origin store.opened

@@ -161,6 +161,7 @@ impl<'w, D: Disk> Desk<'w, D> {
         ensures time { Elapses (D.moment (opening_disk self.now)) (D.moment (desk_disk self.now))
             (D.image_since (opening_disk self.now)) (D.image_since (desk_disk self.now)) }
         ensures count { D.faults (opening_disk self.now) ≤ D.faults (desk_disk self.now) }
+        ensures origin { D.origin (desk_disk self.now) ≡ D.origin (opening_disk self.now) }
         ensures cause { is_broken_desk self.now ≡ true
             → Rose (D.faults (opening_disk self.now)) (D.faults (desk_disk self.now)) }
     {

@@ -35,7 +35,7 @@ impl<D: Disk> Model for Store<D> {
     ghost view = { λ s. stored_in s.medium s.opened.value };
 
     ghost invariant = { λ s.
-        GoesOn D.moment D.image_since D.faults (stored_in s.medium s.opened.value) };
+        GoesOn D.moment D.image_since D.faults D.origin (stored_in s.medium s.opened.value) };
 }
 
 impl<D: Disk> Store<D> {
@@ -57,7 +57,7 @@ impl<D: Disk> Store<D> {
 
     /// What is known of the disk since the opening. It computes nothing.
     pub(crate) fn known(&self)
-        ensures { GoesOn D.moment D.image_since D.faults self.now }
+        ensures { GoesOn D.moment D.image_since D.faults D.origin self.now }
     {
         let _medium = &self.medium;
     }
@@ -99,6 +99,7 @@ impl<D: Disk> Store<D> {
         ensures whole { OnOk result (has_failed self.new ≡ false) }
         ensures failed { OnErr result (has_failed self.new ≡ true) }
         ensures count { D.faults (stored_disk self.old) ≤ D.faults (stored_disk self.new) }
+        ensures origin { D.origin (stored_disk self.new) ≡ D.origin (stored_disk self.old) }
         ensures cause { OnErr result
             (Rose (D.faults (stored_disk self.old)) (D.faults (stored_disk self.new))) }
         ensures opened { opened_disk self.new ≡ opened_disk self.old }

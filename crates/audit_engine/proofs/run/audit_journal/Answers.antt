@@ -1,7 +1,12 @@
-use Rattle.std.proofs.Common.{refl, subst, ◌∙◌}
+use Rattle.std.proofs.Common.{ap, sym, refl, subst, ◌∙◌}
 use Rattle.outside.proofs.Taken.{taken_reads, same_moments, given_moments}
-use Rattle.outside.specs.Shelf.{image_on}
+use Rattle.outside.specs.Shelf.{Lent, image_on}
 use Rattle.audit_engine.proofs.run.audit_journal.Goals as goal
+
+-- it is the disk that was taken
+pub give_disk-requires-clause-own : goal.give_disk-requires-clause-own
+give_disk-requires-clause-own g c =
+    c.audit_disk-disk.ensures.origin ∙ c.in-Ok.ensures.origin ∙ ap (λ (l : Lent). l.origin c.args.journal.now) (sym c.take_disk.ensures.lent)
 
 pub returns-in-Ok-clause-moments : goal.returns-in-Ok-clause-moments
 returns-in-Ok-clause-moments g c = λ told.

@@ -6,7 +6,7 @@ use Rattle.outside.proofs.Rises.{rose_wide}
 use Rattle.cqe_base.specs.Schema.{has_duplicate}
 use Rattle.log_journal.specs.Opening.{header_bytes}
 use Rattle.outside.specs.Shelf.{SameBeside, AllOut, AllIn}
-use Rattle.desk_crew.specs.Shelved.{journals, AreLater}
+use Rattle.desk_crew.specs.Shelved.{journals, AreLater, AreOwn}
 use Rattle.desk_crew.proofs.Giving.{CanGive}
 use Rattle.desk_crew.proofs.Taking.{length-journals}
 use Rattle.batch_engine.specs.BatchLines.{restarted}
@@ -123,6 +123,11 @@ restart-requires-clause-later g c κs within =
     (stay g (goal.at.restart-requires-clause-later g c).After-says_broken-says_broken).later (g.F.Shelf.disk_faults c.loop-asks.shelf)
     (subst (λ s. AreLater g.F.D.Disk.faults (g.F.Shelf.disk_faults s) c.args.seats.items) (sym c.loop-asks.invariant.same) c.requires.later)
 
+pub restart-requires-clause-own : goal.restart-requires-clause-own
+restart-requires-clause-own g c κs within =
+    (stay g (goal.at.restart-requires-clause-own g c).After-says_broken-says_broken).own (g.F.Shelf.lent c.loop-asks.shelf).origin
+    (subst (λ s. AreOwn g.F.D.Disk.origin (g.F.Shelf.lent s).origin c.args.seats.items) (sym c.loop-asks.invariant.same) c.requires.own)
+
 -- it went on
 pub loop-asks-preserved : goal.loop-asks-preserved
 loop-asks-preserved g c =
@@ -234,6 +239,13 @@ give_back-requires-clause-out g c = (err_can g (goal.at.give_back-requires-claus
 
 pub give_back-requires-clause-later : goal.give_back-requires-clause-later
 give_back-requires-clause-later g c = (err_can g (goal.at.give_back-requires-clause-later g c).In-Err).later
+
+pub give_back-requires-clause-own : goal.give_back-requires-clause-own
+give_back-requires-clause-own g c =
+    let stay = stay_run _ _ _ _ _ _ _ _ _ c.loop-asks.invariant.so_far.runs in
+    subst (AreOwn g.F.D.Disk.origin (g.F.Shelf.lent c.loop-asks.shelf).origin) (sym (ap (λ v. v.items) c.in-Err.ensures.refused))
+    (stay.own (g.F.Shelf.lent c.loop-asks.shelf).origin
+    (subst (λ s. AreOwn g.F.D.Disk.origin (g.F.Shelf.lent s).origin c.args.seats.items) (sym c.loop-asks.invariant.same) c.requires.own))
 
 -- the items of the batch: those of the stretches so far, and the others
 items_left : (g : Over) (c : In-Err g)
@@ -431,6 +443,11 @@ give_back-requires-2-clause-out g c = (last_can g (goal.at.give_back-requires-2-
 pub give_back-requires-2-clause-later : goal.give_back-requires-2-clause-later
 give_back-requires-2-clause-later g c = (last_can g (goal.at.give_back-requires-2-clause-later g c).After-says_broken-says_broken-2).later
 
+pub give_back-requires-2-clause-own : goal.give_back-requires-2-clause-own
+give_back-requires-2-clause-own g c =
+    (last_stay g (goal.at.give_back-requires-2-clause-own g c).After-says_broken-says_broken-2).own (g.F.Shelf.lent c.loop-asks.shelf).origin
+    (subst (λ s. AreOwn g.F.D.Disk.origin (g.F.Shelf.lent s).origin c.args.seats.items) (sym c.loop-asks.invariant.same) c.requires.own)
+
 pub write_behind-requires-clause-closed : goal.write_behind-requires-clause-closed
 write_behind-requires-clause-closed g c κs within =
     subst (λ ns. AllIn ns (g.F.Shelf.is_out c.give_back-2.new.shelf))
@@ -625,6 +642,13 @@ give_back-requires-in-Err-answer_stretch-clause-out g c =
 pub give_back-requires-in-Err-answer_stretch-clause-later : goal.give_back-requires-in-Err-answer_stretch-clause-later
 give_back-requires-in-Err-answer_stretch-clause-later g c =
     (last_err_can g (goal.at.give_back-requires-in-Err-answer_stretch-clause-later g c).In-Err-answer_stretch).later
+
+pub give_back-requires-in-Err-answer_stretch-clause-own : goal.give_back-requires-in-Err-answer_stretch-clause-own
+give_back-requires-in-Err-answer_stretch-clause-own g c =
+    let stay = stay_run _ _ _ _ _ _ _ _ _ c.loop-asks.invariant.so_far.runs in
+    subst (AreOwn g.F.D.Disk.origin (g.F.Shelf.lent c.loop-asks.shelf).origin) (sym (ap (λ v. v.items) c.in-Err-answer_stretch.ensures.refused))
+    (stay.own (g.F.Shelf.lent c.loop-asks.shelf).origin
+    (subst (λ s. AreOwn g.F.D.Disk.origin (g.F.Shelf.lent s).origin c.args.seats.items) (sym c.loop-asks.invariant.same) c.requires.own))
 
 pub returns-in-Err-answer_stretch-clause-answered : goal.returns-in-Err-answer_stretch-clause-answered
 returns-in-Err-answer_stretch-clause-answered g c = (

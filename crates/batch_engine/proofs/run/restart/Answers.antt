@@ -5,8 +5,9 @@ use Rattle.log_journal.specs.Opening.{header_bytes}
 use Rattle.outside.specs.Shelf.{AllOut, AllIn, SameBeside}
 use Rattle.outside.specs.Streams.{AppendsPart}
 use Rattle.desk_crew.specs.Crew.{IsSeatAsOpened}
-use Rattle.desk_crew.specs.Shelved.{journals}
+use Rattle.desk_crew.specs.Shelved.{journals, AreOwn}
 use Rattle.desk_crew.proofs.Giving.{CanGive}
+use Rattle.desk_crew.proofs.Owning.{reopened_own}
 use Rattle.desk_crew.proofs.Reopening.{same_journals, later_reopened}
 use Rattle.std.specs.List.Sorted.{IsPermutation}
 use Rattle.std.proofs.lemmas.List.Elements.{recursion_from_All}
@@ -66,6 +67,13 @@ can g c =
           c.requires.later;
     })
 
+-- and their disks are those of their names
+own : (g : Over) (c : In-Some g) → AreOwn g.F.D.Disk.origin (g.F.Shelf.lent c.reopen_all.new.shelf).origin c.in-Some.seats.items
+own g c =
+    subst (λ s. AreOwn g.F.D.Disk.origin (g.F.Shelf.lent s).origin c.in-Some.seats.items) (sym c.in-Some.ensures.untouched)
+    (reopened_own g.F.D.Disk (g.F.Shelf.lent c.args.shelf.now).origin c.args.registry.now.schema.now c.args.registry.now.world.now
+    (header_bytes c.args.registry.now.header.now) c.args.seats.items c.in-Some.seats.items c.in-Some.ensures.reopened c.requires.own)
+
 -- ---- a write failed
 
 pub give_back-requires-clause-distinct : goal.give_back-requires-clause-distinct
@@ -76,6 +84,9 @@ give_back-requires-clause-out g c = (can g (goal.at.give_back-requires-clause-ou
 
 pub give_back-requires-clause-later : goal.give_back-requires-clause-later
 give_back-requires-clause-later g c = (can g (goal.at.give_back-requires-clause-later g c).In-Some).later
+
+pub give_back-requires-clause-own : goal.give_back-requires-clause-own
+give_back-requires-clause-own g c = own g (goal.at.give_back-requires-clause-own g c).In-Some
 
 pub returns-in-Part-write_again-clause-ended : goal.returns-in-Part-write_again-clause-ended
 returns-in-Part-write_again-clause-ended g c = λ lines numbered below moved. (
@@ -126,6 +137,9 @@ give_back-requires-in-Nothing-write_again-clause-out g c = (can g (goal.at.give_
 
 pub give_back-requires-in-Nothing-write_again-clause-later : goal.give_back-requires-in-Nothing-write_again-clause-later
 give_back-requires-in-Nothing-write_again-clause-later g c = (can g (goal.at.give_back-requires-in-Nothing-write_again-clause-later g c).In-Some).later
+
+pub give_back-requires-in-Nothing-write_again-clause-own : goal.give_back-requires-in-Nothing-write_again-clause-own
+give_back-requires-in-Nothing-write_again-clause-own g c = own g (goal.at.give_back-requires-in-Nothing-write_again-clause-own g c).In-Some
 
 pub returns-in-Nothing-write_again-clause-ended : goal.returns-in-Nothing-write_again-clause-ended
 returns-in-Nothing-write_again-clause-ended g c = λ lines numbered below moved. (

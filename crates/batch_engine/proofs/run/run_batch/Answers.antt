@@ -135,6 +135,9 @@ answer_all-requires-clause-distinct g c κs within = (seated g (goal.at.answer_a
 pub answer_all-requires-clause-later : goal.answer_all-requires-clause-later
 answer_all-requires-clause-later g c κs within = (seated g (goal.at.answer_all-requires-clause-later g c).In-Ok-open_all).later
 
+pub answer_all-requires-clause-own : goal.answer_all-requires-clause-own
+answer_all-requires-clause-own g c κs within = c.in-Ok-open_all.ensures.own
+
 pub answer_all-requires-clause-names : goal.answer_all-requires-clause-names
 answer_all-requires-clause-names g c κs within =
     ap has_duplicate (named_so c.args.registry.now.directory.now c.args.registry.now.schema.now c.args.registry.now.world.now

@@ -20,7 +20,8 @@ use Rattle.cqe_top.specs.declared.over_files.Task.TheVariants.{Init, Batch, OfUs
 use Rattle.cqe_top.specs.declared.copied.CopiedTask.{CopiedTask}
 use Rattle.cqe_top.specs.declared.copied.CopiedTask.TheVariants as copied
 use Rattle.cqe_top.proofs.Causes.{case_cause, selfrun_cause, has_cause, plainly}
-use Rattle.cqe_top.proofs.Good.{case_succeeds, selfrun_succeeds, nothing_begun}
+use Rattle.cqe_top.proofs.Good.{case_succeeds, selfrun_succeeds, nothing_begun, nobody_called}
+use Rattle.cqe_top.proofs.Dialling.{counted_same, counted_over}
 use Rattle.cqe_top.proofs.Numbers.{Keeps, kept}
 use Rattle.cqe_top.proofs.command.run.Goals as goal
 
@@ -92,10 +93,11 @@ always_of Shelf Disk Source Sink Links shelf source source' sink sink' links ins
   held = held;
   left = left;
   doors = refl;
+  dials = refl;
   input_faults = input;
   output_faults = output;
   links_faults = omega arith;
-  mirror_faults = omega arith;
+  exchange_faults = λ name. omega arith;
 }
 
 pub returns-in-Ok-None : goal.returns-in-Ok-None
@@ -108,7 +110,7 @@ returns-in-Ok-None g c =
       command = (
         None,
         sym c.in-Ok-None.ensures ∙ ap (option_map reading_in) c.in-Ok-None.field-0-is,
-        plainly scene None ends.Usage (record { shelf = refl; input = refl; output = refl; links = refl }) (has_cause scene ends.Usage tt) always,
+        plainly scene None ends.Usage refl (record { shelf = refl; input = refl; output = refl; links = refl }) (has_cause scene ends.Usage tt) always,
       );
     }
 
@@ -123,7 +125,8 @@ returns-in-Err g c =
       command = (
         read,
         refl,
-        plainly scene read ends.Memory (nothing_begun scene (record { shelf = refl; input = refl; output = refl; links = refl }) read)
+        plainly scene read ends.Memory (counted_same scene read (λ name. refl))
+            (nothing_begun scene (record { shelf = refl; input = refl; output = refl; links = refl }) (nobody_called g.L.Links c.args.links.now) read)
             (has_cause scene ends.Memory tt) always,
       );
     }
@@ -142,7 +145,7 @@ returns-in-Case g c =
       command = (
         Some runs_case,
         sym c.in-Ok-Some.ensures ∙ ap (option_map reading_in) c.in-Ok-Some.field-0-is ∙ ap Some (sym c.in-Case.ensures),
-        plainly scene (Some runs_case) (ends.Case end) (record { ends = runs; succeeds = case_succeeds scene end runs cause }) cause always,
+        plainly scene (Some runs_case) (ends.Case end) refl (record { ends = runs; succeeds = case_succeeds scene end runs cause }) cause always,
       );
     }
 
@@ -163,7 +166,7 @@ returns-in-Selfrun g c =
       command = (
         Some read,
         sym c.in-Ok-Some.ensures ∙ ap (option_map reading_in) c.in-Ok-Some.field-0-is ∙ ap Some (sym c.in-Selfrun.ensures),
-        plainly scene (Some read) (ends.Selfrun end) (record { ends = runs; succeeds = selfrun_succeeds scene end cause }) cause always,
+        plainly scene (Some read) (ends.Selfrun end) refl (record { ends = runs; succeeds = selfrun_succeeds scene end cause }) cause always,
       );
     }
 
@@ -178,7 +181,8 @@ returns-in-OverFiles g c =
       command = (
         read,
         sym c.in-Ok-Some.ensures ∙ ap (option_map reading_in) c.in-Ok-Some.field-0-is ∙ ap Some (sym c.in-OverFiles.ensures),
-        plainly scene read c.run_over_files.result ran.command ran.cause ran.always,
+        plainly scene read c.run_over_files.result (counted_over scene (names_of_files c.in-OverFiles.files) c.in-OverFiles.task) ran.command ran.cause
+            ran.always,
       );
     }
 

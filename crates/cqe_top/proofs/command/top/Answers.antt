@@ -1,11 +1,11 @@
-use Rattle.std.proofs.Common.{ℕ, List, sym, ap, subst, ◌∙◌}
-use Rattle.std.specs.Prelude.{Option, Some, None}
+use Rattle.std.proofs.Common.{Bool, true, false, sym, ap, subst, ◌∙◌}
+use Rattle.std.specs.Prelude.{Option}
 use Rattle.command_words.specs.Readings.{Reading}
 use Rattle.outside.specs.Faults.{Rose}
 use Rattle.outside.specs.Shelf.{NoneOut}
 use Rattle.outside.specs.Streams.{AppendsUnless}
 use Rattle.cqe_top.specs.Complaints.{complaint_of}
-use Rattle.cqe_top.specs.Copied.{counted_with}
+use Rattle.cqe_top.specs.Copied.{has_standby, counted_by}
 use Rattle.cqe_top.specs.Promise.{Does}
 use Rattle.cqe_top.specs.Reports.{status_of}
 use Rattle.cqe_top.specs.declared.end.CommandEnd.{CommandEnd}
@@ -14,11 +14,11 @@ use Rattle.cqe_top.proofs.command.top.Goals as goal
 
 -- exchanges that are counted as faults of disks take none of them out
 left_inside : (s : Scene) (read : Option Reading) (end : CommandEnd) → Does s read end → NoneOut s.shelf.is_out'
-left_inside s read end does = by does.exchanges does.always.shelf.inside
+left_inside s read end does = by (has_standby read) does.always.shelf.inside
   where
-    by : (exchanges : Option (List ℕ → ℕ)) → NoneOut (counted_with s exchanges).shelf.is_out' → NoneOut s.shelf.is_out'
-    by None none = none
-    by (Some failed) none = none
+    by : (b : Bool) → NoneOut (counted_by s b).shelf.is_out' → NoneOut s.shelf.is_out'
+    by false none = none
+    by true none = none
 
 pub returns : goal.returns
 returns g c = record {

@@ -1,12 +1,14 @@
-use Rattle.std.proofs.Common.{◌≡◌, ◌≤◌, ◌+◌, sym, ap, subst, ◌∙◌, map, rules}
+use Rattle.std.proofs.Common.{◌≡◌, ◌≤◌, ◌+◌, sym, ap, subst, ◌∙◌, length, map, rules}
 use Rattle.outside.specs.Faults.{Rose}
-use Rattle.outside.specs.Shelf.{SameNames, SameBeside, NoneOut, NoneFell, SomeRose}
+use Rattle.outside.specs.Shelf.{SameNames, SameBeside, NoneOut, NoneFell, SomeRose, Lent}
 use Rattle.batch_engine.specs.Batch as batch
 use Rattle.desk_crew.specs.Crew.{named_user}
 use Rattle.desk_crew.specs.Registered.{registered_journals}
 use Rattle.log_journal.specs.Opening.{header_bytes}
 use Rattle.standby_core.specs.Places.{faults_in}
-use Rattle.standby_core.specs.Slots.{slots_of, place_at, dial_faults}
+use Rattle.standby_core.specs.MirrorSets.{slots_of, dial_faults}
+use Rattle.standby_core.specs.Slots.{place_at, slot_texts, there_among}
+use Rattle.standby_core.proofs.There.{all_there}
 use Rattle.cqe_top.specs.Steps.{copied_counts, copied_journals}
 use Rattle.cqe_top.proofs.Copying.{same_copied, disks_under, counts_under, all_counts_under, some_rose_under, none_fell_under}
 use Rattle.cqe_top.proofs.Copying.{shelf_back, mirrors_back, lent_one, lent_two}
@@ -153,3 +155,20 @@ returns-clause-unopened g c is =
           (ap slots_of c.new-mirrored.ensures.mirrors) c.requires.fresh
           (λ name. (λ i. g.F.Shelf.disk_faults (same i).shelf.now name + faults_in g.C.Dial.faults (place_at (slots_of (same i).mirrors.now) name)))),
     )
+
+-- ---- the mirrors
+
+pub returns-clause-made : goal.returns-clause-made
+returns-clause-made g c =
+    subst (λ mirrors. map (slot_texts g.C.Dial.name g.C.Dial.address) (slots_of mirrors)
+    ≡ map (slot_texts g.C.Dial.name g.C.Dial.address) (slots_of c.args.mirrors.now))
+    (sym (mirrors_back c.mirrors-1.given.0 c.run_batch.new.shelf.mirrors.now _ _ c.run_batch.ensures.lent (search rules)))
+    (ap (λ (l : Lent). l.origins) c.run_batch.ensures.lent
+    ∙ ap (λ mirrors. map (slot_texts g.C.Dial.name g.C.Dial.address) (slots_of mirrors)) c.new-mirrored.ensures.mirrors)
+
+pub returns-clause-all_there : goal.returns-clause-all_there
+returns-clause-all_there g c =
+    subst (λ mirrors. there_among (slots_of mirrors) ≡ length (slots_of mirrors))
+    (sym (mirrors_back c.mirrors-1.given.0 c.run_batch.new.shelf.mirrors.now _ _ c.run_batch.ensures.lent (search rules)))
+    (all_there (slots_of c.run_batch.new.shelf.mirrors.now) c.run_batch.new.shelf.mirrors.now.distinct
+    (λ name. c.run_batch.new.shelf.back name (c.run_batch.ensures.inside name)))

@@ -1,15 +1,17 @@
-use Rattle.std.proofs.Common.{◌≡◌, ◌⊎◌, ◌≤◌, ◌++◌, ◌∷◌, [], ℕ, Some, inr, refl, sym, ap, subst, ◌∙◌, map, sum_by, arith}
+use Rattle.std.proofs.Common.{◌≡◌, ◌⊎◌, ◌≤◌, ◌++◌, ◌∷◌, [], ℕ, ◌+◌, Some, inr, refl, sym, ap, subst, ◌∙◌, map, arith}
+use Rattle.std.specs.Prelude.{string_bytes}
 use Rattle.outside.proofs.Rises.{rose_since}
 use Rattle.cqe_base.specs.Schema.{Text, has_duplicate}
 use Rattle.command_words.specs.Readings.{names_of_files}
 use Rattle.desk_crew.specs.Crew.{named_user}
 use Rattle.log_journal.specs.Opening.{header_bytes}
-use Rattle.policy_files.specs.Memory.{policy_value_of}
-use Rattle.standby_core.specs.Slots.{dial_faults, RisesAtLeast}
+use Rattle.policy_files.specs.Memory.{policy_value_of, policy_user_of}
+use Rattle.standby_core.specs.MirrorSets.{slots_of, dial_faults}
+use Rattle.standby_core.proofs.There.{unused_there, all_hung_up, all_dialling}
 use Rattle.cqe_top.specs.Batch.{RunsBatch}
 use Rattle.serve_engine.specs.Serving as serving
 use Rattle.outside.specs.Visits.{place_of}
-use Rattle.cqe_top.specs.Copied.{counted_with}
+use Rattle.cqe_top.specs.Copied.{with_failed, CallsStandby}
 use Rattle.cqe_top.specs.Files.{journals_of}
 use Rattle.cqe_top.specs.Promise.{Does}
 use Rattle.cqe_top.specs.Scene.{Scene, scene_of, shelf_of, input_of, output_of, links_of}
@@ -20,7 +22,8 @@ use Rattle.cqe_top.specs.declared.end.CommandEnd.TheVariants as ends
 use Rattle.cqe_top.specs.declared.end.FilesEnd.TheVariants as files_end
 use Rattle.cqe_top.proofs.Causes.{files_cause, batch_cause, serve_cause, plainly}
 use Rattle.cqe_top.proofs.Copying.{doors_kept, served_between, same_counted, touches_counted, some_rose_counted, none_fell_counted}
-use Rattle.cqe_top.proofs.Good.{unread_copied, doors_same, batch_succeeds}
+use Rattle.cqe_top.proofs.Dialling.{counted_same, counted, calls_from}
+use Rattle.cqe_top.proofs.Good.{unread_copied, doors_same, nobody_called, batch_succeeds}
 use Rattle.cqe_top.proofs.Over.{batch_left, batch_over, serve_left, serve_over}
 use Rattle.cqe_top.proofs.Serving.{serve_succeeds, served_out}
 use Rattle.cqe_top.proofs.Users.{batch_names_are}
@@ -38,6 +41,30 @@ copied_serve-end-requires-clause-names g c κs within =
     ap has_duplicate (ap (λ users. map (λ user. user.name) (map named_user users)) c.as_slice.ensures.value ∙ batch_names_are c.in-Ok.inputs.policy.users.items)
     ∙ c.in-Ok.ensures.names
 
+pub mirrors_for-requires-after_bounds : goal.mirrors_for-requires-after_bounds
+mirrors_for-requires-after_bounds g c κs within =
+    ap has_duplicate (ap (λ users. map (λ user. string_bytes user.name) users) c.as_slice.ensures.value) ∙ c.in-Ok.ensures.names
+
+pub copied_batch-end-requires-clause-there : goal.copied_batch-end-requires-clause-there
+copied_batch-end-requires-clause-there g c κs within =
+    unused_there g.L.Links.tells g.L.Dial.Dial.faults g.L.Dial.Dial.exchanged (slots_of c.in-Ok-mirrors_for.mirrors) c.in-Ok-mirrors_for.ensures.unused
+
+pub copied_serve-end-requires-clause-there : goal.copied_serve-end-requires-clause-there
+copied_serve-end-requires-clause-there g c κs within =
+    unused_there g.L.Links.tells g.L.Dial.Dial.faults g.L.Dial.Dial.exchanged (slots_of c.in-Ok-mirrors_for.mirrors) c.in-Ok-mirrors_for.ensures.unused
+
+pub hang_up_all-requires-after_bounds : goal.hang_up_all-requires-after_bounds
+hang_up_all-requires-after_bounds g c κs within =
+    all_dialling g.L.Dial.Dial.name g.L.Dial.Dial.address (slots_of c.in-Ok-mirrors_for.mirrors) (slots_of c.copied_batch-end.new.mirrors)
+    c.copied_batch-end.ensures.made (g.L.Links.dialling c.args.links.now) (g.L.Links.dialling c.mirrors_for.new.links) c.in-Ok-mirrors_for.ensures.dialling
+    c.copied_batch-end.ensures.all_there
+
+pub hang_up_all-requires-in-Serve-after_bounds : goal.hang_up_all-requires-in-Serve-after_bounds
+hang_up_all-requires-in-Serve-after_bounds g c κs within =
+    all_dialling g.L.Dial.Dial.name g.L.Dial.Dial.address (slots_of c.in-Ok-mirrors_for.mirrors) (slots_of c.copied_serve-end.new.mirrors)
+    c.copied_serve-end.ensures.made (g.L.Links.dialling c.args.links.now) (g.L.Links.dialling c.copied_serve-end.new.links)
+    (c.copied_serve-end.ensures.dialling ∙ c.in-Ok-mirrors_for.ensures.dialling) c.copied_serve-end.ensures.all_there
+
 -- ---- files that weren't read
 
 abbrev unread_scene : (g : Over) → In-Err g → Scene
@@ -51,9 +78,11 @@ returns-in-Err g c = record {
       let scene = unread_scene g c in
       let is = c.in-Err.ensures in
       let cause = files_cause scene c.in-Err.end is.cause in
-      plainly scene (Some (reading_copied (names_of_files c.args.files) c.args.task c.args.standby.now)) (ends.Files c.in-Err.end)
+      let reading = Some (reading_copied (names_of_files c.args.files) c.args.task c.args.standby.now) in
+      plainly scene reading (ends.Files c.in-Err.end) (counted_same scene reading (λ name. refl))
       (unread_copied scene (names_of_files c.args.files) c.args.task c.args.standby.now c.in-Err.end
-      (record { refused = is.refused; looks = is.looks; disks = (is.disks, is.counts) }) cause refl refl (doors_same g.L.Links c.args.links.now))
+      (record { refused = is.refused; looks = is.looks; disks = (is.disks, is.counts) }) cause refl refl (doors_same g.L.Links c.args.links.now)
+      (nobody_called g.L.Links c.args.links.now))
       cause
       (record {
         shelf = record {
@@ -65,10 +94,11 @@ returns-in-Err g c = record {
         held = refl;
         left = λ told bytes rest. rest;
         doors = refl;
+        dials = refl;
         input_faults = omega arith;
         output_faults = omega arith;
         links_faults = omega arith;
-        mirror_faults = omega arith;
+        exchange_faults = λ name. omega arith;
       });
 }
 
@@ -87,10 +117,12 @@ returns-in-Err-mirrors_for g c = record {
       let made = c.mirrors_for.ensures in
       let same = made.doors.faults in
       let cause = files_cause scene files_end.Memory (λ failed. absurd failed) in
-      plainly scene (Some (reading_copied (names_of_files c.args.files) c.args.task c.args.standby.now)) (ends.Files files_end.Memory)
+      let reading = Some (reading_copied (names_of_files c.args.files) c.args.task c.args.standby.now) in
+      plainly scene reading (ends.Files files_end.Memory) (counted_same scene reading made.calls.exchange_faults)
       (unread_copied scene (names_of_files c.args.files) c.args.task c.args.standby.now files_end.Memory
       (record { refused = λ told. tt; looks = is.looks; disks = (is.disks, is.counts) }) cause refl refl
-      (doors_kept g.L.Links c.args.links.now c.mirrors_for.new.links made.doors))
+      (doors_kept g.L.Links c.args.links.now c.mirrors_for.new.links made.doors)
+      (record { exchanged = made.calls.exchanged; exchange_faults = made.calls.exchange_faults }))
       cause
       (record {
         shelf = record {
@@ -102,10 +134,11 @@ returns-in-Err-mirrors_for g c = record {
         held = refl;
         left = λ told bytes rest. rest;
         doors = made.doors.out;
+        dials = c.in-Err-mirrors_for.ensures.none;
         input_faults = omega arith;
         output_faults = omega arith;
         links_faults = omega (arith, same);
-        mirror_faults = made.later;
+        exchange_faults = λ name. let kept = made.calls.exchange_faults name in omega (arith, kept);
       });
 }
 
@@ -129,7 +162,7 @@ returns-in-Batch g c = record {
       let files = names_of_files c.args.files in
       let inputs = c.in-Ok.inputs in
       let failed = batch_failed g c in
-      let scene = counted_with (batch_scene g c) (Some failed) in
+      let scene = with_failed (batch_scene g c) failed in
       let old = c.args.shelf.now in
       let mid = c.read_files.new.shelf in
       let new = c.copied_batch-end.new.shelf in
@@ -161,47 +194,58 @@ returns-in-Batch g c = record {
       } in
       let first = made.doors.faults in
       let last = hung.doors.faults in
-      let dialled = c.in-Ok-mirrors_for.ensures.mirror in
-      let rises = made.later in
-      let more = hung.later in
       let earlier = read.later in
       let later = ran.shelf_later in
-      let does : Does (batch_scene g c) (Some (reading_copied files (copied.Batch c.in-Batch.workers) c.args.standby.now))
-      (ends.Batch inputs.policy.users c.copied_batch-end.result) = record {
-        exchanges = Some failed;
-        counted = λ names distinct. subst (λ n. RisesAtLeast n (sum_by failed names) (g.L.Links.mirror c.hang_up_all.new.links)) dialled
-            (hung.mirror names distinct);
-        command = record {
-          ends = runs;
-          succeeds = batch_succeeds scene files inputs.policy.users c.copied_batch-end.result runs cause;
-          listens_nowhere = inr (record {
-            faults = last ∙ first;
-            out = hung.doors.out ∙ made.doors.out;
-            ended = hung.doors.ended ∙ made.doors.ended;
-            given = λ told. hung.doors.given told ∙ made.doors.given told;
-            left = λ told. hung.doors.left told ∙ made.doors.left told;
-            at_hand = λ told. hung.doors.at_hand told ∙ made.doors.at_hand told;
-            back = λ told. hung.doors.back told ∙ made.doors.back told;
-            listened = λ told. hung.doors.listened told ∙ made.doors.listened told;
-          });
+      let reading = Some (reading_copied files (copied.Batch c.in-Batch.workers) c.args.standby.now) in
+      let end = ends.Batch inputs.policy.users c.copied_batch-end.result in
+      let calls : CallsStandby scene files c.args.standby.now end = λ told links_told. (
+        policy_value_of inputs.policy,
+        inputs.world,
+        header_bytes inputs.header,
+        read.read told,
+        calls_from inputs.header c.args.standby.now files.directory (policy_value_of inputs.policy) c.as_slice.result.now
+            (ap (map policy_user_of) c.as_slice.ensures.value) scene.links inputs.world _ (g.L.Links.exchanged c.mirrors_for.new.links)
+            (ran.made ∙ c.in-Ok-mirrors_for.ensures.made) (made.calls.exchanged links_told) (hung.exchanged links_told),
+      ) in
+      let does : Does (batch_scene g c) reading end =
+      counted (batch_scene g c) reading end failed refl (λ name. hung.exchange_faults name ∙ ap (λ n. n + failed name) (made.calls.exchange_faults name))
+      (record {
+        ends = runs;
+        succeeds = batch_succeeds scene files inputs.policy.users c.copied_batch-end.result runs cause;
+        calls = calls;
+        listens_nowhere = inr (record {
+          faults = last ∙ first;
+          out = hung.doors.out ∙ made.doors.out;
+          ended = hung.doors.ended ∙ made.doors.ended;
+          given = λ told. hung.doors.given told ∙ made.doors.given told;
+          left = λ told. hung.doors.left told ∙ made.doors.left told;
+          at_hand = λ told. hung.doors.at_hand told ∙ made.doors.at_hand told;
+          back = λ told. hung.doors.back told ∙ made.doors.back told;
+          listened = λ told. hung.doors.listened told ∙ made.doors.listened told;
+        });
+      })
+      cause
+      (record {
+        shelf = record {
+          files = λ name. ran.files name ∙ read.files name;
+          inside = ran.inside;
+          disk_faults = none_fell_counted g.F.Shelf g.F.D.Disk old mid new read.disks read.counts failed files ran.counts;
+          faults = omega (arith, earlier, later);
         };
-        cause = cause;
-        always = record {
-          shelf = record {
-            files = λ name. ran.files name ∙ read.files name;
-            inside = ran.inside;
-            disk_faults = none_fell_counted g.F.Shelf g.F.D.Disk old mid new read.disks read.counts failed files ran.counts;
-            faults = omega (arith, earlier, later);
-          };
-          held = ran.held;
-          left = ran.left;
-          doors = hung.doors.out ∙ made.doors.out;
-          input_faults = ran.source_later;
-          output_faults = ran.sink_later;
-          links_faults = omega (arith, first, last);
-          mirror_faults = omega (arith, rises, more);
-        };
-      } in
+        held = ran.held;
+        left = ran.left;
+        doors = hung.doors.out ∙ made.doors.out;
+        dials = all_hung_up g.L.Dial.Dial.name g.L.Dial.Dial.address (slots_of c.in-Ok-mirrors_for.mirrors) (slots_of c.copied_batch-end.new.mirrors)
+            ran.made (g.L.Links.dialling c.args.links.now) (g.L.Links.dialling c.mirrors_for.new.links) (g.L.Links.dialling c.hang_up_all.new.links)
+            c.in-Ok-mirrors_for.ensures.dialling ran.all_there hung.dialling;
+        input_faults = ran.source_later;
+        output_faults = ran.sink_later;
+        links_faults = omega (arith, first, last);
+        exchange_faults = λ name.
+            let rose = hung.exchange_faults name in
+            let kept = made.calls.exchange_faults name in
+            omega (arith, rose, kept);
+      }) in
       subst (λ task. Does (batch_scene g c) (Some (reading_copied files task c.args.standby.now)) (ends.Batch inputs.policy.users c.copied_batch-end.result))
       (sym c.in-Batch.is) does;
 }
@@ -227,7 +271,7 @@ returns g c = record {
       let inputs = c.in-Ok.inputs in
       let listening = c.in-Serve.listening in
       let failed = serve_failed g c in
-      let scene = counted_with (serve_scene g c) (Some failed) in
+      let scene = with_failed (serve_scene g c) failed in
       let old = c.args.shelf.now in
       let mid = c.read_files.new.shelf in
       let new = c.copied_serve-end.new.shelf in
@@ -284,41 +328,53 @@ returns g c = record {
       let first = made.doors.faults in
       let last = hung.doors.faults in
       let between = ran.links_later in
-      let same = ran.mirror in
-      let dialled = c.in-Ok-mirrors_for.ensures.mirror in
-      let rises = made.later in
-      let more = hung.later in
       let earlier = read.later in
       let later = ran.shelf_later in
-      let does : Does (serve_scene g c) (Some (reading_copied files (copied.Serve listening) c.args.standby.now))
-      (ends.Serve inputs.policy.users c.copied_serve-end.result) = record {
-        exchanges = Some failed;
-        counted = λ names distinct. subst (λ n. RisesAtLeast n (sum_by failed names) (g.L.Links.mirror c.hang_up_all-in-Serve.new.links)) (same ∙ dialled)
-            (hung.mirror names distinct);
-        command = record {
-          ends = runs;
-          succeeds = serve_succeeds c.law_openings.ensures.unrefused scene files listening.address.now listening.workers listening.sessions
-              inputs.policy.users c.copied_serve-end.result runs cause;
-          reads_nothing = refl;
-          writes_nothing = refl;
+      let reading = Some (reading_copied files (copied.Serve listening) c.args.standby.now) in
+      let end = ends.Serve inputs.policy.users c.copied_serve-end.result in
+      let calls : CallsStandby scene files c.args.standby.now end = λ told links_told. (
+        policy_value_of inputs.policy,
+        inputs.world,
+        header_bytes inputs.header,
+        read.read told,
+        calls_from inputs.header c.args.standby.now files.directory (policy_value_of inputs.policy) c.as_slice.result.now
+            (ap (map policy_user_of) c.as_slice.ensures.value) scene.links inputs.world _ (g.L.Links.exchanged links)
+            (ran.made ∙ c.in-Ok-mirrors_for.ensures.made) (ran.exchanged links_told ∙ made.calls.exchanged links_told) (hung.exchanged links_told),
+      ) in
+      let does : Does (serve_scene g c) reading end =
+      counted (serve_scene g c) reading end failed refl
+      (λ name. hung.exchange_faults name ∙ ap (λ n. n + failed name) (ran.exchange_faults name ∙ made.calls.exchange_faults name))
+      (record {
+        ends = runs;
+        succeeds = serve_succeeds c.law_openings.ensures.unrefused scene files listening.address.now listening.workers listening.sessions
+            inputs.policy.users c.copied_serve-end.result runs cause;
+        reads_nothing = refl;
+        writes_nothing = refl;
+        calls = calls;
+      })
+      cause
+      (record {
+        shelf = record {
+          files = λ name. ran.files name ∙ read.files name;
+          inside = ran.inside;
+          disk_faults = none_fell_counted g.F.Shelf g.F.D.Disk old mid new read.disks read.counts failed files ran.counts;
+          faults = omega (arith, earlier, later);
         };
-        cause = cause;
-        always = record {
-          shelf = record {
-            files = λ name. ran.files name ∙ read.files name;
-            inside = ran.inside;
-            disk_faults = none_fell_counted g.F.Shelf g.F.D.Disk old mid new read.disks read.counts failed files ran.counts;
-            faults = omega (arith, earlier, later);
-          };
-          held = refl;
-          left = λ told bytes rest. rest;
-          doors = hung.doors.out ∙ ran.out ∙ made.doors.out;
-          input_faults = omega arith;
-          output_faults = omega arith;
-          links_faults = omega (arith, first, between, last);
-          mirror_faults = omega (arith, rises, same, more);
-        };
-      } in
+        held = refl;
+        left = λ told bytes rest. rest;
+        doors = hung.doors.out ∙ ran.out ∙ made.doors.out;
+        dials = all_hung_up g.L.Dial.Dial.name g.L.Dial.Dial.address (slots_of c.in-Ok-mirrors_for.mirrors) (slots_of c.copied_serve-end.new.mirrors)
+            ran.made (g.L.Links.dialling c.args.links.now) (g.L.Links.dialling links) (g.L.Links.dialling c.hang_up_all-in-Serve.new.links)
+            (ran.dialling ∙ c.in-Ok-mirrors_for.ensures.dialling) ran.all_there hung.dialling;
+        input_faults = omega arith;
+        output_faults = omega arith;
+        links_faults = omega (arith, first, between, last);
+        exchange_faults = λ name.
+            let rose = hung.exchange_faults name in
+            let same = ran.exchange_faults name in
+            let kept = made.calls.exchange_faults name in
+            omega (arith, rose, same, kept);
+      }) in
       subst (λ task. Does (serve_scene g c) (Some (reading_copied files task c.args.standby.now)) (ends.Serve inputs.policy.users c.copied_serve-end.result))
       (sym c.in-Serve.is) does;
 }

@@ -28,7 +28,8 @@ use Rattle.cqe_top.specs.declared.end.CommandEnd.TheVariants as ends
 use Rattle.cqe_top.specs.declared.over_files.Task.TheVariants.{OfUser}
 use Rattle.cqe_top.proofs.Causes.{files_cause, init_cause, batch_cause, audit_cause, dossier_cause, check_cause, migrate_cause, serve_cause, standby_cause}
 use Rattle.cqe_top.proofs.Finding.{is_named, one_named, named_at, nobody_named}
-use Rattle.cqe_top.proofs.Good.{unread, init_succeeds, batch_succeeds, audit_succeeds, dossier_succeeds, check_succeeds, migrate_succeeds, nobody_there}
+use Rattle.cqe_top.proofs.Good.{unread, nobody_called, init_succeeds, batch_succeeds, audit_succeeds, dossier_succeeds, check_succeeds, migrate_succeeds}
+use Rattle.cqe_top.proofs.Good.{nobody_there}
 use Rattle.cqe_top.proofs.Over.{serve_over, init_caused, some_rose, same_journals, touches_over, init_over, others_over, bytes_over, images_over, batch_over}
 use Rattle.cqe_top.proofs.Over.{batch_left, serve_left, one_of, silent_end, silent_dossier, counts_over, counted_over, moments_over}
 use Rattle.cqe_top.proofs.Over.{copies_left, copies_served, durable_over, migrate_over, migrate_caused, counts_both, at_one_of}
@@ -70,7 +71,7 @@ pub returns-in-Err-clause-command : goal.returns-in-Err-clause-command
 returns-in-Err-clause-command g c =
     unread (unread_scene g c) (names_of_files c.args.files) c.args.task c.in-Err.end
     (record { refused = c.in-Err.ensures.refused; looks = c.in-Err.ensures.looks; disks = (c.in-Err.ensures.disks, c.in-Err.ensures.counts) })
-    (returns-in-Err-clause-cause g c) refl refl refl
+    (returns-in-Err-clause-cause g c) refl refl refl (nobody_called g.L.Links c.args.links.now)
 
 -- ---- the making of journals
 
@@ -537,6 +538,7 @@ returns-in-Serve-clause-command g c =
           c.run_serve-end.result runs (returns-in-Serve-clause-cause g c);
       reads_nothing = refl;
       writes_nothing = refl;
+      calls_nobody = record { exchanged = ran.exchanged; exchange_faults = ran.exchange_faults };
     } in
     subst (λ task. OfReading scene (Some (reading_over files task)) (ends.Serve inputs.policy.users c.run_serve-end.result)) (sym c.in-Serve.is) does
 
@@ -608,5 +610,6 @@ returns-clause-command g c =
           (returns-clause-cause g c);
       reads_nothing = refl;
       writes_nothing = refl;
+      calls_nobody = record { exchanged = ran.exchanged; exchange_faults = ran.exchange_faults };
     } in
     subst (λ task. OfReading scene (Some (reading_over files task)) (ends.Standby inputs.policy.users c.run_standby-end.result)) (sym c.in-Standby.is) does

@@ -1,9 +1,10 @@
-use Rattle.std.proofs.Common.{refl, ap, ◌∙◌, ◌++◌, arith}
+use Rattle.std.proofs.Common.{◌≡◌, refl, sym, ap, ◌∙◌, ◌++◌, ◌∷◌, [], append_assoc, arith}
 use Rattle.std.specs.Prelude.{option_to_list}
+use Rattle.outside.specs.Shelf.{Lent}
 use Rattle.desk_crew.specs.Crew.{seat_journal, seat_disk}
 use Rattle.desk_crew.specs.Seats.{DeskSeat}
 use Rattle.desk_crew.specs.Shelved.{IsBack}
-use Rattle.desk_crew.proofs.Shelving.{given_none, given_out, given_more, back_moves, back_closed, broke_none, broke_all, broke_more}
+use Rattle.desk_crew.proofs.Shelving.{given_none, given_out, given_more, all_second, back_moves, back_closed, broke_none, broke_all, broke_more}
 use Rattle.desk_crew.proofs.crew.give_back.Goals as goal
 
 pub loop-seat-init : goal.loop-seat-init
@@ -16,12 +17,24 @@ loop-seat-init g c = record {
   broke = broke_none c.args.seats.items;
 }
 
-pub give_disk-requires : goal.give_disk-requires
-give_disk-requires g c =
+pub give_disk-requires-clause-out : goal.give_disk-requires-clause-out
+give_disk-requires-clause-out g c =
     let split = c.pop.ensures.items ∙ ap (λ o. c.pop.new.self.items ++ option_to_list o) c.in-Some.is in
     ap (g.F.Shelf.is_out c.loop-seat.shelf) c.as_str.ensures.value
     ∙ given_out seat_journal (IsBack g.F.Shelf.tells g.F.D.Disk) _ _ _ _ (λ (s : DeskSeat _ _ _). g.F.D.Disk.faults (seat_disk s)) c.requires.distinct
     c.requires.out c.requires.later c.pop.new.self.items c.loop-seat.seats.items c.in-Some.seat _ _ _ split c.loop-seat.invariant.so_far
+
+-- the disk of a desk that is closed is that of its journal's name
+pub give_disk-requires-clause-own : goal.give_disk-requires-clause-own
+give_disk-requires-clause-own g c =
+    let split = c.pop.ensures.items ∙ ap (λ o. c.pop.new.self.items ++ option_to_list o) c.in-Some.is in
+    let given = c.loop-seat.invariant.so_far.given in
+    let known = (g.F.Shelf.lent c.args.shelf.now).origin in
+    let own = all_second (λ (s : DeskSeat _ _ _). g.F.D.Disk.origin (seat_disk s) ≡ known (seat_journal s)) c.pop.new.self.items c.in-Some.seat given
+    c.args.seats.items
+    (c.loop-seat.invariant.so_far.split ∙ ap (λ l. l ++ given) split ∙ append_assoc c.pop.new.self.items (c.in-Some.seat ∷ []) given) c.requires.own in
+    c.close_desk-disk.ensures.closed.comes ∙ own ∙ ap known (sym c.as_str.ensures.value)
+    ∙ ap (λ (l : Lent). l.origin c.as_str.result.now) (sym c.loop-seat.invariant.lent)
 
 pub loop-seat-preserved : goal.loop-seat-preserved
 loop-seat-preserved g c =

@@ -3,12 +3,14 @@ use Rattle.std.specs.Prelude.{Err}
 use Rattle.std.proofs.lemmas.List.{take_all}
 use Rattle.outside.proofs.Rises.{rose_wide}
 use Rattle.outside.proofs.Taken.{same_moments}
-use Rattle.outside.specs.Shelf.{is_among, AreOut}
+use Rattle.outside.specs.Shelf.{Lent, is_among, AreOut}
 use Rattle.log_journal.specs.Opening.{header_bytes}
 use Rattle.desk_crew.specs.Registered.{registered_journals}
-use Rattle.desk_crew.specs.Shelved.{journals}
+use Rattle.desk_crew.specs.Shelved.{journals, AreOwn}
+use Rattle.desk_crew.specs.Side.{IsOwn, OpeningsOwn}
 use Rattle.desk_crew.specs.declared.crew.NotOpened.TheVariants.{Shelf}
 use Rattle.desk_crew.proofs.Giving.{CanPutBack, AreUnopened}
+use Rattle.desk_crew.proofs.Owning.{all_more, seated_own}
 use Rattle.desk_crew.proofs.Taking.{Taken, taken_none, taken_still, taken_can, taken_placed, taken_beside, taken_back, next_in, taken_more}
 use Rattle.desk_crew.proofs.Taking.{taken_many, taken_ready, seated_all, seated_names}
 use Rattle.desk_crew.proofs.crew.open_all.Given.{Over}
@@ -63,6 +65,11 @@ return_all-requires-clause-out g c = (can g (goal.at.return_all-requires-clause-
 
 pub return_all-requires-clause-later : goal.return_all-requires-clause-later
 return_all-requires-clause-later g c = (can g (goal.at.return_all-requires-clause-later g c).In-Err).later
+
+pub return_all-requires-clause-own : goal.return_all-requires-clause-own
+return_all-requires-clause-own g c =
+    subst (λ (l : Lent). OpeningsOwn g.F.D.Disk.origin l.origin c.loop-user.openings.items)
+    (sym (c.take_one.ensures.lent ∙ c.loop-user.invariant.lent)) c.loop-user.invariant.own
 
 -- and then all disks are as they were
 left : (g : Over) (c : After-return_all g)
@@ -150,6 +157,9 @@ loop-user-preserved g c =
       count = omega (arith, count, grown);
       later = omega (arith, before, on);
       looked = c.take_one.ensures.looked ∙ so_far.looked;
+      own = subst (OpeningsOwn g.F.D.Disk.origin (g.F.Shelf.lent c.args.shelf.now).origin) (sym c.push_reserved.ensures.items)
+          (all_more (IsOwn g.F.D.Disk.origin (g.F.Shelf.lent c.args.shelf.now).origin) c.loop-user.openings.items c.in-Ok.opening so_far.own
+          (subst (λ (l : Lent). IsOwn g.F.D.Disk.origin l.origin c.in-Ok.opening) so_far.lent c.in-Ok.ensures.own));
       lent = c.take_one.ensures.lent ∙ so_far.lent;
       files = λ name. c.take_one.ensures.files name ∙ so_far.files name;
     }
@@ -167,6 +177,7 @@ loop-user-init g c =
       count = omega (arith, len, none);
       later = omega arith;
       looked = refl;
+      own = subst (OpeningsOwn g.F.D.Disk.origin (g.F.Shelf.lent c.args.shelf.now).origin) (sym c.in-Ok-Ok.ensures.empty) tt;
       lent = refl;
       files = λ name. refl;
     }
@@ -215,6 +226,10 @@ open_taken-requires-clause-later g c κs within =
     (g.F.Shelf.disk_faults c.args.shelf.now) c.law_journals_differ.ensures c.requires.distinct c.loop-user.invariant.taken
     (take_all c.loop-user.user-index c.args.registry.now.users.now (omega (arith, c.loop-user-test.false))) c.requires.limits).can.later
 
+pub open_taken-requires-clause-own : goal.open_taken-requires-clause-own
+open_taken-requires-clause-own g c κs within =
+    subst (λ (l : Lent). OpeningsOwn g.F.D.Disk.origin l.origin c.loop-user.openings.items) (sym c.loop-user.invariant.lent) c.loop-user.invariant.own
+
 pub open_taken-requires-clause-room : goal.open_taken-requires-clause-room
 open_taken-requires-clause-room g c κs within =
     let many = taken_many c.args.registry.now.schema.now c.args.registry.now.world.now (header_bytes c.args.registry.now.header.now)
@@ -230,6 +245,17 @@ returns-in-Some-clause-opened g c =
     c.args.registry.now.directory.now g.F.Shelf.tells g.F.D.Disk (g.F.Shelf.disk c.args.shelf.now)
     (g.F.Shelf.disk_faults c.args.shelf.now) c.law_journals_differ.ensures c.requires.distinct c.loop-user.invariant.taken
     (take_all c.loop-user.user-index c.args.registry.now.users.now (omega (arith, c.loop-user-test.false))) c.in-Some.seats.items c.in-Some.ensures.opened
+
+pub returns-in-Some-clause-own : goal.returns-in-Some-clause-own
+returns-in-Some-clause-own g c =
+    let ready = taken_ready c.args.registry.now.schema.now c.args.registry.now.world.now (header_bytes c.args.registry.now.header.now)
+    c.args.registry.now.directory.now g.F.Shelf.tells g.F.D.Disk (g.F.Shelf.disk c.args.shelf.now)
+    (g.F.Shelf.disk_faults c.args.shelf.now) c.law_journals_differ.ensures c.requires.distinct c.loop-user.invariant.taken
+    (take_all c.loop-user.user-index c.args.registry.now.users.now (omega (arith, c.loop-user-test.false))) c.requires.limits in
+    subst (λ (l : Lent). AreOwn g.F.D.Disk.origin l.origin c.in-Some.seats.items) (sym (c.open_taken.ensures.lent ∙ c.loop-user.invariant.lent))
+    (seated_own g.F.D.Disk (g.F.Shelf.lent c.args.shelf.now).origin c.args.registry.now.schema.now c.args.registry.now.world.now
+    (header_bytes c.args.registry.now.header.now) c.loop-user.openings.items c.in-Some.seats.items ready.closed c.in-Some.ensures.opened
+    c.loop-user.invariant.own)
 
 pub returns-in-Some-clause-out : goal.returns-in-Some-clause-out
 returns-in-Some-clause-out g c =

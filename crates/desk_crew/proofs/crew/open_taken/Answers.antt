@@ -4,8 +4,10 @@ use Rattle.outside.specs.Shelf.{AllOut}
 use Rattle.cqe_base.specs.Schema.{has_duplicate}
 use Rattle.log_journal.specs.Opening.{header_bytes}
 use Rattle.list_sums.proofs.Lent.{lent_whole}
-use Rattle.desk_crew.specs.Side.{DeskOpening, place_of, is_shut, HasPlace, opening_journals, OpeningsLater, KeepsOpening, IsKnown, IsTried, AreTried}
+use Rattle.desk_crew.specs.Side.{DeskOpening, place_of, is_shut, HasPlace, opening_journals}
+use Rattle.desk_crew.specs.Side.{OpeningsLater, OpeningsOwn, KeepsOpening, IsKnown, IsTried, AreTried}
 use Rattle.desk_crew.proofs.Giving.{CanPutBack, WerePutBack}
+use Rattle.desk_crew.proofs.Owning.{tried_own}
 use Rattle.desk_crew.proofs.Placing.{all_tried, all_placed, can_tried, returned_tried, seats_tried}
 use Rattle.desk_crew.proofs.crew.open_taken.Given.{Over}
 use Rattle.desk_crew.proofs.crew.open_taken.Goals as goal
@@ -72,6 +74,13 @@ pub return_all-requires-clause-later : goal.return_all-requires-clause-later
 return_all-requires-clause-later g c =
     let at = (goal.at.return_all-requires-clause-later g c).After-open_each in
     subst (OpeningsLater g.F.D.Disk.faults (g.F.Shelf.disk_faults c.args.shelf.now)) (sym (whole g at)) (can g at).later
+
+pub return_all-requires-clause-own : goal.return_all-requires-clause-own
+return_all-requires-clause-own g c =
+    let at = (goal.at.return_all-requires-clause-own g c).After-open_each in
+    subst (OpeningsOwn g.F.D.Disk.origin (g.F.Shelf.lent c.args.shelf.now).origin) (sym (whole g at))
+    (tried_own g.F.D.Disk (g.F.Shelf.lent c.args.shelf.now).origin c.args.registry.now.schema.now c.args.registry.now.world.now
+    (header_bytes c.args.registry.now.header.now) c.args.openings.items c.open_each.new.openings c.requires.closed (tried g at) c.requires.own)
 
 -- all disks are back
 returned : (g : Over) (c : After-drop-room g)

@@ -1,6 +1,7 @@
 use Rattle.std.proofs.Common.{arith}
 use Rattle.log_journal.specs.Opening.{header_bytes}
 use Rattle.desk_crew.proofs.Giving.{AreReady}
+use Rattle.desk_crew.proofs.Owning.{closed_own}
 use Rattle.desk_crew.proofs.Lasting.{if_some_on, if_none_on}
 use Rattle.desk_crew.proofs.Reopening.{all_reopened, many_closed, closed_ready, beside_closed, closed_back, inside_closed}
 use Rattle.desk_crew.proofs.crew.reopen_all.Given.{Over}
@@ -41,6 +42,11 @@ open_taken-requires-clause-out g c κs within = (ready g (goal.at.open_taken-req
 
 pub open_taken-requires-clause-later : goal.open_taken-requires-clause-later
 open_taken-requires-clause-later g c κs within = (ready g (goal.at.open_taken-requires-clause-later g c).After-close_all-openings).can.later
+
+pub open_taken-requires-clause-own : goal.open_taken-requires-clause-own
+open_taken-requires-clause-own g c κs within =
+    closed_own g.F.D.Disk (g.F.Shelf.lent c.args.shelf.now).origin c.args.seats.items c.close_all-openings.result.items c.close_all-openings.ensures
+    c.requires.own
 
 pub open_taken-requires-clause-room : goal.open_taken-requires-clause-room
 open_taken-requires-clause-room g c κs within =

@@ -1,6 +1,7 @@
 use Rattle.std.proofs.Common.{◌≡◌, sym, ap, subst, ◌∙◌}
 use Rattle.outside.specs.Shelf.{SameOthers}
-use Rattle.desk_crew.specs.Side.{opening_journal, place_journal, IsLeftFrom}
+use Rattle.desk_crew.specs.Side.{opening_journal, place_journal, place_origin, IsLeftFrom}
+use Rattle.desk_crew.proofs.Owning.{shut_origin}
 use Rattle.desk_crew.proofs.Placing.{shut_left}
 use Rattle.desk_crew.proofs.crew.return_one.Given.{Over}
 use Rattle.desk_crew.proofs.crew.return_one.Goals as goal
@@ -10,9 +11,15 @@ use Rattle.desk_crew.proofs.crew.return_one.Goals.{After-as_str}
 named : (g : Over) (c : After-as_str g) → c.as_str.result.now ≡ opening_journal c.args.opening
 named g c = c.as_str.ensures.value ∙ c.shut-closed.ensures.journal ∙ ap place_journal (sym c.unwrap-place.ensures)
 
-pub give_disk-requires : goal.give_disk-requires
-give_disk-requires g c =
-    ap (g.F.Shelf.is_out c.args.shelf.now) (named g (goal.at.give_disk-requires g c).After-as_str) ∙ c.requires.out
+pub give_disk-requires-clause-out : goal.give_disk-requires-clause-out
+give_disk-requires-clause-out g c =
+    ap (g.F.Shelf.is_out c.args.shelf.now) (named g (goal.at.give_disk-requires-clause-out g c).After-as_str) ∙ c.requires.out
+
+pub give_disk-requires-clause-own : goal.give_disk-requires-clause-own
+give_disk-requires-clause-own g c =
+    shut_origin g.F.D.Disk c.unwrap-place.result c.shut-closed.result.disk c.shut-closed.ensures.shut
+    ∙ ap (place_origin g.F.D.Disk.origin) (sym c.unwrap-place.ensures) ∙ c.requires.own
+    ∙ ap (g.F.Shelf.lent c.args.shelf.now).origin (sym (named g (goal.at.give_disk-requires-clause-own g c).After-as_str))
 
 pub returns-clause-back : goal.returns-clause-back
 returns-clause-back g c =

@@ -3,6 +3,10 @@ use Rattle.outside.specs.Shelf.{IsTaken}
 use Rattle.log_journal.specs.Names.{journal_name}
 use Rattle.desk_crew.proofs.crew.take_one.Goals as goal
 
+pub returns-clause-own : goal.returns-clause-own
+returns-clause-own g c =
+    c.in-Ok-take_disk.ensures.origin ∙ ap (g.F.Shelf.lent c.args.shelf.now).origin c.as_str-2.ensures.value
+
 pub returns-clause-taken : goal.returns-clause-taken
 returns-clause-taken g c =
     let named = c.in-Ok.ensures ∙ ap (journal_name c.args.registry.now.directory.now) c.as_str.ensures.value in

@@ -35,8 +35,8 @@ returns-then-is_empty-clause-reads c name =
 pub returns-in_default-2-clause-reads : goal.returns-in_default-2-clause-reads
 returns-in_default-2-clause-reads c name =
     let past = c.args.past.now in
-    let none : None ≡ sentence_in (past_schema past) c.args.world.now (past_user past) (past_history past) Asking c.first_word.result.1.now =
-    rw c.in_default-2.is at (c.in_ok-asked.ensures c.args.world.now) in
+    let none : None ≡ sentence_in (past_schema past) (past_user past) (past_history past) Asking c.first_word.result.1.now =
+    rw c.in_default-2.is at c.in_ok-asked.ensures in
     ap (λ x. answer (past_schema past) c.args.world.now name (past_user past) x c.args.lines.now)
     (ask-unread (past_schema past) c.args.world.now name (past_user past) (past_history past) (field_said c.args.field.now) c.requires.ask
     c.first_word.result.0.now c.first_word.result.1.now c.first_word.ensures.word c.first_word.ensures.rest c.in-Some.mark c.in-Some.ensures
@@ -49,9 +49,9 @@ shown_query-requires-clause-sentence c =
     let past = c.args.past.now in
     let text = c.first_word.result.1.now in
     let query = formula_of c.in-Some-2.asked in
-    let read : Some query ≡ sentence_in (past_schema past) c.args.world.now (past_user past) (past_history past) Asking text =
-    rw c.in-Some-2.is at (c.in_ok-asked.ensures c.args.world.now) in
-    let stands = some-within (past_schema past) c.args.world.now (past_user past) (past_history past) Asking text query read in
+    let read : Some query ≡ sentence_in (past_schema past) (past_user past) (past_history past) Asking text =
+    rw c.in-Some-2.is at c.in_ok-asked.ensures in
+    let stands = some-within (past_schema past) (past_user past) (past_history past) Asking text query read in
     c.law_reading.ensures.of_schema (past_schema past) text query stands.1
 
 pub shown_query-requires-clause-fits : goal.shown_query-requires-clause-fits
@@ -59,10 +59,10 @@ shown_query-requires-clause-fits c =
     let past = c.args.past.now in
     let text = c.first_word.result.1.now in
     let query = formula_of c.in-Some-2.asked in
-    let read : Some query ≡ sentence_in (past_schema past) c.args.world.now (past_user past) (past_history past) Asking text =
-    rw c.in-Some-2.is at (c.in_ok-asked.ensures c.args.world.now) in
-    let stands = some-within (past_schema past) c.args.world.now (past_user past) (past_history past) Asking text query read in
-    let within = asked-within (past_schema past) c.args.world.now (past_user past) (past_history past) (length text) query stands.2 in
+    let read : Some query ≡ sentence_in (past_schema past) (past_user past) (past_history past) Asking text =
+    rw c.in-Some-2.is at c.in_ok-asked.ensures in
+    let stands = some-within (past_schema past) (past_user past) (past_history past) Asking text query read in
+    let within = asked-within (past_schema past) (past_user past) (past_history past) (length text) query stands.2 in
     c.law_limits.ensures.queries (past_schema past) (past_user past) (past_history past) query c.requires.kept.limits within.1
 
 -- its blocks are refused
@@ -76,7 +76,7 @@ returns-in_err-query-clause-reads c name =
     let before = past_history past in
     let text = c.first_word.result.1.now in
     let query = formula_of c.in-Some-2.asked in
-    let read : Some query ≡ sentence_in schema world user before Asking text = rw c.in-Some-2.is at (c.in_ok-asked.ensures world) in
+    let read : Some query ≡ sentence_in schema user before Asking text = rw c.in-Some-2.is at c.in_ok-asked.ensures in
     let asks = ap (λ x. answer schema world name user x c.args.lines.now)
     (ask-read schema world name user before (field_said c.args.field.now) c.requires.ask
     c.first_word.result.0.now text c.first_word.ensures.word c.first_word.ensures.rest c.in-Some.mark c.in-Some.ensures
@@ -94,9 +94,9 @@ size_of-length-requires c =
     let past = c.args.past.now in
     let text = c.first_word.result.1.now in
     let query = formula_of c.in-Some-2.asked in
-    let read : Some query ≡ sentence_in (past_schema past) c.args.world.now (past_user past) (past_history past) Asking text =
-    rw c.in-Some-2.is at (c.in_ok-asked.ensures c.args.world.now) in
-    (some-within (past_schema past) c.args.world.now (past_user past) (past_history past) Asking text query read).0
+    let read : Some query ≡ sentence_in (past_schema past) (past_user past) (past_history past) Asking text =
+    rw c.in-Some-2.is at c.in_ok-asked.ensures in
+    (some-within (past_schema past) (past_user past) (past_history past) Asking text query read).0
 
 pub add_answered-requires-clause-asked : goal.add_answered-requires-clause-asked
 add_answered-requires-clause-asked c = named-asked c.first_word.result.0.now c.in-Some.mark c.in-Some.ensures
@@ -107,10 +107,10 @@ add_answered-requires-clause-fits c =
     let text = c.first_word.result.1.now in
     let query = formula_of c.in-Some-2.asked in
     let mark = c.in-Some.mark in
-    let read : Some query ≡ sentence_in (past_schema past) c.args.world.now (past_user past) (past_history past) Asking text =
-    rw c.in-Some-2.is at (c.in_ok-asked.ensures c.args.world.now) in
-    let stands = some-within (past_schema past) c.args.world.now (past_user past) (past_history past) Asking text query read in
-    let within = asked-within (past_schema past) c.args.world.now (past_user past) (past_history past) (length text) query stands.2 in
+    let read : Some query ≡ sentence_in (past_schema past) (past_user past) (past_history past) Asking text =
+    rw c.in-Some-2.is at c.in_ok-asked.ensures in
+    let stands = some-within (past_schema past) (past_user past) (past_history past) Asking text query read in
+    let within = asked-within (past_schema past) (past_user past) (past_history past) (length text) query stands.2 in
     fits-at (past_schema past) _ (past_user past) _ (past_history past) _ (record { query = query; mark = mark; length = length text }) _
     c.shown_query.ensures.same.0.schema c.shown_query.ensures.same.0.user c.shown_query.ensures.same.1
     (λ i. record { query = formula_of (c.in_ok-query.ensures.query i); mark = mark; length = c.size_of-length.ensures i })
@@ -127,7 +127,7 @@ returns-clause-reads c name =
     let before = past_history past in
     let text = c.first_word.result.1.now in
     let query = formula_of c.in-Some-2.asked in
-    let read : Some query ≡ sentence_in schema world user before Asking text = rw c.in-Some-2.is at (c.in_ok-asked.ensures world) in
+    let read : Some query ≡ sentence_in schema user before Asking text = rw c.in-Some-2.is at c.in_ok-asked.ensures in
     let asks = ap (λ x. answer schema world name user x c.args.lines.now)
     (ask-read schema world name user before (field_said c.args.field.now) c.requires.ask
     c.first_word.result.0.now text c.first_word.ensures.word c.first_word.ensures.rest c.in-Some.mark c.in-Some.ensures

@@ -10,7 +10,6 @@ use Rattle.cqe_base.specs.History.{answered_query_of, log, is_history_of}
 use Rattle.cqe_base.specs.Run.{is_too_large}
 use Rattle.entailment.specs.Logs.{log_nodes}
 use Rattle.entailment.specs.GroundSentences.{sentence_of}
-use Rattle.dossier.specs.Words.{world_of}
 use Rattle.dossier.specs.Checked.{item, adding, sentence_in, addition_probe, awaited_for}
 use Rattle.dossier.specs.Reading.{field_said, answer}
 use Rattle.dossier.specs.Logs.{past_schema, past_user, past_history}
@@ -33,8 +32,8 @@ returns-then-is_empty-clause-reads c world name =
 pub returns-in_default-clause-reads : goal.returns-in_default-clause-reads
 returns-in_default-clause-reads c world name =
     let past = c.args.past.now in
-    let none : None ≡ sentence_in (past_schema past) world (past_user past) (past_history past) Protecting c.args.field.now.rest.now =
-    rw c.in_default.is at (c.in_ok-secret.ensures world) in
+    let none : None ≡ sentence_in (past_schema past) (past_user past) (past_history past) Protecting c.args.field.now.rest.now =
+    rw c.in_default.is at c.in_ok-secret.ensures in
     ap (λ x. answer (past_schema past) world name (past_user past) x c.args.lines.now)
     (protect-unread (past_schema past) world name (past_user past) (past_history past) (field_said c.args.field.now) c.requires.protect
     (grind (arith, nat_tests)) none)
@@ -49,9 +48,9 @@ new-requires-clause-sentence c =
     let before = past_history past in
     let text = c.args.field.now.rest.now in
     let secret = formula_of c.in-Some.secret in
-    let read : Some secret ≡ sentence_in schema (world_of []) user before Protecting text = rw c.in-Some.is at (c.in_ok-secret.ensures (world_of [])) in
-    let stands = some-within schema (world_of []) user before Protecting text secret read in
-    let within = added-within schema (world_of []) user before (length text) secret stands.2 in
+    let read : Some secret ≡ sentence_in schema user before Protecting text = rw c.in-Some.is at c.in_ok-secret.ensures in
+    let stands = some-within schema user before Protecting text secret read in
+    let within = added-within schema user before (length text) secret stands.2 in
     let fits = c.law_amended_limits.ensures.additions schema user before secret c.requires.kept.limits c.requires.kept.sizes
     (c.law_reading.ensures.of_schema schema text secret stands.1) within.1 in
     ap (is_sentence_of schema) (guard-at _ user before secret (formula_of c.in_ok-guarded.guarded) c.requires.kept.current c.in_ok-guarded.ensures)
@@ -65,9 +64,9 @@ new-requires-clause-small c =
     let before = past_history past in
     let text = c.args.field.now.rest.now in
     let secret = formula_of c.in-Some.secret in
-    let read : Some secret ≡ sentence_in schema (world_of []) user before Protecting text = rw c.in-Some.is at (c.in_ok-secret.ensures (world_of [])) in
-    let stands = some-within schema (world_of []) user before Protecting text secret read in
-    let within = added-within schema (world_of []) user before (length text) secret stands.2 in
+    let read : Some secret ≡ sentence_in schema user before Protecting text = rw c.in-Some.is at c.in_ok-secret.ensures in
+    let stands = some-within schema user before Protecting text secret read in
+    let within = added-within schema user before (length text) secret stands.2 in
     let fits = c.law_amended_limits.ensures.additions schema user before secret c.requires.kept.limits c.requires.kept.sizes
     (c.law_reading.ensures.of_schema schema text secret stands.1) within.1 in
     subst (λ goal. nodes schema goal ≤ 40000)
@@ -98,9 +97,9 @@ read_block-requires-clause-goal c =
     let before = past_history past in
     let text = c.args.field.now.rest.now in
     let secret = formula_of c.in-Some.secret in
-    let read : Some secret ≡ sentence_in schema (world_of []) user before Protecting text = rw c.in-Some.is at (c.in_ok-secret.ensures (world_of [])) in
-    let stands = some-within schema (world_of []) user before Protecting text secret read in
-    let within = added-within schema (world_of []) user before (length text) secret stands.2 in
+    let read : Some secret ≡ sentence_in schema user before Protecting text = rw c.in-Some.is at c.in_ok-secret.ensures in
+    let stands = some-within schema user before Protecting text secret read in
+    let within = added-within schema user before (length text) secret stands.2 in
     let fits = c.law_amended_limits.ensures.additions schema user before secret c.requires.kept.limits c.requires.kept.sizes
     (c.law_reading.ensures.of_schema schema text secret stands.1) within.1 in
     ap (λ s. is_sentence_of schema (formula_of s)) c.in_ok-goal.ensures.same
@@ -115,9 +114,9 @@ read_block-requires-clause-all_nodes c =
     let before = past_history past in
     let text = c.args.field.now.rest.now in
     let secret = formula_of c.in-Some.secret in
-    let read : Some secret ≡ sentence_in schema (world_of []) user before Protecting text = rw c.in-Some.is at (c.in_ok-secret.ensures (world_of [])) in
-    let stands = some-within schema (world_of []) user before Protecting text secret read in
-    let within = added-within schema (world_of []) user before (length text) secret stands.2 in
+    let read : Some secret ≡ sentence_in schema user before Protecting text = rw c.in-Some.is at c.in_ok-secret.ensures in
+    let stands = some-within schema user before Protecting text secret read in
+    let within = added-within schema user before (length text) secret stands.2 in
     let fits = c.law_amended_limits.ensures.additions schema user before secret c.requires.kept.limits c.requires.kept.sizes
     (c.law_reading.ensures.of_schema schema text secret stands.1) within.1 in
     let small = (or_parts (is_too_large schema user before secret) _ within.1).0 in
@@ -143,7 +142,7 @@ returns-in_err-read_block-clause-reads c world name =
     let before = past_history past in
     let text = c.args.field.now.rest.now in
     let secret = formula_of c.in-Some.secret in
-    let read : Some secret ≡ sentence_in schema world user before Protecting text = rw c.in-Some.is at (c.in_ok-secret.ensures world) in
+    let read : Some secret ≡ sentence_in schema user before Protecting text = rw c.in-Some.is at c.in_ok-secret.ensures in
     let asks = ap (λ x. answer schema world name user x c.args.lines.now)
     (protect-read schema world name user before (field_said c.args.field.now) c.requires.protect (grind (arith, nat_tests)) secret read) in
     rw (p.1, p.2)
@@ -172,9 +171,9 @@ size_of-length-requires c =
     let past = c.args.past.now in
     let text = c.args.field.now.rest.now in
     let secret = formula_of c.in-Some.secret in
-    let read : Some secret ≡ sentence_in (past_schema past) (world_of []) (past_user past) (past_history past) Protecting text =
-    rw c.in-Some.is at (c.in_ok-secret.ensures (world_of [])) in
-    (some-within (past_schema past) (world_of []) (past_user past) (past_history past) Protecting text secret read).0
+    let read : Some secret ≡ sentence_in (past_schema past) (past_user past) (past_history past) Protecting text =
+    rw c.in-Some.is at c.in_ok-secret.ensures in
+    (some-within (past_schema past) (past_user past) (past_history past) Protecting text secret read).0
 
 -- the view is as it was
 pub add_secret-requires-clause-kept : goal.add_secret-requires-clause-kept
@@ -188,9 +187,9 @@ add_secret-requires-clause-fits c =
     let before = past_history past in
     let text = c.args.field.now.rest.now in
     let secret = formula_of c.in-Some.secret in
-    let read : Some secret ≡ sentence_in schema (world_of []) user before Protecting text = rw c.in-Some.is at (c.in_ok-secret.ensures (world_of [])) in
-    let stands = some-within schema (world_of []) user before Protecting text secret read in
-    let within = added-within schema (world_of []) user before (length text) secret stands.2 in
+    let read : Some secret ≡ sentence_in schema user before Protecting text = rw c.in-Some.is at c.in_ok-secret.ensures in
+    let stands = some-within schema user before Protecting text secret read in
+    let within = added-within schema user before (length text) secret stands.2 in
     let small = (or_parts (is_too_large schema user before secret) _ within.1).0 in
     fits-at schema _ user _ before _ (record { query = secret; mark = Protected; length = length text }) _ refl refl refl
     (λ i. record { query = secret; mark = Protected; length = c.size_of-length.ensures i })
@@ -204,7 +203,7 @@ returns-clause-reads c world name =
     let before = past_history past in
     let text = c.args.field.now.rest.now in
     let secret = formula_of c.in-Some.secret in
-    let read : Some secret ≡ sentence_in schema world user before Protecting text = rw c.in-Some.is at (c.in_ok-secret.ensures world) in
+    let read : Some secret ≡ sentence_in schema user before Protecting text = rw c.in-Some.is at c.in_ok-secret.ensures in
     let asks = ap (λ x. answer schema world name user x c.args.lines.now)
     (protect-read schema world name user before (field_said c.args.field.now) c.requires.protect (grind (arith, nat_tests)) secret read) in
     asks

@@ -6,7 +6,8 @@ use Rattle.cqe_base.specs.History.{profile_of}
 use Rattle.cqe_base.specs.Censor.{admitted}
 use Rattle.log_journal.specs.Opening.{recorded}
 use Rattle.dossier.specs.Logs.{past_schema, past_user}
-use Rattle.dossier.specs.Written.{IsAdmission, AreItems, AreLegal, Grows, done_text, head_text}
+use Rattle.dossier.specs.Written.{IsAdmission, AreItems, AreLegal, done_text, head_text}
+use Rattle.dossier.specs.Adding.{Grows}
 use Rattle.dossier.proofs.writing.dossier_text.Goals as goal
 
 pub push_admission-requires-clause-admitted : goal.push_admission-requires-clause-admitted

@@ -1,13 +1,14 @@
-use Rattle.std.proofs.Common.{◌≤◌, ◌+◌, ◌++◌, [], ◌∷◌, true, sym, ap, subst, ◌∙◌, arith}
+use Rattle.std.proofs.Common.{◌≤◌, [], ◌∷◌, true, sym, ap, subst, ◌∙◌, arith}
 use Rattle.std.specs.Prelude.{string_bytes}
 use Rattle.cqe_base.specs.Formula.{formula_of, nodes, is_sentence_of}
 use Rattle.cqe_base.specs.History.{log, user_at}
 use Rattle.cqe_base.specs.Outcome.{outcome}
-use Rattle.cqe_base.specs.Censor.{guard_by, safe_with, admission_budget}
+use Rattle.cqe_base.specs.Censor.{guarded_with, safe_with, admission_budget}
 use Rattle.entailment.specs.GroundSentences.{sentence_of}
 use Rattle.dossier.specs.Logs.{past_schema, past_user, past_history}
 use Rattle.dossier.specs.Items.{goal_probe}
-use Rattle.dossier.specs.Written.{IsBlock, AreUnspent, Grows}
+use Rattle.dossier.specs.Written.{IsBlock}
+use Rattle.dossier.specs.Adding.{AreUnspent, Grows}
 use Rattle.dossier.proofs.Added.{guard-at}
 use Rattle.dossier.proofs.Pushed.{open-unspent}
 use Rattle.dossier.proofs.writing.push_addition.Goals as goal
@@ -55,11 +56,9 @@ push_goal-requires-clause-unspent c =
     (sym (ap formula_of c.in_ok-goal.ensures.same
     ∙ guard-at _ (past_user past) (past_history past) (formula_of c.args.secret.now) (formula_of c.in_ok-guarded.guarded) c.requires.kept.current
     c.in_ok-guarded.ensures))
-    (open-unspent (past_schema past) (outcome (past_schema past) told (
-      guard_by (past_user past).method ((user_at (past_user past) (past_history past)).secrets ++ formula_of c.args.secret.now ∷ [])
-          (formula_of c.args.secret.now),
-      true,
-    ) admission_budget) c.requires.safe)
+    (open-unspent (past_schema past)
+    (outcome (past_schema past) told (guarded_with (user_at (past_user past) (past_history past)) (formula_of c.args.secret.now), true) admission_budget)
+    c.requires.safe)
 
 pub returns-clause-block : goal.returns-clause-block
 returns-clause-block c =

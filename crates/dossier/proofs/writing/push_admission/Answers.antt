@@ -4,7 +4,8 @@ use Rattle.cqe_base.specs.History.{known, log}
 use Rattle.cqe_base.specs.Censor.{guarded, probes_against, admission_budget}
 use Rattle.entailment.specs.Logs.{log_nodes, sentence_nodes}
 use Rattle.dossier.specs.Logs.{past_schema, past_user, past_history}
-use Rattle.dossier.specs.Written.{AreBlocks, AreUnspent, IsAdmission, Grows}
+use Rattle.dossier.specs.Written.{AreBlocks, IsAdmission}
+use Rattle.dossier.specs.Adding.{AreUnspent, Grows}
 use Rattle.dossier.proofs.Pushed.{grows-then, admitted-unspent, admission-goals}
 use Rattle.dossier.proofs.writing.push_admission.Goals as goal
 

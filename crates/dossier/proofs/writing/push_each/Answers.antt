@@ -8,7 +8,8 @@ use Rattle.entailment.specs.Logs.{log_nodes, sentence_nodes}
 use Rattle.entailment.specs.GroundSentences.{IsGroundOver}
 use Rattle.entailment.specs.Probes.{premise_list}
 use Rattle.dossier.specs.Logs.{past_schema, past_user, past_history}
-use Rattle.dossier.specs.Written.{AreBlocks, AreUnspent, Grows}
+use Rattle.dossier.specs.Written.{AreBlocks}
+use Rattle.dossier.specs.Adding.{AreUnspent, Grows}
 use Rattle.dossier.proofs.writing.push_each.Goals as goal
 
 pub push_goals-requires-clause-schema : goal.push_goals-requires-clause-schema

@@ -8,7 +8,8 @@ use Rattle.entailment.specs.GroundSentences.{IsGroundOver}
 use Rattle.entailment.specs.Probes.{signed_at}
 use Rattle.dossier.specs.Logs.{past_schema, past_user, past_history}
 use Rattle.dossier.specs.Items.{goal_probe}
-use Rattle.dossier.specs.Written.{IsBlock, Grows}
+use Rattle.dossier.specs.Written.{IsBlock}
+use Rattle.dossier.specs.Adding.{Grows}
 use Rattle.dossier.proofs.Pushed.{unspent-first}
 use Rattle.dossier.proofs.writing.push_goal.Goals as goal
 

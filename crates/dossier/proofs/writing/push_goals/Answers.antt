@@ -9,7 +9,8 @@ use Rattle.entailment.specs.Logs.{log_nodes, sentence_nodes}
 use Rattle.entailment.specs.Views.{LogView, schema_of, log_of}
 use Rattle.entailment.specs.GroundSentences.{sentence_of, IsGroundOver}
 use Rattle.entailment.specs.Probes.{premise_list, IsGroundPremise}
-use Rattle.dossier.specs.Written.{IsBlock, AreBlocks, Grows}
+use Rattle.dossier.specs.Written.{IsBlock, AreBlocks}
+use Rattle.dossier.specs.Adding.{Grows}
 use Rattle.dossier.proofs.Each.{passes-at}
 use Rattle.dossier.proofs.Pushed.{grows-none, unspent-at, goals-pushed, goals-all}
 use Rattle.dossier.proofs.writing.push_goals.Goals as goal

@@ -4,7 +4,8 @@ use Rattle.cqe_base.specs.Censor.{probes_against}
 use Rattle.entailment.specs.Views.{log_of}
 use Rattle.entailment.specs.GroundSentences.{sentence_of}
 use Rattle.entailment.specs.Probes.{premise_list}
-use Rattle.dossier.specs.Written.{AreBlocks, Grows}
+use Rattle.dossier.specs.Written.{AreBlocks}
+use Rattle.dossier.specs.Adding.{Grows}
 use Rattle.dossier.proofs.writing.push_goals.Given as goal
 
 -- the blocks of the goals so far are written

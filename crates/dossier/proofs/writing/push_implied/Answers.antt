@@ -6,7 +6,8 @@ use Rattle.entailment.specs.Logs.{log_nodes}
 use Rattle.entailment.specs.GroundSentences.{sentence_of, IsGroundOver}
 use Rattle.dossier.specs.Logs.{past_schema, past_user, past_history}
 use Rattle.dossier.specs.Items.{goal_probe, implied_probes}
-use Rattle.dossier.specs.Written.{IsBlock, AreBlocks, AreUnspent, Grows}
+use Rattle.dossier.specs.Written.{IsBlock, AreBlocks}
+use Rattle.dossier.specs.Adding.{AreUnspent, Grows}
 use Rattle.dossier.proofs.Verdicts.{refusal-is, none-implied}
 use Rattle.dossier.proofs.Pushed.{grows-none, grows-then, blocks-append, blocks-one, unspent-append}
 use Rattle.dossier.proofs.writing.push_implied.Goals as goal

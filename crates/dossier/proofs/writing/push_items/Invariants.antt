@@ -3,7 +3,8 @@ use Rattle.std.specs.Prelude.{Some, string_bytes}
 use Rattle.log_journal.specs.Opening.{recorded}
 use Rattle.user_desk.specs.Entries.{entry_of}
 use Rattle.dossier.specs.Logs.{past_schema, past_user, past_history, IsKept, IsPastOfSame}
-use Rattle.dossier.specs.Written.{AreItems, Grows}
+use Rattle.dossier.specs.Written.{AreItems}
+use Rattle.dossier.specs.Adding.{Grows}
 use Rattle.dossier.proofs.writing.push_items.Given as goal
 
 -- the items of the records so far are written and added

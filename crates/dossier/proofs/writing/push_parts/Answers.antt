@@ -8,7 +8,8 @@ use Rattle.entailment.specs.Logs.{log_nodes, sentence_nodes}
 use Rattle.entailment.specs.GroundSentences.{sentence_of, IsGroundOver}
 use Rattle.dossier.specs.Logs.{past_schema, past_user, past_history}
 use Rattle.dossier.specs.Items.{implied_probes}
-use Rattle.dossier.specs.Written.{AreBlocks, AreUnspent, Grows}
+use Rattle.dossier.specs.Written.{AreBlocks}
+use Rattle.dossier.specs.Adding.{AreUnspent, Grows}
 use Rattle.dossier.proofs.Pushed.{grows-then, blocks-append, unspent-append, query-parts}
 use Rattle.dossier.proofs.SamePasts.{same-then, at-same, at-old}
 use Rattle.dossier.proofs.writing.push_parts.Goals as goal

@@ -2,7 +2,8 @@ use Rattle.std.proofs.Common.{[], refl, sym, subst, ◌∙◌}
 use Rattle.std.specs.Prelude.{string_bytes, OnOk}
 use Rattle.cqe_base.specs.Formula.{formula_of}
 use Rattle.dossier.specs.Logs.{past_schema, past_user, past_history}
-use Rattle.dossier.specs.Written.{AreBlocks, item_probes, Grows}
+use Rattle.dossier.specs.Written.{AreBlocks, item_probes}
+use Rattle.dossier.specs.Adding.{Grows}
 use Rattle.dossier.proofs.Pushed.{grows-none}
 use Rattle.dossier.proofs.Sayings.{undecided-is, decided-is, asked-probes}
 use Rattle.dossier.proofs.writing.push_probes.Goals as goal

@@ -5,7 +5,8 @@ use Rattle.cqe_base.specs.History.{log, user_at}
 use Rattle.cqe_base.specs.Censor.{probes}
 use Rattle.cqe_base.specs.Limits.{FitsLog}
 use Rattle.dossier.specs.Logs.{past_schema, past_user, past_history}
-use Rattle.dossier.specs.Written.{AreBlocks, AreUnspent, Grows}
+use Rattle.dossier.specs.Written.{AreBlocks}
+use Rattle.dossier.specs.Adding.{AreUnspent, Grows}
 use Rattle.dossier.proofs.writing.push_query.Goals as goal
 
 pub new-requires-clause-small : goal.new-requires-clause-small

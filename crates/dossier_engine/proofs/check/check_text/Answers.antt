@@ -1,6 +1,6 @@
 use Rattle.std.proofs.Common.{string_bytes, sym, subst, ◌∙◌}
 use Rattle.cqe_base.specs.History.{profile_of}
-use Rattle.dossier_engine.specs.Checks.{EndsText}
+use Rattle.dossier_engine.specs.Said.{EndsText}
 use Rattle.dossier_engine.proofs.Checking.{said_so, refused_so, no_read, no_write}
 use Rattle.dossier_engine.proofs.check.check_text.Goals as goal
 

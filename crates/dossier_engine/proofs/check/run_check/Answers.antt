@@ -1,7 +1,7 @@
 use Rattle.std.proofs.Common.{◌≤◌, List, ℕ, length, refl, string_bytes, sym, subst, ◌∙◌}
 use Rattle.std.specs.Prelude.{IsUtf8}
 use Rattle.cqe_base.specs.History.{profile_of}
-use Rattle.dossier_engine.specs.Checks.{EndsText}
+use Rattle.dossier_engine.specs.Said.{EndsText}
 use Rattle.dossier_engine.proofs.Checking.{too_long, no_text, ends_bytes}
 use Rattle.dossier_engine.proofs.check.run_check.Goals as goal
 

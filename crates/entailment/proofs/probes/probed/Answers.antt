@@ -4,8 +4,8 @@ use Rattle.cqe_base.specs.Outcome.{grounded_signed}
 use Rattle.clause_form.specs.Forms.{Form}
 use Rattle.entailment.specs.Forms.{IsSearchable}
 use Rattle.entailment.specs.Probes.{premise_of, goal_of, added_by}
-use Rattle.entailment.specs.Verdicts.{as_wanted, searched_verdict}
-use Rattle.entailment.specs.Certificates.{IsRightFor}
+use Rattle.entailment.specs.Verdicts.{as_wanted, searched_end, searched_verdict}
+use Rattle.entailment.specs.Certificates.{IsRightFor, IsMachines}
 use Rattle.entailment.proofs.LogForms.{probe-searchable, own-searchable, probe-room, probe-added}
 use Rattle.entailment.proofs.KeptClauses.{none-begins, all-begin, stays-begins, begins-more, form-begins}
 use Rattle.entailment.proofs.probes.probed.Goals as goal
@@ -74,3 +74,11 @@ returns-clause-right c =
     (probe-added c.args.schema.now log (premise_of c.args.probe.now) (goal_of c.args.probe.now) (added_by c.args.probe.now) c.args.former.now
     c.add_probe.new.former c.requires.added c.in_ok-add_probe.ensures.added at) right)
     c.certificate_of.ensures.right
+
+pub returns-clause-lines : goal.returns-clause-lines
+returns-clause-lines c =
+    IfOk-weaker c.certificate_of.result _ _
+    (λ found machines log at. subst (λ (form : Form). IsMachines (searched_end form c.args.budget) found)
+    (probe-added c.args.schema.now log (premise_of c.args.probe.now) (goal_of c.args.probe.now) (added_by c.args.probe.now) c.args.former.now
+    c.add_probe.new.former c.requires.added c.in_ok-add_probe.ensures.added at) machines)
+    c.certificate_of.ensures.lines

@@ -11,9 +11,9 @@ use Rattle.entailment.specs.GroundSentences.{IsGroundOver}
 use Rattle.entailment.specs.Probes.{premise_of, goal_of, outcome_of, IsTrueOutcome, IsGroundPremise}
 use Rattle.entailment.proofs.LogForms.{premises-sentences, probe-sentences, added-is, probe-form}
 use Rattle.entailment.proofs.KeptClauses.{taken-begins}
-use Rattle.entailment.proofs.OpenViews.{schema-is, own-small, own-form, own-verdict, own-right}
-use Rattle.entailment.specs.Verdicts.{as_wanted, searched_verdict}
-use Rattle.entailment.specs.Certificates.{as_verdict, IsRightFor}
+use Rattle.entailment.proofs.OpenViews.{schema-is, own-small, own-form, own-verdict, own-right, own-lines}
+use Rattle.entailment.specs.Verdicts.{as_wanted, searched_end, searched_verdict}
+use Rattle.entailment.specs.Certificates.{as_verdict, IsRightFor, IsMachines}
 use Rattle.entailment.proofs.Verdicts.{wanted-outcome, outcome-is, verdict-is, true-outcome, true-verdict}
 use Rattle.entailment.proofs.CostBounds.{spent-by-cost}
 use Rattle.entailment.proofs.probes.run.Goals as goal
@@ -178,6 +178,18 @@ returns-clause-right c =
     c.form_rest.new.former c.in_ok-form_rest.ensures.whole
     (premise_of probe) (goal_of probe) found right))
     c.probed-found.ensures.right
+
+pub returns-clause-lines : goal.returns-clause-lines
+returns-clause-lines c =
+    let view = c.args.view.now in
+    let probe = c.args.probe.now in
+    IfOk-weaker c.probed-found.result _ _
+    (λ found machines.
+    subst (λ form. IsMachines (searched_end form c.args.budget) found) (probe-form (schema_of view) (log_of view ++ premise_of probe) (goal_of probe))
+    (own-lines c.view.inside _ c.view.view_is c.view.invariant c.as_slice.result.now c.as_slice.ensures.value
+    c.form_rest.new.former c.in_ok-form_rest.ensures.whole
+    (premise_of probe) (goal_of probe) c.args.budget found machines))
+    c.probed-found.ensures.lines
 
 pub returns-clause-spent : goal.returns-clause-spent
 returns-clause-spent c =

@@ -1,11 +1,16 @@
-use Rattle.std.proofs.Common.{arith}
+use Rattle.std.proofs.Common.{◌∙◌, ap, sym, arith}
 use Rattle.std.proofs.lemmas.Result.{IfErr-weaker, on_ok_weaker}
 use Rattle.outside.proofs.Taken.{taken_reads}
-use Rattle.outside.specs.Shelf.{bytes_on}
+use Rattle.outside.specs.Shelf.{Lent, bytes_on}
 use Rattle.log_journal.specs.Opening.{header_bytes}
 use Rattle.init_engine.proofs.Reasons.{reason_of, none_rose}
 use Rattle.init_engine.proofs.Visiting.{held_ready, untouched}
 use Rattle.init_engine.proofs.visit.serve_disk.Goals as goal
+
+-- it is the disk that was taken
+pub give_disk-requires-clause-own : goal.give_disk-requires-clause-own
+give_disk-requires-clause-own g c =
+    c.make-disk.ensures.origin ∙ c.in-Ok.ensures.origin ∙ ap (λ (l : Lent). l.origin c.args.journal.now) (sym c.take_disk.ensures.lent)
 
 pub returns-in-Ok-clause-reason : goal.returns-in-Ok-clause-reason
 returns-in-Ok-clause-reason g c =

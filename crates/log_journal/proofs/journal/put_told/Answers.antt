@@ -67,5 +67,5 @@ returns-clause-fits g c told =
     let R' = g.D.Disk.reads c.put_record.new.disk in
     let more : length (records R') ≡ length (records R) + 1 =
     one_more_record R c.args.gate (c.requires.ends told) (c.args.kind, c.args.text.now) R' (c.in_ok-put_record.ensures.added told) in
-    let few : length (records R') < 2 ^ 64 = few_records R' (c.args.gate + 4 + length c.args.text.now) (c.in_ok-put_record.ensures.ends told) in
+    let few : length (records R') + 2 < 2 ^ 64 = few_records R' (c.args.gate + 4 + length c.args.text.now) (c.in_ok-put_record.ensures.ends told) in
     on_ok_weaker c.tell_record.result (λ may. omega (arith, more, few, c.requires.counted told)) c.tell_record.ensures.may_be_told

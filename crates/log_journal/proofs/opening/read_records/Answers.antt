@@ -1,4 +1,5 @@
-use Rattle.std.proofs.Common.{◌≡◌, ◌≢◌, IfSome, IfNone, slice_index_or, ◌+◌, ◌≤◌, ◌<◌, ◌^◌, ◌∷◌, ◌++◌, [], ℕ, List, length, drop, map, sym, ◌∙◌, ap, subst}
+use Rattle.std.proofs.Common.{◌≡◌, ◌≢◌, IfSome, IfNone, slice_index_or, ◌+◌, ◌≤◌, ◌<◌, ◌^◌, ◌∷◌, ◌++◌, [], ℕ, List, length, drop}
+use Rattle.std.proofs.Common.{map, refl, sym, ◌∙◌, ap, subst}
 use Rattle.std.proofs.Common.{arith, rules}
 use Rattle.std.proofs.lemmas.List.{map-append, length-map, take_rest}
 use Rattle.std.proofs.lemmas.Result.{err_from_is_err_and}
@@ -19,6 +20,7 @@ loop-init g c =
       only = only_none R (g.D.Disk.image c.args.disk.now) (g.D.Disk.moment c.args.disk.now) (g.D.Disk.image_since c.args.disk.now)
           (g.D.Disk.faults c.args.disk.now)
           (λ t d le is. g.met.D.Disk.counts_now c.args.disk.now t d le is) (λ d is. g.met.D.Disk.only_now c.args.disk.now d is);
+      origin = refl;
     }
 
 pub returns-in_err-record-clause-refused : goal.returns-in_err-record-clause-refused
@@ -68,4 +70,5 @@ loop-preserved g c =
           (g.D.Disk.image_since c.args.disk.now) (g.D.Disk.image_since c.loop.disk) (g.D.Disk.image_since c.record_at.new.disk)
           (g.D.Disk.faults c.args.disk.now) (g.D.Disk.faults c.loop.disk) (g.D.Disk.faults c.record_at.new.disk)
           c.loop.invariant.only c.record_at.ensures.only;
+      origin = c.record_at.ensures.origin ∙ c.loop.invariant.origin;
     }

@@ -1,4 +1,4 @@
-use Rattle.std.proofs.Common.{◌≤◌, List, ℕ, length, sym, subst, ◌∙◌, ap, arith}
+use Rattle.std.proofs.Common.{◌≤◌, List, ℕ, length, refl, sym, subst, ◌∙◌, ap, arith}
 use Rattle.log_journal.specs.Walk.{records, IsNumbered}
 use Rattle.log_journal.proofs.Counts.{numbered, record_there}
 use Rattle.log_journal.proofs.Windows.{only_none, only_then}
@@ -10,6 +10,7 @@ loop-number-init g c = record {
   only = only_none (g.D.Disk.reads c.args.disk.now) (g.D.Disk.image c.args.disk.now) (g.D.Disk.moment c.args.disk.now)
       (g.D.Disk.image_since c.args.disk.now) (g.D.Disk.faults c.args.disk.now)
       (λ t d le is. g.met.D.Disk.counts_now c.args.disk.now t d le is) (λ d is. g.met.D.Disk.only_now c.args.disk.now d is);
+  origin = refl;
 }
 
 pub tell_record-requires-clause-there : goal.tell_record-requires-clause-there
@@ -45,6 +46,7 @@ loop-number-preserved g c = record {
       (g.D.Disk.image_since c.args.disk.now) (g.D.Disk.image_since c.loop-number.disk) (g.D.Disk.image_since c.tell_record.new.disk)
       (g.D.Disk.faults c.args.disk.now) (g.D.Disk.faults c.loop-number.disk) (g.D.Disk.faults c.tell_record.new.disk)
       c.loop-number.invariant.only c.tell_record.ensures.only;
+  origin = c.tell_record.ensures.origin ∙ c.loop-number.invariant.origin;
 }
 
 pub returns-in_err-tell_record-clause-only : goal.returns-in_err-tell_record-clause-only

@@ -1,4 +1,4 @@
-use Rattle.std.proofs.Common.{◌≤◌}
+use Rattle.std.proofs.Common.{◌≡◌, ◌≤◌}
 use Rattle.log_journal.specs.Opening.{IsOnlyRead}
 use Rattle.log_journal.proofs.tell.tell_all.Given as goal
 
@@ -9,4 +9,5 @@ invariant-loop-number g l = record {
   only : IsOnlyRead (g.D.Disk.reads l.fn.disk) (g.D.Disk.reads l.disk) (g.D.Disk.image l.fn.disk) (g.D.Disk.image l.disk)
       (g.D.Disk.moment l.fn.disk) (g.D.Disk.moment l.disk) (g.D.Disk.image_since l.fn.disk) (g.D.Disk.image_since l.disk)
       (g.D.Disk.faults l.fn.disk) (g.D.Disk.faults l.disk);
+  origin : g.D.Disk.origin l.disk ≡ g.D.Disk.origin l.fn.disk;
 }

@@ -1,13 +1,18 @@
-use Rattle.std.proofs.Common.{List, ℕ, map, sym, subst, arith}
+use Rattle.std.proofs.Common.{◌∙◌, ap, List, ℕ, map, sym, subst, arith}
 use Rattle.std.proofs.lemmas.Result.{IfErr-weaker, IfOk-weaker}
 use Rattle.outside.proofs.Taken.{taken_reads}
-use Rattle.outside.specs.Shelf.{bytes_on}
+use Rattle.outside.specs.Shelf.{Lent, bytes_on}
 use Rattle.log_journal.specs.Opening.{header_bytes, recorded, IsOldJournal}
 use Rattle.init_engine.proofs.Reasons.{held_stays, none_rose}
 use Rattle.init_engine.proofs.Visiting.{read_stays, untouched}
 use Rattle.init_engine.specs.Stops.{Stays}
 use Rattle.migrate_engine.proofs.Halves.{unread_wide}
 use Rattle.migrate_engine.proofs.source.read_source.Goals as goal
+
+-- it is the disk that was taken
+pub give_disk-requires-clause-own : goal.give_disk-requires-clause-own
+give_disk-requires-clause-own g c =
+    c.read_old-disk.ensures.origin ∙ c.in-Ok.ensures.origin ∙ ap (λ (l : Lent). l.origin c.args.source.now) (sym c.take_disk.ensures.lent)
 
 pub returns-in-Ok-clause-opened : goal.returns-in-Ok-clause-opened
 returns-in-Ok-clause-opened g c = λ told.

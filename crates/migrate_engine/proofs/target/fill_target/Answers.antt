@@ -1,12 +1,17 @@
-use Rattle.std.proofs.Common.{map, arith}
+use Rattle.std.proofs.Common.{◌∙◌, ap, sym, map, arith}
 use Rattle.std.proofs.lemmas.Result.{IfErr-weaker, on_ok_weaker}
 use Rattle.outside.proofs.Taken.{taken_reads}
-use Rattle.outside.specs.Shelf.{bytes_on}
+use Rattle.outside.specs.Shelf.{Lent, bytes_on}
 use Rattle.log_journal.specs.Opening.{header_bytes, recorded}
 use Rattle.init_engine.proofs.Reasons.{none_rose}
 use Rattle.migrate_engine.proofs.Filling.{held_filled, held_left}
 use Rattle.migrate_engine.proofs.Halves.{unfilled_wide}
 use Rattle.migrate_engine.proofs.target.fill_target.Goals as goal
+
+-- it is the disk that was taken
+pub give_disk-requires-clause-own : goal.give_disk-requires-clause-own
+give_disk-requires-clause-own g c =
+    c.fill-disk.ensures.origin ∙ c.in-Ok.ensures.origin ∙ ap (λ (l : Lent). l.origin c.args.target.now) (sym c.take_disk.ensures.lent)
 
 pub returns-in-Ok-clause-filled : goal.returns-in-Ok-clause-filled
 returns-in-Ok-clause-filled g c = λ told.

@@ -14,6 +14,7 @@ loop-next-init g c = record {
   end = c.requires.end;
   behind = c.requires.behind;
   shut = λ told. shut_none g.D.Disk g.met.D.Disk.counts_now g.met.D.Disk.only_now c.args.disk.now (c.requires.shut told);
+  origin = refl;
   count = omega arith;
 }
 
@@ -31,6 +32,7 @@ loop-next-preserved g c =
       end = one.end;
       behind = one.behind;
       shut = λ told. shut_then disk c.args.disk.now c.loop-next.disk c.write_record.new.disk (so_far.shut told) (c.write_record.ensures.shut told);
+      origin = c.write_record.ensures.origin ∙ so_far.origin;
       count = omega (arith, so_far.count, c.write_record.ensures.cause.later);
     }
 

@@ -11,5 +11,6 @@ invariant-loop-next g l = record {
   end : g.D.Disk.tells → l.end ≡ length (g.D.Disk.reads l.disk);
   behind : 8 ≤ l.end;
   shut : g.D.Disk.tells → StaysShut g.D.Disk l.initial.disk l.disk;
+  origin : g.D.Disk.origin l.disk ≡ g.D.Disk.origin l.initial.disk;
   count : g.D.Disk.faults l.initial.disk ≤ g.D.Disk.faults l.disk;
 }

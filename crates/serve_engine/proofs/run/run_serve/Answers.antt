@@ -12,7 +12,7 @@ returns-clause-ends g c shelf_told links_told =
     let heard = c.in-Ok.ensures in
     let back = c.take_back_all.ensures in
     let door_told = g.met.L.Links.tells_doors links_told in
-    ends_of c.args.registry.now.schema.now c.args.registry.now.world.now (header_bytes c.args.registry.now.header.now)
+    ends_of c.law_served_alike.ensures c.args.registry.now.schema.now c.args.registry.now.world.now (header_bytes c.args.registry.now.header.now)
     (journals_by g.F.D.Disk.reads g.F.D.Disk.image g.F.D.Disk.moment g.F.D.Disk.image_since c.args.registry.now.directory.now (g.F.Shelf.disk c.args.shelf.now)
     (g.F.Shelf.disk c.serve_opened-end.new.shelf) (g.F.Shelf.disk_faults c.args.shelf.now) (g.F.Shelf.disk_faults c.serve_opened-end.new.shelf))
     c.args.registry.now.users.now g.L.D.Door door_told c.in-Ok.doors.items
@@ -91,8 +91,14 @@ pub returns-clause-unheard : goal.returns-clause-unheard
 returns-clause-unheard g c links_told same =
     absurd (not_longer _ _ (sym (c.take_back_all.ensures.listened links_told ∙ c.in-Ok.ensures.listened links_told) ∙ same))
 
-pub returns-clause-mirror : goal.returns-clause-mirror
-returns-clause-mirror g c = c.take_back_all.ensures.mirror ∙ c.in-Ok.ensures.mirror
+pub returns-clause-dialling : goal.returns-clause-dialling
+returns-clause-dialling g c = c.take_back_all.ensures.dialling ∙ c.in-Ok.ensures.dialling
+
+pub returns-clause-exchanged : goal.returns-clause-exchanged
+returns-clause-exchanged g c links_told = c.take_back_all.ensures.exchanged links_told ∙ c.in-Ok.ensures.exchanged links_told
+
+pub returns-clause-exchange_faults : goal.returns-clause-exchange_faults
+returns-clause-exchange_faults g c = λ name. c.take_back_all.ensures.exchange_faults name ∙ c.in-Ok.ensures.exchange_faults name
 
 pub returns-clause-few_ended : goal.returns-clause-few_ended
 returns-clause-few_ended g c =

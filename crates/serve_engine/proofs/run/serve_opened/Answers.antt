@@ -10,7 +10,7 @@ use Rattle.serve_engine.specs.Serving.{HaveServed, EndsDoors, IsDone, IsBroken}
 use Rattle.serve_engine.specs.Served.{Served}
 use Rattle.serve_engine.specs.Sharing.{seat_member, IsServedAt}
 use Rattle.serve_engine.proofs.Apart.{served_still, apart_own}
-use Rattle.serve_engine.proofs.Histories.{broken_end, have_served, all_in_world, broke_at, later_on_seats, doors_many, doors_gave, doors_left}
+use Rattle.serve_engine.proofs.Histories.{broken_end, have_served, all_in_world, broke_at, later_on_seats, own_on_seats, doors_many, doors_gave, doors_left}
 use Rattle.serve_engine.proofs.Histories.{ended_at, failed_at, ends_at, own_from, all_told, AreReady, all_ready, served_can, served_returned}
 use Rattle.serve_engine.proofs.run.serve_opened.Given.{Over}
 use Rattle.serve_engine.proofs.run.serve_opened.Goals as goal
@@ -101,6 +101,11 @@ give_back-is_broken-requires-clause-out g c = (can g c).out
 
 pub give_back-is_broken-requires-clause-later : goal.give_back-is_broken-requires-clause-later
 give_back-is_broken-requires-clause-later g c = (can g c).later
+
+pub give_back-is_broken-requires-clause-own : goal.give_back-is_broken-requires-clause-own
+give_back-is_broken-requires-clause-own g c =
+    own_on_seats g.F.D.Disk.origin (g.F.Shelf.lent c.open_all.new.shelf).origin c.in-Ok-open_all.seats.items c.serve_seats-outcome.result.1.items
+    c.serve_seats-outcome.ensures.on c.in-Ok-open_all.ensures.own
 
 returned : (g : Over) (c : After-end_of g)
     → AllReturned (registered_journals c.args.registry.now.directory.now c.args.registry.now.users.now) (g.F.Shelf.disk c.args.shelf.now)

@@ -22,7 +22,9 @@ loop-door-init g c = record {
   at_hand = λ t. omega arith;
   back = λ t. sym (append-nil (g.L.Links.back c.args.links.now));
   listened = λ t. refl;
-  mirror = refl;
+  dialling = refl;
+  exchanged = λ t. refl;
+  exchange_faults = λ name. refl;
   later = omega arith;
   failed = λ none. absurd none;
 }
@@ -49,7 +51,9 @@ loop-door-preserved g c =
       at_hand = λ t. sum_more g.L.D.Door.left c.loop-door.yielded c.in-Some.door _ _ _ (so_far.at_hand t) (back.at_hand t);
       listened = λ t. back.listened t ∙ so_far.listened t;
       back = λ t. flat_more g.L.D.Door.back c.loop-door.yielded c.in-Some.door _ _ _ (so_far.back t) (back.back t);
-      mirror = back.mirror ∙ so_far.mirror;
+      dialling = back.dialling ∙ so_far.dialling;
+      exchanged = λ t. back.exchanged t ∙ so_far.exchanged t;
+      exchange_faults = λ name. back.exchange_faults name ∙ so_far.exchange_faults name;
       later = omega (arith, before, after);
       failed = failed_more g.L.D.Door.faults c.loop-door.yielded c.in-Some.door _ _ _ before after so_far.failed back.failed;
     }

@@ -2,6 +2,7 @@ use Rattle.std.proofs.Common.{◌≡◌, ◌+◌, ◌-◌, ◌++◌, ◌≤◌, 
 use Rattle.std.specs.List.{sum_by, flat_map}
 use Rattle.std.specs.Vec.Iter.{into_iter_items}
 use Rattle.outside.specs.Faults.{Rose}
+use Rattle.outside.specs.Shelf.{SameNames}
 use Rattle.outside.specs.Visits.{one_if_any}
 use Rattle.serve_engine.specs.Doors.{SomeFailed}
 use Rattle.serve_engine.proofs.run.take_back_all.Given as goal
@@ -17,7 +18,9 @@ invariant-loop-door g l = record {
   at_hand : g.L.Links.tells → g.L.Links.at_hand l.links ≡ g.L.Links.at_hand l.fn.links + sum_by g.L.D.Door.left l.yielded;
   back : g.L.Links.tells → g.L.Links.back l.links ≡ g.L.Links.back l.fn.links ++ flat_map g.L.D.Door.back l.yielded;
   listened : g.L.Links.tells → g.L.Links.listened l.links ≡ g.L.Links.listened l.fn.links;
-  mirror : g.L.Links.mirror l.links ≡ g.L.Links.mirror l.fn.links;
+  dialling : g.L.Links.dialling l.links ≡ g.L.Links.dialling l.fn.links;
+  exchanged : g.L.Links.tells → g.L.Links.exchanged l.links ≡ g.L.Links.exchanged l.fn.links;
+  exchange_faults : SameNames (g.L.Links.exchange_faults l.fn.links) (g.L.Links.exchange_faults l.links);
   later : g.L.Links.faults l.fn.links ≤ g.L.Links.faults l.links;
   failed : SomeFailed g.L.D.Door.faults l.yielded → Rose (g.L.Links.faults l.fn.links) (g.L.Links.faults l.links);
 }

@@ -10,8 +10,9 @@ use Rattle.standby_core.proofs.serve.serve_standby.Goals as goal
 pub loop-init : goal.loop-init
 loop-init g c = record {
   so_far = λ source disk sink. record { answers = []; took = none; written = sym (append-nil (g.K.Sink.written c.args.sink.now)) };
-  lasts = λ disk own firsts all. all;
+  lasts = λ disk own disks all. all;
   names = refl;
+  origins = refl;
   counted = λ counts all. all;
   read_later = omega arith;
   write_later = omega arith;
@@ -36,8 +37,9 @@ loop-preserved g c =
           (subst (λ o. Reads o c.args.header.now (g.S.Source.left c.loop.source) (g.S.Source.left c.read_frame.new.source) c.read_frame.new.room)
           c.in-Whole.is (c.read_frame.ensures.reads source))
           (c.in-Ok.ensures.took disk sink);
-      lasts = λ disk own firsts all. taken.lasts disk own firsts (before.lasts disk own firsts all);
+      lasts = λ disk own disks all. taken.lasts disk own disks (before.lasts disk own disks all);
       names = taken.names ∙ before.names;
+      origins = taken.origins ∙ before.origins;
       counted = λ counts all. taken.counted counts (before.counted counts all);
       read_later = omega (arith, before.read_later, c.read_frame.ensures.later);
       write_later = omega (arith, before.write_later, taken.write_later);
@@ -119,10 +121,13 @@ returns-in-Err-clause-serves g c source disk sink =
     (c.in-Err.ensures.took disk sink)
 
 pub returns-in-Err-clause-lasts : goal.returns-in-Err-clause-lasts
-returns-in-Err-clause-lasts g c disk own firsts all = c.take_frame.ensures.lasts disk own firsts (c.loop.invariant.lasts disk own firsts all)
+returns-in-Err-clause-lasts g c disk own disks all = c.take_frame.ensures.lasts disk own disks (c.loop.invariant.lasts disk own disks all)
 
 pub returns-in-Err-clause-names : goal.returns-in-Err-clause-names
 returns-in-Err-clause-names g c = c.take_frame.ensures.names ∙ c.loop.invariant.names
+
+pub returns-in-Err-clause-origins : goal.returns-in-Err-clause-origins
+returns-in-Err-clause-origins g c = c.take_frame.ensures.origins ∙ c.loop.invariant.origins
 
 pub returns-in-Err-clause-counted : goal.returns-in-Err-clause-counted
 returns-in-Err-clause-counted g c counts all = c.take_frame.ensures.counted counts (c.loop.invariant.counted counts all)

@@ -1,7 +1,6 @@
 use Rattle.std.proofs.Common.{◌≡◌, ◌≤◌, ℕ, List, map}
-use Rattle.log_journal.specs.Records.{Recorded}
 use Rattle.standby_core.specs.Books.{copies_in}
-use Rattle.standby_core.specs.Copies.{held_name}
+use Rattle.standby_core.specs.Copies.{held_name, held_origin}
 use Rattle.standby_core.specs.Lasting.{AllLast, AllCounted}
 use Rattle.standby_core.proofs.Serving.{SoFar}
 use Rattle.standby_core.proofs.serve.serve_standby.Given as goal
@@ -12,9 +11,10 @@ invariant-loop g l = record {
   so_far : g.S.Source.tells → g.D.Disk.tells → g.K.Sink.tells
       → SoFar l.header (g.S.Source.left l.fn.source) (copies_in g.D.Disk.reads l.fn.book) (g.S.Source.left l.source) (copies_in g.D.Disk.reads l.book)
       (g.K.Sink.written l.fn.sink) (g.K.Sink.written l.sink);
-  lasts : g.D.Disk.tells → (own : List ℕ) (firsts : List (List Recorded)) → AllLast g.D.Disk.reads g.D.Disk.image own firsts l.fn.book.journals.items
-      → AllLast g.D.Disk.reads g.D.Disk.image own firsts l.book.journals.items;
+  lasts : g.D.Disk.tells → (own : List ℕ) (disks : List _) → AllLast g.D.Disk own disks l.fn.book.journals.items
+      → AllLast g.D.Disk own disks l.book.journals.items;
   names : map held_name l.book.journals.items ≡ map held_name l.fn.book.journals.items;
+  origins : map (held_origin g.D.Disk.origin) l.book.journals.items ≡ map (held_origin g.D.Disk.origin) l.fn.book.journals.items;
   counted : (counts : List ℕ) → AllCounted g.D.Disk.faults counts l.fn.book.journals.items → AllCounted g.D.Disk.faults counts l.book.journals.items;
   read_later : g.S.Source.faults l.fn.source ≤ g.S.Source.faults l.source;
   write_later : g.K.Sink.faults l.fn.sink ≤ g.K.Sink.faults l.sink;

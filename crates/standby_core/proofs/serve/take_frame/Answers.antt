@@ -74,7 +74,8 @@ returns-in-Err-clause-took g c disk sink =
       in_room g (goal.at.returns-in-Err-clause-took g c).In-Frame,
       (
         refused_for old one c.in-Err.why of.unknown.0 of.broken of.next,
-        refused_leaves old new one c.in-Err.why (λ is. ap (copies_in g.D.Disk.reads) (of.refused is)) of.alone of.untouched of.memory,
+        refused_leaves old new one c.in-Err.why (λ is. ap (copies_in g.D.Disk.reads) (of.refused is)) (of.alone disk) of.untouched
+            of.memory,
         refl,
       ),
     )

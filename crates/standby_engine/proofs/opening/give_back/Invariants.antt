@@ -12,6 +12,7 @@ invariant-loop-given g l = record {
       (g.F.Shelf.disk_faults l.fn.shelf)
       l.all.items (g.F.Shelf.disk l.shelf) (g.F.Shelf.is_out l.shelf) (g.F.Shelf.disk_faults l.shelf);
   faults : g.F.Shelf.faults l.shelf ≡ g.F.Shelf.faults l.fn.shelf;
+  lent : g.F.Shelf.lent l.shelf ≡ g.F.Shelf.lent l.fn.shelf;
   looked : g.F.Shelf.looked l.shelf ≡ g.F.Shelf.looked l.fn.shelf;
   files : SameNames (g.F.Shelf.file l.fn.shelf) (g.F.Shelf.file l.shelf);
 }

@@ -1,4 +1,5 @@
 use Rattle.std.proofs.Common.{[], List, map, arith}
+use Rattle.std.proofs.lemmas.List.{length-map}
 use Rattle.log_journal.specs.Opening.{header_bytes, recorded}
 use Rattle.log_journal.specs.Records.{Recorded}
 use Rattle.standby_engine.proofs.Begun.{lasts_first}
@@ -11,7 +12,8 @@ returns-in-Ok-clause-opened g c = λ told.
       first,
       (
         is.opened told,
-        lasts_first g.D.Disk.reads g.D.Disk.image (header_bytes c.args.header.now) first (g.D.Disk.reads c.args.disk) _ (is.opened told) is.reads is.durable,
+        lasts_first g.D.Disk g.met.D.Disk.counts_now g.met.D.Disk.only_now (header_bytes c.args.header.now) first (g.D.Disk.reads c.args.disk) _ _
+            c.len-count.result _ (is.opened told) is.reads is.durable (omega (arith, c.len-count.ensures, length-map c.in-Ok.records.items recorded)),
       ),
     )
 

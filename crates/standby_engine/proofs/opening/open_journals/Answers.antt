@@ -1,14 +1,15 @@
 use Rattle.std.proofs.Common.{◌≡◌, ◌+◌, length, refl, sym, ap, subst, ◌∙◌, arith}
 use Rattle.std.specs.Prelude.{Err, string_bytes}
 use Rattle.std.proofs.lemmas.List.{take_all}
-use Rattle.outside.specs.Shelf.{AllOut}
+use Rattle.outside.specs.Shelf.{Lent, AllOut}
 use Rattle.outside.proofs.Rises.{rose_wide}
 use Rattle.cqe_base.specs.Schema.{has_duplicate}
 use Rattle.log_journal.specs.Names.{journal_name}
 use Rattle.log_journal.specs.Opening.{header_bytes}
 use Rattle.desk_crew.specs.Registered.{registered_journals}
 use Rattle.desk_crew.proofs.Giving.{AreUnopened}
-use Rattle.standby_engine.specs.Opened.{ArePlacesOf}
+use Rattle.standby_engine.specs.Opened.{place_journal, ArePlacesOf, AreOwn, PlacesOwn}
+use Rattle.standby_engine.proofs.Owning.{place_more, own_disks}
 use Rattle.standby_engine.specs.declared.opening.NotOpened.TheVariants.{Shelf}
 use Rattle.standby_engine.proofs.Places.{Opening, StaysBut, opening_none, opening_distinct, opening_out, opening_beside, opening_in, opening_more, opening_back}
 use Rattle.standby_engine.proofs.Returning.{stays_same}
@@ -69,6 +70,13 @@ give_back-requires-clause-out g c =
     c.law_journals_differ.ensures c.args.users.now c.requires.distinct c.loop-user.user-index c.loop-user.places.items
     (g.F.Shelf.disk c.loop-user.shelf) (g.F.Shelf.is_out c.loop-user.shelf) (g.F.Shelf.disk_faults c.loop-user.shelf) c.loop-user.invariant.opening
     (g.F.Shelf.is_out c.open_one.new.shelf) (stays g (goal.at.give_back-requires-clause-out g c).In-Err).out)
+
+pub give_back-requires-clause-own : goal.give_back-requires-clause-own
+give_back-requires-clause-own g c =
+    subst (λ (l : Lent). AreOwn g.F.D.Disk.origin l.origin c.disks_of-back.result.items)
+    (sym (c.open_one.ensures.lent ∙ c.loop-user.invariant.lent))
+    (own_disks g.F.D.Disk.origin (g.F.Shelf.lent c.args.shelf.now).origin c.loop-user.places.items c.disks_of-back.result.items
+    c.disks_of-back.ensures.names c.disks_of-back.ensures.disks c.loop-user.invariant.own)
 
 -- and then all disks are as they were
 left : (g : Over) (c : After-give_back g)
@@ -152,6 +160,10 @@ loop-user-preserved g c =
       room = omega (arith, room, space);
       count = omega (arith, count, grown);
       later = omega (arith, before, on);
+      own = subst (PlacesOwn g.F.D.Disk.origin (g.F.Shelf.lent c.args.shelf.now).origin) (sym c.push_reserved.ensures.items)
+          (place_more g.F.D.Disk.origin (g.F.Shelf.lent c.args.shelf.now).origin c.loop-user.places.items c.in-Ok.place so_far.own
+          (c.in-Ok.ensures.own ∙ ap (λ (l : Lent). l.origin (place_journal c.in-Ok.place)) so_far.lent));
+      lent = c.open_one.ensures.lent ∙ so_far.lent;
       looked = c.open_one.ensures.looked ∙ so_far.looked;
       files = λ name. c.open_one.ensures.files name ∙ so_far.files name;
     }
@@ -168,6 +180,8 @@ loop-user-init g c =
       room = omega (arith, room);
       count = omega (arith, len, none);
       later = omega arith;
+      own = subst (PlacesOwn g.F.D.Disk.origin (g.F.Shelf.lent c.args.shelf.now).origin) (sym c.in-Ok-Ok.ensures.empty) refl;
+      lent = refl;
       looked = refl;
       files = λ name. refl;
     }
@@ -179,6 +193,10 @@ returns-clause-opened g c =
     subst (λ us. ArePlacesOf g.F.Shelf.tells g.F.D.Disk (header_bytes c.args.header.now) c.args.directory.now (g.F.Shelf.disk c.args.shelf.now)
     (g.F.Shelf.disk_faults c.args.shelf.now) us c.loop-user.places.items)
     (take_all c.loop-user.user-index c.args.users.now (omega (arith, c.loop-user-test.false))) c.loop-user.invariant.opening.are
+
+pub returns-clause-own : goal.returns-clause-own
+returns-clause-own g c =
+    subst (λ (l : Lent). PlacesOwn g.F.D.Disk.origin l.origin c.loop-user.places.items) (sym c.loop-user.invariant.lent) c.loop-user.invariant.own
 
 pub returns-clause-out : goal.returns-clause-out
 returns-clause-out g c = c.loop-user.invariant.opening.out

@@ -2,6 +2,7 @@ use Rattle.std.proofs.Common.{◌≡◌, ◌≤◌, length}
 use Rattle.std.specs.Prelude.{vec_len, vec_capacity}
 use Rattle.outside.specs.Shelf.{SameNames}
 use Rattle.log_journal.specs.Opening.{header_bytes}
+use Rattle.standby_engine.specs.Opened.{PlacesOwn}
 use Rattle.standby_engine.proofs.Places.{Opening}
 use Rattle.standby_engine.proofs.opening.open_journals.Given as goal
 
@@ -13,6 +14,8 @@ invariant-loop-user g l = record {
   room : length l.users ≤ vec_capacity l.places;
   count : vec_len l.places ≡ l.user-index;
   later : g.F.Shelf.faults l.fn.shelf ≤ g.F.Shelf.faults l.shelf;
+  own : PlacesOwn g.F.D.Disk.origin (g.F.Shelf.lent l.fn.shelf).origin l.places.items;
+  lent : g.F.Shelf.lent l.shelf ≡ g.F.Shelf.lent l.fn.shelf;
   looked : g.F.Shelf.looked l.shelf ≡ g.F.Shelf.looked l.fn.shelf;
   files : SameNames (g.F.Shelf.file l.fn.shelf) (g.F.Shelf.file l.shelf);
 }

@@ -1,6 +1,6 @@
 use Rattle.std.proofs.Common.{◌≡◌, Some, sym, ap, subst, ◌∙◌, arith}
 use Rattle.std.specs.Prelude.{string_bytes}
-use Rattle.outside.specs.Shelf.{IsTaken}
+use Rattle.outside.specs.Shelf.{Lent, IsTaken}
 use Rattle.standby_engine.proofs.Returning.{others_then, in_again, fell_none, stays_same, stays_given}
 use Rattle.standby_engine.proofs.opening.open_named.Given.{Over}
 use Rattle.standby_engine.proofs.opening.open_named.Goals as goal
@@ -43,6 +43,11 @@ returns-then-has_memory-clause-opened g c =
       only = held.only;
     }
 
+pub returns-then-has_memory-clause-own : goal.returns-then-has_memory-clause-own
+returns-then-has_memory-clause-own g c =
+    c.open_held-place.ensures.origin ∙ c.in-Ok.ensures.origin
+    ∙ ap (g.F.Shelf.lent c.args.shelf.now).origin (c.as_str.ensures.value ∙ sym c.open_held-place.ensures.journal)
+
 pub returns-then-has_memory-clause-fell : goal.returns-then-has_memory-clause-fell
 returns-then-has_memory-clause-fell g c name = let same = c.take_disk.ensures.disk_faults name in omega (arith, same)
 
@@ -52,11 +57,17 @@ returns-then-has_memory-clause-fell g c name = let same = c.take_disk.ensures.di
 named : (g : Over) (c : After-as_str-2 g) → c.as_str-2.result.now ≡ string_bytes c.args.journal
 named g c = c.as_str-2.ensures.value ∙ c.into_given-back.ensures.name ∙ c.open_held-place.ensures.journal
 
-pub give_disk-requires : goal.give_disk-requires
-give_disk-requires g c =
+pub give_disk-requires-clause-out : goal.give_disk-requires-clause-out
+give_disk-requires-clause-out g c =
     let taken = c.as_str.ensures.value in
     ap (g.F.Shelf.is_out c.take_disk.new.self)
     (c.as_str-2.ensures.value ∙ c.into_given-back.ensures.name ∙ c.open_held-place.ensures.journal ∙ sym taken) ∙ c.in-Ok.ensures.out
+
+pub give_disk-requires-clause-own : goal.give_disk-requires-clause-own
+give_disk-requires-clause-own g c =
+    let same = named g (goal.at.give_disk-requires-clause-own g c).After-as_str-2 ∙ sym c.as_str.ensures.value in
+    ap g.F.D.Disk.origin c.into_given-back.ensures.disk ∙ c.open_held-place.ensures.origin ∙ c.in-Ok.ensures.origin
+    ∙ ap (g.F.Shelf.lent c.args.shelf.now).origin (sym same) ∙ ap (λ (l : Lent). l.origin c.as_str-2.result.now) (sym c.take_disk.ensures.lent)
 
 pub returns-clause-others_out : goal.returns-clause-others_out
 returns-clause-others_out g c =

@@ -137,8 +137,14 @@ returns-clause-out g c =
     let taken = c.take_back.ensures.out in
     omega (arith, heard, taken)
 
-pub returns-clause-mirror : goal.returns-clause-mirror
-returns-clause-mirror g c = c.take_back.ensures.mirror ∙ c.in-Ok.ensures.mirror
+pub returns-clause-dialling : goal.returns-clause-dialling
+returns-clause-dialling g c = c.take_back.ensures.dialling ∙ c.in-Ok.ensures.dialling
+
+pub returns-clause-exchanged : goal.returns-clause-exchanged
+returns-clause-exchanged g c links_told = c.take_back.ensures.exchanged links_told ∙ c.in-Ok.ensures.exchanged links_told
+
+pub returns-clause-exchange_faults : goal.returns-clause-exchange_faults
+returns-clause-exchange_faults g c = λ name. c.take_back.ensures.exchange_faults name ∙ c.in-Ok.ensures.exchange_faults name
 
 pub returns-clause-links_later : goal.returns-clause-links_later
 returns-clause-links_later g c =

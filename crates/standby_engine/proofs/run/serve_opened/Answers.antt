@@ -9,14 +9,15 @@ use Rattle.desk_crew.specs.Registered.{registered_journals}
 use Rattle.desk_crew.specs.Shelved.{journals_by}
 use Rattle.desk_crew.proofs.Lasting.{keeps_same, keeps_all}
 use Rattle.desk_crew.proofs.Giving.{AllReturned}
-use Rattle.standby_core.specs.Copies.{held_name, copy_in}
+use Rattle.standby_core.specs.Copies.{held_name, held_origin, copy_in}
 use Rattle.standby_core.specs.Lasting.{AllLast, AllCounted, has_broken}
 use Rattle.standby_core.specs.declared.book.Held.{Held}
-use Rattle.standby_engine.specs.Opened.{place_refusal, given_journal, journals_in}
+use Rattle.standby_engine.specs.Opened.{place_refusal, given_journal, journals_in, AreOwn}
 use Rattle.standby_engine.specs.Standing.{LeavesCopies, AreCopied, AreCopiesOf, EndsCopying, IsServed, IsBroken}
 use Rattle.standby_engine.specs.declared.opening.Given.{Given as Back}
+use Rattle.standby_engine.proofs.Owning.{own_both, own_apart, origins_of}
 use Rattle.standby_engine.proofs.Parting.{each_parted, names_many}
-use Rattle.standby_engine.proofs.Mirroring.{parted, held_disk, firsts_of, counts_of, places_many, first_lasts, first_counted}
+use Rattle.standby_engine.proofs.Mirroring.{parted, held_disk, counts_of, places_many, first_lasts, first_counted}
 use Rattle.standby_engine.proofs.Mirroring.{first_sound, can_distinct, can_out}
 use Rattle.standby_engine.proofs.Mirroring.{all_returned, AreBack, are_back, fell_all, some_failed, rose_of, all_copied, all_served, failed_same}
 use Rattle.standby_engine.proofs.Ending.{ended_at, failed_at, broken_at, leaves_at, serves_at}
@@ -149,6 +150,20 @@ give_back-requires-clause-out g c =
     (c.put_together-all.ensures.names ∙ (λ i. map given_journal (c.take_apart-journals.ensures.others i) ++ c.take_apart-journals.ensures.names i))
     (g.F.Shelf.is_out c.open_journals.new.shelf) c.in-Ok-open_journals.ensures.out
 
+pub give_back-requires-clause-own : goal.give_back-requires-clause-own
+give_back-requires-clause-own g c =
+    let origin = g.F.D.Disk.origin in
+    let known = (g.F.Shelf.lent c.open_journals.new.shelf).origin in
+    let apart = own_apart origin known c.in-Ok-open_journals.places.items c.in-Ok-open_journals.ensures.own in
+    let closed = ap (λ (v : Vec (Held _ _) Global). map (held_origin origin) v.items) c.close-journals.ensures.same in
+    let began = ap (λ (v : Vec (Held _ _) Global). map (held_origin origin) v.items) c.new-book.ensures
+    ∙ ap (map (held_origin origin)) c.take_apart-journals.ensures.journals in
+    own_both origin known c.put_together-all.result.0.items c.take_apart-journals.result.2.items (map held_disk c.close-journals.result.items)
+    (map string_bytes c.take_apart-journals.result.1.items) c.put_together-all.ensures.disks c.put_together-all.ensures.names
+    (subst (AreOwn origin known) (sym c.take_apart-journals.ensures.others) apart.1)
+    (origins_of origin known c.close-journals.result.items ∙ closed ∙ c.serve_door-end.ensures.origins ∙ began ∙ apart.0
+    ∙ ap (map known) (sym c.take_apart-journals.ensures.names))
+
 -- ---- what is left
 
 -- the names and the disks that went back
@@ -219,18 +234,13 @@ pub returns-clause-other_counts : goal.returns-clause-other_counts
 returns-clause-other_counts g c = (returned g c).other_counts
 
 -- each journal that was opened lasts
-lasts : (g : Over) (c : After-end_of g) (told : g.F.D.Disk.tells)
-    → AllLast g.F.D.Disk.reads g.F.D.Disk.image (header_bytes c.args.header.now)
-    (firsts_of c.args.directory.now (header_bytes c.args.header.now) g.F.Shelf.tells g.F.D.Disk (g.F.Shelf.disk c.args.shelf.now)
-    (g.F.Shelf.disk_faults c.args.shelf.now)
-    told c.args.users.now c.in-Ok-open_journals.places.items c.in-Ok-open_journals.ensures.opened) c.close-journals.result.items
+lasts : (g : Over) (c : After-end_of g) → g.F.D.Disk.tells
+    → AllLast g.F.D.Disk (header_bytes c.args.header.now) (map held_disk (journals_in c.in-Ok-open_journals.places.items)) c.close-journals.result.items
 lasts g c told =
     let own = header_bytes c.args.header.now in
-    let firsts = firsts_of c.args.directory.now (header_bytes c.args.header.now) g.F.Shelf.tells g.F.D.Disk (g.F.Shelf.disk c.args.shelf.now)
-    (g.F.Shelf.disk_faults c.args.shelf.now)
-    told c.args.users.now c.in-Ok-open_journals.places.items c.in-Ok-open_journals.ensures.opened in
-    subst (λ (v : Vec _ Global). AllLast g.F.D.Disk.reads g.F.D.Disk.image own firsts v.items) (sym c.close-journals.ensures.same)
-    (c.serve_door-end.ensures.lasts told own firsts (subst (AllLast g.F.D.Disk.reads g.F.D.Disk.image own firsts) (sym (began g c))
+    let disks = map held_disk (journals_in c.in-Ok-open_journals.places.items) in
+    subst (λ (v : Vec _ Global). AllLast g.F.D.Disk own disks v.items) (sym c.close-journals.ensures.same)
+    (c.serve_door-end.ensures.lasts told own disks (subst (AllLast g.F.D.Disk own disks) (sym (began g c))
     (first_lasts c.args.directory.now (header_bytes c.args.header.now) g.F.Shelf.tells g.F.D.Disk (g.F.Shelf.disk c.args.shelf.now)
     (g.F.Shelf.disk_faults c.args.shelf.now)
     told c.args.users.now c.in-Ok-open_journals.places.items c.in-Ok-open_journals.ensures.opened)))
@@ -256,8 +266,8 @@ returns-clause-serves g c shelf_told door_told =
     (map (copy_in reads) c.close-journals.result.items) =
     all_served c.args.directory.now (header_bytes c.args.header.now) g.F.Shelf.tells g.F.D.Disk (g.F.Shelf.disk c.args.shelf.now)
     (g.F.Shelf.disk_faults c.args.shelf.now)
-    (g.F.Shelf.disk c.give_back.new.shelf) (g.F.Shelf.disk_faults c.give_back.new.shelf) shelf_told disk_told
-    (λ (held : Held _ _) whole. held.journal.durable whole) (λ (held : Held _ _) whole. held.journal.counted whole disk_told)
+    (g.F.Shelf.disk c.give_back.new.shelf) (g.F.Shelf.disk_faults c.give_back.new.shelf) shelf_told disk_told g.met.F.D.Disk.counts_now
+    g.met.F.D.Disk.only_now (λ (held : Held _ _) whole. held.journal.counted whole disk_told)
     users places c.in-Ok-open_journals.ensures.opened c.close-journals.result.items (back g c) (lasts g c disk_told) named in
     let of_book : AreCopiesOf own journals users c.refusals_of-refusals.result.items (map (copy_in reads) c.new-book.result.journals.items)
     (map (copy_in reads) c.serve_door-end.new.book.journals.items) =
@@ -295,8 +305,8 @@ returns-clause-journals g c shelf_told =
     (subst (AreCopied own journals c.args.users.now) (sym (refused g c))
     (all_copied c.args.directory.now (header_bytes c.args.header.now) g.F.Shelf.tells g.F.D.Disk (g.F.Shelf.disk c.args.shelf.now)
     (g.F.Shelf.disk_faults c.args.shelf.now)
-    (g.F.Shelf.disk c.give_back.new.shelf) (g.F.Shelf.disk_faults c.give_back.new.shelf) shelf_told disk_told c.args.users.now
-    c.in-Ok-open_journals.places.items
+    (g.F.Shelf.disk c.give_back.new.shelf) (g.F.Shelf.disk_faults c.give_back.new.shelf) shelf_told disk_told g.met.F.D.Disk.counts_now
+    g.met.F.D.Disk.only_now c.args.users.now c.in-Ok-open_journals.places.items
     c.in-Ok-open_journals.ensures.opened c.close-journals.result.items (back g c) (lasts g c disk_told)))
     (λ broken. some_failed c.args.directory.now (header_bytes c.args.header.now) g.F.Shelf.tells g.F.D.Disk (g.F.Shelf.disk c.args.shelf.now)
     (g.F.Shelf.disk_faults c.args.shelf.now)

@@ -12,8 +12,9 @@ loop-init g c = record {
   served = λ told disk. none_served g.O.Door.given g.O.Door.back c.args.header.now (copies_in g.D.Disk.reads c.args.book.now) c.args.door.now;
   count = λ told. omega arith;
   left = λ told. refl;
-  lasts = λ disk own firsts all. all;
+  lasts = λ disk own disks all. all;
   names = refl;
+  origins = refl;
   counted = λ counts all. all;
   ends = refl;
   faults = omega arith;
@@ -67,8 +68,9 @@ loop-preserved g c =
         is_left told,
         is_given told,
       );
-      lasts = λ disk own firsts all. served.lasts disk own firsts (before.lasts disk own firsts all);
+      lasts = λ disk own disks all. served.lasts disk own disks (before.lasts disk own disks all);
       names = served.names ∙ before.names;
+      origins = served.origins ∙ before.origins;
       counted = λ counts all. served.counted counts (before.counted counts all);
       ends = c.done.ensures.ends ∙ no_end ∙ before.ends;
       faults = omega (arith, before.faults, c.done.ensures.faults, c.next.ensures.cause.later);

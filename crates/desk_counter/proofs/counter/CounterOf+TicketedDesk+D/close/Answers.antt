@@ -58,6 +58,7 @@ returns-clause-closed g c =
           known.refused (ap (λ (f : Fixed g.row.D.Denot). is_sealed f.standing) same ∙ sealed) ∙ ap (λ (f : Fixed g.row.D.Denot). f.disk) same;
       still = λ opened. closed_still desk kept pairs same history flies known.begins known.still opened.count opened.none;
       since = closed_since desk kept pairs same history flies g.D.Disk known.begins known.since;
+      comes = known.origin ∙ ap (λ (f : Fixed g.row.D.Denot). g.D.Disk.origin f.disk) same;
       time = subst (λ (f : Fixed g.row.D.Denot). Elapses (g.D.Disk.moment f.disk) (g.D.Disk.moment (desk_disk desk))
           (g.D.Disk.image_since f.disk) (g.D.Disk.image_since (desk_disk desk))) same known.time;
     }

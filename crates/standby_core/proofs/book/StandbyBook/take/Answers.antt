@@ -1,4 +1,4 @@
-use Rattle.std.proofs.Common.{◌≡◌, inl, true, Some, None, map, length, refl, sym, ap, subst, ◌∙◌, arith, option_map}
+use Rattle.std.proofs.Common.{◌≡◌, true, Some, None, map, length, refl, sym, ap, subst, ◌∙◌, arith, option_map}
 use Rattle.std.specs.Prelude.{bytes_eq, position, slice_set, string_bytes}
 use Rattle.std.specs.Cmp.Lexicographic.{same_text}
 use Rattle.std.proofs.lemmas.Result.{on_ok_weaker, IfOk-weaker}
@@ -7,7 +7,7 @@ use Rattle.outside.specs.Faults.{Rose}
 use Rattle.log_journal.specs.Journal.{disk_of, count_of}
 use Rattle.standby_core.specs.Copies.{copy_in, copy_at, copy_after, held_name, faults_held}
 use Rattle.standby_core.specs.Named.{first_named}
-use Rattle.standby_core.proofs.Booking.{copy_of, copies_set, copies_same, lasts_set, names_set, counted_set, broken_set, count_there, failed_there}
+use Rattle.standby_core.proofs.Booking.{copy_of, copies_set, copies_same, lasts_set, names_set, origins_set, counted_set, broken_set, count_there, failed_there}
 use Rattle.standby_core.proofs.Naming.{IsAt, Stands, found, not_found, still_named}
 use Rattle.standby_core.proofs.book.StandbyBook.take.Given.{Over}
 use Rattle.standby_core.proofs.book.StandbyBook.take.Goals as goal
@@ -94,14 +94,19 @@ returns-clause-taken g c told =
     (c.take.ensures.taken told)
 
 pub returns-clause-lasts : goal.returns-clause-lasts
-returns-clause-lasts g c told header firsts =
-    lasts_set g.D.Disk.reads g.D.Disk.image header (λ held. bytes_eq (held_name held) c.args.name.now) c.args.self.now.journals.items c.in-Some.place
-    c.index_mut-held.result.now c.take.new.self (stands_there g (goal.at.returns-clause-lasts g c).After-take) (c.take.ensures.lasts told header) firsts
+returns-clause-lasts g c told header disks =
+    lasts_set g.D.Disk header (λ held. bytes_eq (held_name held) c.args.name.now) c.args.self.now.journals.items c.in-Some.place
+    c.index_mut-held.result.now c.take.new.self (stands_there g (goal.at.returns-clause-lasts g c).After-take) (c.take.ensures.lasts told header) disks
 
 pub returns-clause-names : goal.returns-clause-names
 returns-clause-names g c =
     names_set (λ held. bytes_eq (held_name held) c.args.name.now) c.args.self.now.journals.items c.in-Some.place c.index_mut-held.result.now c.take.new.self
     (stands_there g (goal.at.returns-clause-names g c).After-take) (ap string_bytes c.take.ensures.name)
+
+pub returns-clause-origins : goal.returns-clause-origins
+returns-clause-origins g c =
+    origins_set g.D.Disk.origin (λ held. bytes_eq (held_name held) c.args.name.now) c.args.self.now.journals.items c.in-Some.place
+    c.index_mut-held.result.now c.take.new.self (stands_there g (goal.at.returns-clause-origins g c).After-take) c.take.ensures.origin
 
 pub returns-clause-counted : goal.returns-clause-counted
 returns-clause-counted g c counts =
@@ -161,18 +166,18 @@ returns-clause-next g c is =
     let at = (goal.at.returns-clause-next g c).After-take in
     (copy_in g.D.Disk.reads c.index_mut-held.result.now, copy_first g at, sym (c.take.ensures.next is))
 
--- all others stay
+-- it keeps its records, and all others stay
 pub returns-clause-alone : goal.returns-clause-alone
-returns-clause-alone g c is =
+returns-clause-alone g c told is =
     let at = (goal.at.returns-clause-alone g c).After-take in
     let journals = c.args.self.now.journals.items in
     let set = slice_set journals c.in-Some.place c.take.new.self in
     let named = still_named held_name c.args.name.now journals c.in-Some.place c.index_mut-held.result.now c.take.new.self (it_is g at)
     c.index_mut-held.ensures.value (ap string_bytes c.take.ensures.name) in (
       (
-        copy_in g.D.Disk.reads c.take.new.self,
-        copy_of g.D.Disk.reads c.args.name.now set ∙ ap (option_map (copy_in g.D.Disk.reads)) (set_first g at),
-        c.take.ensures.broke (inl is),
+        copy_in g.D.Disk.reads c.index_mut-held.result.now,
+        copy_first g at,
+        copy_of g.D.Disk.reads c.args.name.now set ∙ ap (option_map (copy_in g.D.Disk.reads)) (set_first g at) ∙ ap Some (c.take.ensures.failed told is),
       ),
       λ other differs. copy_of g.D.Disk.reads other set
           ∙ ap (option_map (copy_in g.D.Disk.reads)) ((it_is g at).others c.take.new.self named other differs)

@@ -1,8 +1,8 @@
-use Rattle.std.proofs.Common.{◌+◌, sym, subst}
+use Rattle.std.proofs.Common.{◌+◌, sym, ap, subst, ◌∙◌}
 use Rattle.outside.specs.Disk.{Elapses}
 use Rattle.outside.specs.Faults.{HasCause}
 use Rattle.outside.proofs.Moments.{elapses_none}
-use Rattle.standby_core.specs.MirroredDisks.{inner_of, mirror_of, faults_by}
+use Rattle.standby_core.specs.MirroredDisks.{inner_of, mirror_of, faults_by, origin_with}
 use Rattle.standby_core.proofs.Causes.{cause_behind}
 use Rattle.standby_core.proofs.mirrored_disk.MirroredDiskDisk.tell.Goals as goal
 
@@ -25,3 +25,8 @@ returns-clause-cause g c =
     let now = faults_by g.C.Dial.faults (mirror_of c.ask.new.self) in
     subst (λ d. HasCause (g.D.Disk.faults disk + before) (g.D.Disk.faults d + now) c.ask.result) (sym c.ask.ensures.inner)
     (cause_behind (g.D.Disk.faults disk) before now c.ask.result c.ask.ensures.cause)
+
+pub returns-clause-origin : goal.returns-clause-origin
+returns-clause-origin g c =
+    c.ask.ensures.origin (g.D.Disk.origin (inner_of c.ask.new.self))
+    ∙ ap (λ d. origin_with g.C.Dial.name g.C.Dial.address (mirror_of c.args.self.now) (g.D.Disk.origin d)) c.ask.ensures.inner

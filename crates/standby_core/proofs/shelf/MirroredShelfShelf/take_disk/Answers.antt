@@ -1,9 +1,10 @@
-use Rattle.std.proofs.Common.{◌≡◌, ◌+◌, Some, sym, ap, subst, ◌∙◌}
+use Rattle.std.proofs.Common.{◌≡◌, ◌+◌, ◌++◌, Some, sym, ap, subst, ◌∙◌}
 use Rattle.std.specs.Prelude.{is_some}
 use Rattle.outside.specs.Shelf.{IsTaken}
-use Rattle.standby_core.specs.MirroredDisks.{inner_of, mirror_of, faults_by}
+use Rattle.standby_core.specs.MirroredDisks.{inner_of, mirror_of, faults_by, origin_with}
+use Rattle.standby_core.specs.Mirrors.{texts_of}
 use Rattle.standby_core.specs.Places.{faults_in, mirror_in}
-use Rattle.standby_core.specs.Slots.{place_at, mirrored_at}
+use Rattle.standby_core.specs.Slots.{place_at, mirrored_at, mirrored_lent, with_made}
 use Rattle.standby_core.proofs.Slotting.{new_is, restored, taken_count, taken_mirrored}
 use Rattle.standby_core.proofs.shelf.MirroredShelfShelf.take_disk.Goals as goal
 
@@ -21,7 +22,27 @@ pub returns-in_default-clause-refused_disks : goal.returns-in_default-clause-ref
 returns-in_default-clause-refused_disks g c name =
     λ i. mirrored_at (g.F.Shelf.disk c.args.self.now.shelf.now name) (c.in_default.ensures.none name i)
 
+pub returns-in_default-clause-lent : goal.returns-in_default-clause-lent
+returns-in_default-clause-lent g c =
+    λ i. mirrored_lent c.args.self.now.shelf.ghost_name c.args.self.now.mirrors.ghost_name (c.take.ensures.made.all i)
+    (λ wanted. c.take.ensures.made.each wanted i) (g.F.Shelf.lent c.args.self.now.shelf.now)
+
 -- ---- a disk that was taken
+
+pub returns-in-Ok-clause-lent : goal.returns-in-Ok-clause-lent
+returns-in-Ok-clause-lent g c =
+    λ i. mirrored_lent c.args.self.now.shelf.ghost_name c.args.self.now.mirrors.ghost_name (c.take.ensures.made.all i)
+    (λ wanted. c.take.ensures.made.each wanted i) (c.take_disk.ensures.lent i)
+
+-- it comes from where its mirror and the disk below do
+pub returns-in-Ok-clause-origin : goal.returns-in-Ok-clause-origin
+returns-in-Ok-clause-origin g c =
+    let name = c.args.name.now in
+    let own = g.C.Dial.name in
+    let address = g.C.Dial.address in
+    ap (λ d. origin_with own address (mirror_of d) (g.F.D.Disk.origin (inner_of d))) c.new.ensures
+    ∙ ap (λ below. texts_of own address c.in-Some.mirror ++ below) c.in-Ok.ensures.origin
+    ∙ sym (ap (λ made. with_made made ((g.F.Shelf.lent c.args.self.now.shelf.now).origin name)) c.in-Some.ensures.own)
 
 pub returns-in-Ok-clause-taken : goal.returns-in-Ok-clause-taken
 returns-in-Ok-clause-taken g c = λ told.
@@ -55,6 +76,16 @@ returns-in-Ok-clause-disk_faults g c name =
     λ i. c.take_disk.ensures.disk_faults name i + same i
 
 -- ---- a refusal, behind which the mirror is back
+
+pub put_new-requires-clause-own : goal.put_new-requires-clause-own
+put_new-requires-clause-own g c = c.take.ensures.made.each c.args.name.now ∙ c.in-Some.ensures.own
+
+pub returns-in-Err-clause-lent : goal.returns-in-Err-clause-lent
+returns-in-Err-clause-lent g c =
+    (λ i. mirrored_lent c.args.self.now.shelf.ghost_name c.args.self.now.mirrors.ghost_name (c.put_new.ensures.made.all i)
+    (λ wanted. c.put_new.ensures.made.each wanted i) (c.take_disk.ensures.lent i))
+    ∙ (λ i. mirrored_lent c.args.self.now.shelf.ghost_name c.args.self.now.mirrors.ghost_name (c.take.ensures.made.all i)
+    (λ wanted. c.take.ensures.made.each wanted i) (g.F.Shelf.lent c.args.self.now.shelf.now))
 
 pub put_new-requires-clause-there : goal.put_new-requires-clause-there
 put_new-requires-clause-there g c = ap is_some c.in-Some.ensures.out

@@ -16,8 +16,11 @@ use Rattle.cqe_base.proofs.Truths.{true_is_not_false, list_any-false}
 use Rattle.cqe_base.proofs.Logs.{all_hold_in-both, all_hold_in-one}
 use Rattle.cqe_base.proofs.Marks.{lying_mark, refusal_mark, combined_mark}
 use Rattle.cqe_base.proofs.Worlds.{entails-true, entails-false}
-use Rattle.cqe_base.proofs.Secrets.{HasCountermodel}
-use Rattle.soundness.proofs.Guarding.{lying_guards_one}
+use Rattle.cqe_base.proofs.Guarding.{lying_guards_one}
+
+-- some world of the schema has the premises true and the sentence false
+abbrev pub HasCountermodel : DatabaseSchema → List Signed → Formula → Type 0
+HasCountermodel schema premises goal = (world : FactSet) × IsCountermodel schema premises (goal, true) world
 
 module _ (schema : DatabaseSchema) (user : UserProfile) (g : Formula) (guards : Contains (guarded user) g) where
   -- some world has the premises true and the guarded sentence false

@@ -18,7 +18,7 @@ use Rattle.cqe_base.proofs.Logs.{all_hold_in-second, holds_in-one, log-push, log
 use Rattle.cqe_base.proofs.Disjunctions.{first_disjunction_false}
 use Rattle.cqe_base.proofs.Marks.{lying_again, refusal_again, combined_again}
 use Rattle.cqe_base.proofs.Worlds.{entails-true}
-use Rattle.soundness.proofs.Guarding.{lying_guards_one, the_one}
+use Rattle.cqe_base.proofs.Guarding.{lying_guards_one, the_one}
 
 module _ (schema : DatabaseSchema) (user : UserProfile) where
   -- the mark that the table gives where a probe counts as spent or not and the query has this truth value

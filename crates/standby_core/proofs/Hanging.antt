@@ -1,0 +1,171 @@
+-- Dials that are hung up, one after the other.
+use Rattle.std.proofs.Common.{◌≡◌, ℕ, suc, ◌+◌, Bool, true, false, Some}
+use Rattle.std.proofs.Common.{List, [], ◌∷◌, ◌++◌, length, map, get_or, refl, sym, ap, subst, ◌∙◌}
+use Rattle.std.proofs.Common.{arith, append_assoc, append-nil, All, option_map}
+use Rattle.std.specs.Prelude.{bytes_eq, if◌then◌else◌}
+use Rattle.std.specs.List.{AllByRecursion}
+use Rattle.std.specs.Cmp.Lexicographic.{same_text}
+use Rattle.std.proofs.lemmas.Bool.{or_parts}
+use Rattle.std.proofs.lemmas.List.Elements.{recursion_from_All}
+use Rattle.std.proofs.lemmas.List.Sums.{sum_by-cons, sum_by-append}
+use Rattle.cqe_base.specs.Schema.{contains_text, has_duplicate}
+use Rattle.outside.specs.Dials.{Exchange, faults_for}
+use Rattle.outside.specs.Shelf.{SameOthers}
+use Rattle.standby_core.specs.Calls.{IsExchangeOf, IsCallBy, IsCallAmong}
+use Rattle.standby_core.specs.declared.mirror.Mirror.{Mirror}
+use Rattle.standby_core.specs.declared.slot.Place.{Place}
+use Rattle.standby_core.specs.declared.slot.Place.TheVariants.{New, Out, Back}
+use Rattle.standby_core.specs.declared.slot.Slot.{Slot}
+use Rattle.standby_core.specs.Mirrors.{dial_of, header_of, user_of}
+use Rattle.standby_core.specs.Named.{first_named}
+use Rattle.standby_core.specs.Places.{mirror_in, faults_in, there_in, exchanged_in, texts_or}
+use Rattle.standby_core.specs.Slots.{slot_name, slot_texts, place_at, faults_of, there_among, exchanged_among}
+
+all_behind : {X : Type 0} (P : X → Type 0) (xs ys : List X) → AllByRecursion P xs → AllByRecursion P ys → AllByRecursion P (xs ++ ys)
+all_behind P [] ys first second = second
+all_behind P (x ∷ xs) ys first second = (first.0, all_behind P xs ys first.1 second)
+
+pub all_weaker : {X : Type 0} (P Q : X → Type 0) → ((x : X) → P x → Q x) → (xs : List X) → AllByRecursion P xs → AllByRecursion Q xs
+all_weaker P Q weaker [] all = tt
+all_weaker P Q weaker (x ∷ xs) all = (weaker x all.0, all_weaker P Q weaker xs all.1)
+
+-- texts are compared alike from both sides
+turned : (a b : List ℕ) (t : Bool) → bytes_eq a b ≡ t → bytes_eq b a ≡ t
+turned a b true is =
+    let same : a ≡ b = same_text a b (sym is) in
+    ap (λ x. bytes_eq b x) same ∙ ap (λ x. bytes_eq x b) (sym same) ∙ is
+turned a b false is = by (bytes_eq b a) refl
+  where
+    by : (t : Bool) → bytes_eq b a ≡ t → bytes_eq b a ≡ false
+    by false differs = differs
+    by true alike =
+        let same : b ≡ a = same_text b a (sym alike) in
+        let clash : true ≡ false = sym alike ∙ ap (λ x. bytes_eq x a) same ∙ ap (λ x. bytes_eq a x) (sym same) ∙ is in
+        absurd cc
+
+module _ {C : Type 0} {g : _} where
+  -- ---- the last of several
+
+  pub there_last : (front : List (Slot C g)) (last : Slot C g) (slots : List (Slot C g)) → slots ≡ front ++ last ∷ []
+      → there_among slots ≡ there_among front + there_in last.place
+  there_last front last slots is =
+      let whole = ap there_among is in
+      let parts = sum_by-append (λ (s : Slot C g). there_in s.place) front (last ∷ []) in
+      let one : there_among (last ∷ []) ≡ there_in last.place = omega arith in
+      omega (arith, whole, parts, one)
+
+  pub no_slots : (slots : List (Slot C g)) → length slots ≡ 0 → slots ≡ []
+  no_slots [] none = refl
+  no_slots (slot ∷ slots) none = absurd (omega (arith, none))
+
+  module _ (exchanged : C → List Exchange) where
+    exchanged_push : (front : List (Slot C g)) (last : Slot C g)
+        → exchanged_among exchanged (front ++ last ∷ []) ≡ exchanged_in exchanged last.place ++ exchanged_among exchanged front
+    exchanged_push [] last = sym (append-nil (exchanged_in exchanged last.place))
+    exchanged_push (first ∷ front) last =
+        ap (λ (l : List Exchange). l ++ exchanged_in exchanged first.place) (exchanged_push front last)
+        ∙ append_assoc (exchanged_in exchanged last.place) (exchanged_among exchanged front) (exchanged_in exchanged first.place)
+
+    -- what was exchanged by those that are gone and by those that are left
+    pub exchanged_last : (front : List (Slot C g)) (last : Slot C g) (slots : List (Slot C g)) (all gone : List Exchange) → slots ≡ front ++ last ∷ []
+        → all ≡ gone ++ exchanged_among exchanged slots → all ≡ (gone ++ exchanged_in exchanged last.place) ++ exchanged_among exchanged front
+    exchanged_last front last slots all gone is parts =
+        parts ∙ ap (λ (l : List Exchange). gone ++ l) (ap (exchanged_among exchanged) is ∙ exchanged_push front last)
+        ∙ sym (append_assoc gone (exchanged_in exchanged last.place) (exchanged_among exchanged front))
+
+  -- ---- faults by names
+
+  module _ (faults : C → ℕ) where
+    abbrev at_slot : Slot C g → ℕ
+    at_slot slot = faults_in faults (Some slot.place)
+
+    -- none of these has the name
+    none_of : (slots : List (Slot C g)) (name : List ℕ) → contains_text (map slot_name slots) name ≡ false → faults_of faults slots name ≡ 0
+    none_of [] name none = refl
+    none_of (slot ∷ slots) name none =
+        let parts = or_parts (bytes_eq name (slot_name slot)) (contains_text (map slot_name slots) name) none in
+        let sums = sum_by-cons (faults_for slot_name at_slot name) slot slots in
+        let here : faults_for slot_name at_slot name slot ≡ 0 = ap (λ b. if b then at_slot slot else 0) parts.0 in
+        let rest = none_of slots name parts.1 in
+        omega (arith, sums, here, rest)
+
+    -- where the names differ, each has the faults of one dial
+    pub faults_once : (slots : List (Slot C g)) → has_duplicate (map slot_name slots) ≡ false → (name : List ℕ)
+        → faults_of faults slots name ≡ faults_in faults (place_at slots name)
+    faults_once [] distinct name = refl
+    faults_once (slot ∷ slots) distinct name =
+        let parts = or_parts (contains_text (map slot_name slots) (slot_name slot)) (has_duplicate (map slot_name slots)) distinct in
+        by (bytes_eq (slot_name slot) name) refl parts.0 (faults_once slots parts.1 name)
+      where
+        by : (b : Bool) → bytes_eq (slot_name slot) name ≡ b → contains_text (map slot_name slots) (slot_name slot) ≡ false
+            → faults_of faults slots name ≡ faults_in faults (place_at slots name)
+            → faults_of faults (slot ∷ slots) name
+            ≡ faults_in faults (option_map (λ (s : Slot C g). s.place) (if b then Some slot else first_named slot_name slots name))
+        by true is apart later =
+            let sums = sum_by-cons (faults_for slot_name at_slot name) slot slots in
+            let here : faults_for slot_name at_slot name slot ≡ at_slot slot =
+            ap (λ b. if b then at_slot slot else 0) (turned (slot_name slot) name true is) in
+            let rest = none_of slots name (ap (contains_text (map slot_name slots)) (sym (same_text (slot_name slot) name (sym is))) ∙ apart) in
+            omega (arith, sums, here, rest)
+        by false is apart later =
+            let sums = sum_by-cons (faults_for slot_name at_slot name) slot slots in
+            let here : faults_for slot_name at_slot name slot ≡ 0 =
+            ap (λ b. if b then at_slot slot else 0) (turned (slot_name slot) name false is) in
+            omega (arith, sums, here, later)
+
+    -- what one more dial that is hung up adds to the count of a name
+    pub one_hung_up : (before now : List ℕ → ℕ) (slot : Slot C g) → now (slot_name slot) ≡ before (slot_name slot) + at_slot slot
+        → SameOthers (slot_name slot) before now → (name : List ℕ) → now name ≡ before name + faults_for slot_name at_slot name slot
+    one_hung_up before now slot own others name = by (bytes_eq name (slot_name slot)) refl
+      where
+        by : (b : Bool) → bytes_eq name (slot_name slot) ≡ b → now name ≡ before name + (if b then at_slot slot else 0)
+        by true is = subst (λ n. now n ≡ before n + at_slot slot) (sym (same_text name (slot_name slot) (sym is))) own
+        by false is = let same = others name is in omega (arith, same)
+
+-- ---- a dial that is hung up, of the mirror in a place
+
+module _ {C : Type 0} {g : _} (own : C → List ℕ) (dial : C) (mirror : Mirror C g) (is : dial ≡ dial_of mirror) (slot : Slot C g) where
+  -- it has the name of its place
+  pub dial_named : (address : C → List ℕ) → mirror_in (Some slot.place) ≡ Some mirror → own (dial_of slot.made.value) ≡ slot_name slot
+      → texts_or own address (slot_texts own address slot) (mirror_in (Some slot.place)) ≡ slot_texts own address slot → own dial ≡ slot_name slot
+  dial_named address here named same =
+      ap own is ∙ ap first (subst (λ m. texts_or own address (slot_texts own address slot) m ≡ slot_texts own address slot) here same) ∙ named
+    where
+      first : List (List ℕ) → List ℕ
+      first texts = get_or texts 0 []
+
+  -- what is counted under the name
+  pub hung_faults : (faults : C → ℕ) (before now : List ℕ → ℕ) → faults (dial_of mirror) ≡ faults_in faults (Some slot.place) → own dial ≡ slot_name slot
+      → now (own dial) ≡ before (own dial) + faults dial → now (slot_name slot) ≡ before (slot_name slot) + faults_in faults (Some slot.place)
+  hung_faults faults before now count named hung =
+      subst (λ n. now n ≡ before n + faults_in faults (Some slot.place)) named (hung ∙ ap (λ k. before (own dial) + k) (ap faults is ∙ count))
+
+  -- and under all others
+  pub hung_others : (before now : List ℕ → ℕ) → own dial ≡ slot_name slot → SameOthers (own dial) before now → SameOthers (slot_name slot) before now
+  hung_others before now named others = subst (λ n. SameOthers n before now) named others
+
+-- ---- what the dials exchanged
+
+module _ {C : Type 0} {g : _} (own address : C → List ℕ) (exchanged : C → List Exchange)
+    (calls : (mirror : Mirror C g) → All (IsExchangeOf (address (dial_of mirror)) (header_of mirror) (user_of mirror)) (exchanged (dial_of mirror)))
+    (same : (slot : Slot C g) → texts_or own address (slot_texts own address slot) (mirror_in (Some slot.place)) ≡ slot_texts own address slot) where
+  -- the dial in a place called as its mirror was made
+  calls_in : (made : List (List ℕ)) (place : Place C g) → texts_or own address made (mirror_in (Some place)) ≡ made
+      → AllByRecursion (IsCallBy made) (exchanged_in exchanged place)
+  calls_in made (New mirror) is =
+      subst (λ t. AllByRecursion (IsCallBy t) (exchanged (dial_of mirror))) is (recursion_from_All _ (exchanged (dial_of mirror)) (calls mirror))
+  calls_in made (Back mirror) is =
+      subst (λ t. AllByRecursion (IsCallBy t) (exchanged (dial_of mirror))) is (recursion_from_All _ (exchanged (dial_of mirror)) (calls mirror))
+  calls_in made Out is = tt
+
+  -- so all of them did
+  pub calls_among : (slots : List (Slot C g)) → AllByRecursion (IsCallAmong (map (slot_texts own address) slots)) (exchanged_among exchanged slots)
+  calls_among [] = tt
+  calls_among (slot ∷ slots) =
+      let texts = slot_texts own address slot in
+      let made = map (slot_texts own address) slots in
+      all_behind (IsCallAmong (texts ∷ made)) (exchanged_among exchanged slots) (exchanged_in exchanged slot.place)
+      (all_weaker (IsCallAmong made) (IsCallAmong (texts ∷ made)) (λ one is. (suc is.0, is.1, is.2, is.3)) (exchanged_among exchanged slots)
+      (calls_among slots))
+      (all_weaker (IsCallBy texts) (IsCallAmong (texts ∷ made)) (λ one is. (0, texts, refl, is)) (exchanged_in exchanged slot.place)
+      (calls_in texts slot.place (same slot)))

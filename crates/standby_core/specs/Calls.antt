@@ -1,0 +1,51 @@
+-- What a mirror gives its standby.
+use Rattle.std.specs.Prelude.{◌≡◌, ℕ, ◌≤◌, ◌++◌, List, [], length, get_or, Option, Some}
+use Rattle.std.specs.List.{AllByRecursion, slice_get}
+use Rattle.outside.specs.Dials.{Exchange}
+use Rattle.log_journal.specs.declared.header.Header.{Header}
+use Rattle.standby_core.specs.Frames.{Carried, frame_bytes}
+
+-- the exchange with the standby at this address by which it is told of a record: it is given the
+-- frame of the record, with this header, and has to answer a number above the record's
+abbrev pub telling_of : List ℕ → Header → Carried → Option ℕ → Exchange
+telling_of address header one answer = record {
+  address = address;
+  frame = frame_bytes header one;
+  above = one.number;
+  answer = answer;
+}
+
+-- an exchange told the standby at this address of some record of the user of this name
+pub record IsExchangeOf (address : List ℕ) (header : Header) (name : List ℕ) (one : Exchange) :
+    Type 0 where
+  pub called : one.address ≡ address
+  pub kind : ℕ
+  pub text : List ℕ
+  pub frame : one.frame ≡ frame_bytes header (record {
+    name = name;
+    number = one.above;
+    kind = kind;
+    text = text;
+  })
+  pub kind_from : 1 ≤ kind
+  pub kind_to : kind ≤ 5
+  pub short : length text ≤ 4096
+
+-- an exchange of the dial of a mirror with these texts: it called that address, and told of some
+-- record of that user, with that header
+abbrev pub IsCallBy : List (List ℕ) → Exchange → Type 0
+IsCallBy texts one = IsExchangeOf (get_or texts 1 []) (record {
+  policy = get_or texts 3 [];
+  facts = get_or texts 4 [];
+}) (get_or texts 2 []) one
+
+-- so it is with the dial of one of these
+abbrev pub IsCallAmong : List (List (List ℕ)) → Exchange → Type 0
+IsCallAmong made one = (k : ℕ) × (texts : List (List ℕ)) × (slice_get made k ≡ Some texts)
+    × IsCallBy texts one
+
+-- what was exchanged behind the other are calls of such dials
+pub record IsFromAmong (made : List (List (List ℕ))) (old new : List Exchange) : Type 0 where
+  pub exchanges : List Exchange
+  pub further : new ≡ old ++ exchanges
+  pub each : AllByRecursion (IsCallAmong made) exchanges
