@@ -12,7 +12,7 @@ C=dict(
  view=const('policy_files/src/user.rt','VIEW_NODES'), users=const('policy_files/src/policy.rt','USERS'),
  entries=const('dossier/src/past.rt','ENTRIES'), text_bytes=const('dossier/src/past.rt','TEXT_BYTES'),
  view_query=const('dossier/src/past.rt','VIEW_NODES'), secret_nodes=const('dossier/src/past.rt','SECRET_NODES'),
- dossier=const('dossier_engine/src/input.rt','MOST'), number=const('dossier/src/words.rt','GREATEST'),
+ dossier=const('dossier_engine/src/input.rt','MOST'), number=const('dossier/src/bounded.rt','GREATEST'),
  listed_facts=const('dossier/src/listed.rt','FACTS'),
  instances=const('open_queries/src/opening.rt','GREATEST_INSTANCES'), instance_text=const('open_queries/src/opening.rt','GREATEST_TEXT'),
  constructs=const('open_queries/src/opening.rt','GREATEST_CONSTRUCTS'),
