@@ -196,7 +196,8 @@ module _ {F D : Type 0} (Shelf : ShelfGhosts F D) (Disk : DiskGhosts D) (old mid
   -- its journals are those behind the files
   pub same_counted : copied_journals Shelf Disk files.directory mid new failed ≡ journals_of counted_shelf files
   same_counted =
-      λ i. journals_by Disk.reads Disk.image Disk.moment Disk.image_since files.directory (λ name. disks name i) (Shelf.disk new) (λ name. counts name i)
+      λ i. journals_by Disk.reads Disk.image Disk.moment Disk.image_since Disk.told files.directory (λ name. disks name i) (Shelf.disk new)
+      (λ name. counts name i)
       (copied_counts (Shelf.disk_faults new) failed)
 
   -- no disk but the journals of the policy's users was touched, and no other count changed

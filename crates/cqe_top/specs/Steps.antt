@@ -118,5 +118,5 @@ copied_counts count failed name = count name + failed name
 abbrev pub copied_journals : {F D : Type 0} → ShelfGhosts F D → DiskGhosts D → Text → F → F
     → (Text → ℕ) → Journals
 copied_journals Shelf Disk directory old new failed =
-    journals_by Disk.reads Disk.image Disk.moment Disk.image_since directory (Shelf.disk old)
+    journals_by Disk.reads Disk.image Disk.moment Disk.image_since Disk.told directory (Shelf.disk old)
     (Shelf.disk new) (Shelf.disk_faults old) (copied_counts (Shelf.disk_faults new) failed)
