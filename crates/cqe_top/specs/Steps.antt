@@ -115,8 +115,8 @@ KeepsCopiedBounds (copied.Serve listening) = ServesBounds listening.workers list
 abbrev pub copied_counts : (Text → ℕ) → (Text → ℕ) → Text → ℕ
 copied_counts count failed name = count name + failed name
 
--- the journals of users in a directory, where so many exchanges with a standby failed for each disk,
--- and the marks with lower numbers than this may be told
+-- the journals of users in a directory, where so many exchanges with a standby failed for each
+-- disk, and the marks with lower numbers than this may be told
 abbrev pub copied_journals : {F D : Type 0} → ShelfGhosts F D → DiskGhosts D → Text → F → F
     → (Text → ℕ) → (Text → ℕ) → Journals
 copied_journals Shelf Disk directory old new failed marks =

@@ -14,7 +14,7 @@ abbrev pub dial_faults : {C : Type 0} {g : _} → (C → ℕ) → Mirrors C g �
 dial_faults faults mirrors name = faults_in faults (place_at (slots_of mirrors) name)
 
 -- the number below which the marks may be told of the disk that a shelf holds under a name
-abbrev pub dial_marks : {D C : Type 0} {g : _} → (C → ℕ) → (List ℕ → Option D) → Mirrors C g → List ℕ
-    → ℕ
+abbrev pub dial_marks : {D C : Type 0} {g : _} → (C → ℕ) → (List ℕ → Option D) → Mirrors C g
+    → List ℕ → ℕ
 dial_marks answered disk mirrors name =
     marks_told answered (disk name) (place_at (slots_of mirrors) name)
