@@ -1,10 +1,11 @@
 -- The one door at which a standby listens.
-use Rattle.std.proofs.Common.{◌≡◌, ◌≢◌, ◌⊎◌, inl, inr, ℕ, ◌+◌, List, [], ◌∷◌, ◌++◌, length, All, sym, ap, subst, ◌∙◌, append-nil, length-append, arith}
+use Rattle.std.proofs.Common.{◌≡◌, ◌≢◌, ◌⊎◌, inl, inr, ℕ, ◌+◌, ◌≤◌, ◌==◌, Bool, true, false, if◌then◌else◌, List, [], ◌∷◌, ◌++◌, length, All}
+use Rattle.std.proofs.Common.{sym, ap, subst, ◌∙◌, append-nil, length-append, arith}
 use Rattle.std.specs.List.{sum_by}
 use Rattle.std.specs.Prelude.{Option, slice_index_or}
 use Rattle.std.proofs.lemmas.List.Elements.{All-head}
 use Rattle.outside.specs.Faults.{Rose}
-use Rattle.outside.specs.Visits.{Visit}
+use Rattle.outside.specs.Visits.{Visit, one_if_any}
 use Rattle.cqe_base.specs.declared.user.User.{User}
 use Rattle.desk_crew.specs.Shelved.{Journals}
 use Rattle.log_journal.specs.declared.header.Header.{Header}
@@ -63,6 +64,14 @@ ended_of at_hand at_hand' left was gave given0 given1 limit none hand fresh give
 pub rose_some : (before now : ℕ) → before ≡ 0 → Rose before now → now ≢ 0
 rose_some before now none (inl rose) = λ is. omega (arith, none, rose, is)
 rose_some before now none (inr full) = λ is. omega (arith, full, is)
+
+-- one where a count isn't 0, else none
+pub one_at_most : (n : ℕ) → one_if_any n ≤ 1
+one_at_most n = by (n == 0)
+  where
+    by : (b : Bool) → (if b then 0 else 1) ≤ 1
+    by true = omega arith
+    by false = omega arith
 
 -- a list with one more isn't the same
 pub not_longer : {X : Type 0} (xs : List X) (x : X) → xs ++ x ∷ [] ≡ xs → ⊥

@@ -102,6 +102,7 @@ pub fn run_standby<R: Wait, F: Shelf, L: Links>(
     ensures other_counts { SameBeside (registered_journals directory.now users.now)
         (F.disk_faults shelf.old) (F.disk_faults shelf.new) }
     ensures out { L.out links.new ≡ L.out links.old }
+    ensures few_ended { L.ended links.new ≤ L.ended links.old + 1 }
 
     // It calls nobody by a dial.
     ensures dialling { L.dialling links.new ≡ L.dialling links.old }

@@ -602,6 +602,7 @@ returns-clause-command g c =
       ends = ran.ended;
       left = ran.left;
       left_all = ran.left_all;
+      few_ended = ran.few_ended;
       limited = ran.limited;
     } in
     let does : OfStandby scene files copying.address.now copying.sessions (ends.Standby inputs.policy.users c.run_standby-end.result) = record {
