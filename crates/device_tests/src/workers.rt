@@ -114,19 +114,29 @@ fn check_greeted(rt: &impl Abort, crew: &[Worker<Greeter, MemoryDoor>], below: u
     let mut seen = [false; 1000];
     let mut all = 0usize;
     for worker in crew {
-        assert_eq!(rt; worker.door.finished().len(), worker.job.numbers.len());
-        for finished in worker.door.finished() {
-            assert_eq!(rt; finished.sink.bytes(), b"hello\n".as_slice());
-        }
-        for number in &worker.job.numbers {
-            let number = *number as usize;
-            assert!(rt; number < below && number < 1000);
-            assert!(rt; !seen[number]);
-            seen[number] = true;
-            all = all.wrapping_add(1);
-        }
+        check_door(rt, &worker.door, worker.job.numbers.len());
+        check_numbers(rt, &worker.job.numbers, below, &mut seen);
+        all = all.wrapping_add(worker.job.numbers.len());
     }
     all
+}
+
+// Checks that a door gave so many connections back, each of them greeted.
+fn check_door(rt: &impl Abort, door: &MemoryDoor, count: usize) {
+    assert_eq!(rt; door.finished().len(), count);
+    for finished in door.finished() {
+        assert_eq!(rt; finished.sink.bytes(), b"hello\n".as_slice());
+    }
+}
+
+// Checks that these numbers are below this one and weren't seen yet, and marks them.
+fn check_numbers(rt: &impl Abort, numbers: &[u64], below: usize, seen: &mut [bool; 1000]) {
+    for number in numbers {
+        let number = *number as usize;
+        assert!(rt; number < below && number < 1000);
+        assert!(rt; !seen[number]);
+        seen[number] = true;
+    }
 }
 
 // How many workers ended so.
