@@ -6,7 +6,7 @@ use std::process::Abort;
 use std::test::Fail;
 
 // A call of a disk, and what it has to answer.
-enum Step {
+pub(crate) enum Step {
     Length(Result<u64, Failed>),
     // Three bytes from this place on, or those that there are.
     Read(u64, &'static [u8]),
@@ -42,7 +42,7 @@ fn writes(disk: &mut MemoryDisk, at: u64, bytes: &[u8]) -> bool {
 }
 
 // Makes these calls, one after the other.
-fn play(rt: &impl Abort, disk: &mut MemoryDisk, steps: &[Step]) {
+pub(crate) fn play(rt: &impl Abort, disk: &mut MemoryDisk, steps: &[Step]) {
     for (number, step) in steps.iter().enumerate() {
         assert!(rt; answers(disk, step), "call {number}");
     }
