@@ -1,5 +1,6 @@
 ghost use Rattle.std.specs.Prelude.{[], ◌^◌};
 
+use crate::checks;
 use outside::{Disk, Failed, MemoryDisk, Operation, Plan};
 use std::alloc::{AllocError, Global};
 use std::process::Abort;
@@ -66,6 +67,11 @@ fn disk_of_three(alloc: Global, plan: Plan) -> Result<MemoryDisk, AllocError> {
     MemoryDisk::with_plan(alloc, vec![in alloc; 1, 2, 3]?, plan)
 }
 
+// An empty disk of which these calls fail.
+fn empty_disk(alloc: Global, plan: Plan) -> Result<MemoryDisk, AllocError> {
+    MemoryDisk::with_plan(alloc, Vec::new(alloc), plan)
+}
+
 const SYNC: [Step; 1] = [Step::Sync(Ok(()))];
 
 const READS: [Step; 5] = [
@@ -79,12 +85,12 @@ const READS: [Step; 5] = [
 #[test]
 fn a_disk_reads_what_was_written(rt: HostRuntime) -> Result<(), Fail> {
     let alloc = rt.alloc();
-    let mut disk = MemoryDisk::new(alloc, vec![in alloc; 1, 2, 3]?)?;
+    let mut disk = disk_of_three(alloc, Plan::Never)?;
     play(&rt, &mut disk, &READS);
     check_image(&rt, alloc, &disk, 0, &[1, 2, 3])?;
     play(&rt, &mut disk, &SYNC);
     check_image(&rt, alloc, &disk, 0, &[1, 2, 7, 8])?;
-    assert_eq!(rt; disk.calls().len(), 6);
+    checks::count(&rt, "calls", disk.calls().len(), 6);
     Ok(())
 }
 
@@ -133,12 +139,12 @@ const ALL_FAIL: [Step; 3] = [
 #[test]
 fn the_named_calls_fail(rt: HostRuntime) -> Result<(), Fail> {
     let alloc = rt.alloc();
-    let mut disk = MemoryDisk::with_plan(alloc, Vec::new(alloc), Plan::At(vec![in alloc; 1, 3]?))?;
+    let mut disk = empty_disk(alloc, Plan::At(vec![in alloc; 1, 3]?))?;
     play(&rt, &mut disk, &TWO_FAIL);
-    let mut stopping = MemoryDisk::with_plan(alloc, Vec::new(alloc), Plan::From(1))?;
+    let mut stopping = empty_disk(alloc, Plan::From(1))?;
     play(&rt, &mut stopping, &ALL_FAIL);
-    assert_eq!(rt; stopping.faults(), 2);
-    assert_eq!(rt; failed_beside_syncs(&stopping), 1);
+    checks::faults(&rt, stopping.faults(), 2);
+    checks::count(&rt, "failed", failed_beside_syncs(&stopping), 1);
     Ok(())
 }
 

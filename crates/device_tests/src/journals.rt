@@ -1,5 +1,6 @@
 ghost use Rattle.std.specs.Prelude.{◌≤◌};
 
+use crate::checks;
 use log_journal::{
     AppendError, Header, Journal, OpenError, Record, Refused, create, format, journal_name, open,
     open_old,
@@ -194,14 +195,23 @@ fn letter(operation: &Operation) -> u8 {
 fn one_append_writes_its_bytes(rt: HostRuntime) -> Result<(), Fail> {
     let alloc = rt.alloc();
     let disk = formatted(alloc)?;
-    assert_eq!(rt; disk.bytes().len(), 73);
+    checks::count(&rt, "bytes before", disk.bytes().len(), 73);
     let disk = with_record(&rt, journal_of(alloc, disk)?)?;
     check_drug(&rt, alloc, &disk)?;
-    assert_eq!(rt; disk.bytes().len(), 86);
-    assert_eq!(rt;
-        letters(alloc, disk.calls())?.as_slice(),
-        b"wssLrrwsws".as_slice()
-    );
+    checks::count(&rt, "bytes", disk.bytes().len(), 86);
+    check_letters(&rt, alloc, &disk, b"wssLrrwsws")?;
+    Ok(())
+}
+
+// Checks which calls a disk had.
+fn check_letters(
+    rt: &impl Abort,
+    alloc: Global,
+    disk: &MemoryDisk,
+    want: &[u8],
+) -> Result<(), AllocError> {
+    let letters = letters(alloc, disk.calls())?;
+    checks::bytes(rt, "calls", &letters, want);
     Ok(())
 }
 
@@ -481,16 +491,20 @@ fn may_be_left(acknowledged: usize, left: Opening) -> bool {
 fn a_failed_sync_breaks_the_journal(rt: HostRuntime) -> Result<(), Fail> {
     let alloc = rt.alloc();
     let mut journal = journal_of(alloc, failing_disk(alloc, OPENING + 2)?)?;
-    assert_eq!(rt;
-        append(&mut journal, 1, b"hiv(bob) ")?,
-        Err(AppendError::DiskFault)
-    );
-    assert_eq!(rt;
-        append(&mut journal, 1, b"hiv(bob) ")?,
-        Err(AppendError::Broken)
-    );
+    check_refused(&rt, &mut journal, AppendError::DiskFault)?;
+    check_refused(&rt, &mut journal, AppendError::Broken)?;
     let image = journal.close().crash_image(alloc, 1)?;
     check(&rt, alloc, &image, &Ok((1, 2)))?;
+    Ok(())
+}
+
+// Checks why a record is refused.
+fn check_refused(
+    rt: &impl Abort,
+    journal: &mut Journal<MemoryDisk>,
+    want: AppendError,
+) -> Result<(), AllocError> {
+    assert_eq!(rt; append(journal, 1, b"hiv(bob) ")?, Err(want));
     Ok(())
 }
 

@@ -1,6 +1,7 @@
 ghost use Rattle.std.specs.Prelude.{◌≡◌, ◌<◌, ◌+◌, ◌^◌, [], None, OnOk};
 ghost use Rattle.outside.specs.MemoryLinks.{links_dialling};
 
+use crate::checks;
 use outside::{
     Connection, Dial, Door, DoorBack, Failed, Links, LinksError, MemoryDial, MemoryDoor,
     MemoryLinks, MemorySink, MemorySource, Plan, Sink, Source, write_all,
@@ -41,7 +42,7 @@ fn echo_next<D: Door>(door: &mut D) -> Result<bool, Failed> {
 
 // Checks that these doors got back connections with these bytes, each of them answered.
 fn check_back(rt: &impl Abort, links: &MemoryLinks, want: &[&[u8]]) {
-    assert_eq!(rt; links.doors_back().len(), want.len());
+    checks::count(rt, "doors", links.doors_back().len(), want.len());
     for (door, bytes) in links.doors_back().iter().zip(want) {
         check_door(rt, door, bytes);
     }
@@ -49,11 +50,11 @@ fn check_back(rt: &impl Abort, links: &MemoryLinks, want: &[&[u8]]) {
 
 // The same of one door.
 fn check_door(rt: &impl Abort, door: &DoorBack, bytes: &[u8]) {
-    assert_eq!(rt; door.given(), bytes.len());
-    assert_eq!(rt; door.finished().len(), bytes.len());
+    checks::count(rt, "given", door.given(), bytes.len());
+    checks::count(rt, "finished", door.finished().len(), bytes.len());
     for (finished, byte) in door.finished().iter().zip(bytes.iter()) {
-        assert_eq!(rt; finished.source.held(), [*byte].as_slice());
-        assert_eq!(rt; finished.sink.bytes(), [*byte].as_slice());
+        checks::bytes(rt, "held", finished.source.held(), &[*byte]);
+        checks::bytes(rt, "answered", finished.sink.bytes(), &[*byte]);
     }
 }
 
@@ -97,8 +98,8 @@ fn connections_are_spread_over_doors(rt: HostRuntime) -> Result<(), Fail> {
     let mut links = MemoryLinks::new(alloc, connections(alloc, b'a', 5)?);
     serve_two(&rt, alloc, &mut links)?;
     check_back(&rt, &links, &[b"ab", b"cde"]);
-    assert_eq!(rt; links.left(), 0);
-    assert_eq!(rt; links.faults(), 0);
+    checks::count(&rt, "left", links.left(), 0);
+    checks::faults(&rt, links.faults(), 0);
     Ok(())
 }
 
@@ -124,16 +125,26 @@ fn failing_links(alloc: Global) -> Result<MemoryLinks, AllocError> {
 fn what_was_not_given_comes_through_the_next_doors(rt: HostRuntime) -> Result<(), Fail> {
     let alloc = rt.alloc();
     let mut links = failing_links(alloc)?;
-    assert_eq!(rt; serve_one(&rt, alloc, &mut links), Err(LinksError::Failed));
-    assert_eq!(rt; links.faults(), 1);
-    assert_eq!(rt; serve_one(&rt, alloc, &mut links), Ok(false));
-    assert_eq!(rt; links.left(), 2);
-    assert_eq!(rt; links.faults(), 2);
-    assert_eq!(rt; serve_one(&rt, alloc, &mut links), Ok(true));
+    check_served(&rt, alloc, &mut links, Err(LinksError::Failed));
+    checks::faults(&rt, links.faults(), 1);
+    check_served(&rt, alloc, &mut links, Ok(false));
+    checks::count(&rt, "left", links.left(), 2);
+    checks::faults(&rt, links.faults(), 2);
+    check_served(&rt, alloc, &mut links, Ok(true));
     check_back(&rt, &links, &[b"a", b"bc"]);
-    assert_eq!(rt; links.left(), 0);
-    assert_eq!(rt; links.faults(), 2);
+    checks::count(&rt, "left", links.left(), 0);
+    checks::faults(&rt, links.faults(), 2);
     Ok(())
+}
+
+// Checks whether one door comes to its end.
+fn check_served(
+    rt: &impl Abort,
+    alloc: Global,
+    links: &mut MemoryLinks,
+    want: Result<bool, LinksError>,
+) {
+    assert_eq!(rt; serve_one(rt, alloc, links), want);
 }
 
 #[test]
@@ -141,8 +152,8 @@ fn a_door_of_its_own_fails_by_its_plan(rt: HostRuntime) -> Result<(), Fail> {
     let alloc = rt.alloc();
     let mut door = MemoryDoor::with_plan(alloc, connections(alloc, b'a', 3)?, Plan::From(1))?;
     assert!(rt; !echo_all(&mut door));
-    assert_eq!(rt; door.left(), 2);
-    assert_eq!(rt; door.faults(), 1);
+    checks::count(&rt, "left", door.left(), 2);
+    checks::faults(&rt, door.faults(), 1);
     let mut door = MemoryDoor::new(alloc, Vec::new(alloc))?;
     assert!(rt; echo_all(&mut door));
     assert!(rt; echo_all(&mut door));
@@ -227,10 +238,17 @@ fn hang_up(links: &mut MemoryLinks, dial: MemoryDial)
     links.hang_up(dial);
 }
 
-fn exchange(dial: &mut MemoryDial, frame: &[u8], above: u64) -> Result<u64, Failed>
+// Exchanges a frame, and checks what is answered.
+fn check_exchange(
+    rt: &impl Abort,
+    dial: &mut MemoryDial,
+    frame: &[u8],
+    above: u64,
+    want: Result<u64, Failed>,
+)
     requires { above + 1 < 2 ^ 64 }
 {
-    dial.exchange(frame, above)
+    assert_eq!(rt; dial.exchange(frame, above), want, "{frame:?}");
 }
 
 // Dials three times, and hangs the dials up in that order once all have exchanged frames.
@@ -242,11 +260,11 @@ fn exchange_by_three(
     let mut first = dial(links, alloc, "anna.journal")?;
     let mut second = dial(links, alloc, "bert.journal")?;
     let mut third = dial(links, alloc, "anna.journal")?;
-    assert_eq!(rt; exchange(&mut first, b"ab", 4), Ok(5));
-    assert_eq!(rt; exchange(&mut first, b"cd", 5), Err(Failed));
-    assert_eq!(rt; exchange(&mut first, b"cd", 5), Ok(6));
-    assert_eq!(rt; exchange(&mut second, b"ef", 0), Err(Failed));
-    assert_eq!(rt; exchange(&mut third, b"gh", u64::MAX - 2), Ok(u64::MAX - 1));
+    check_exchange(rt, &mut first, b"ab", 4, Ok(5));
+    check_exchange(rt, &mut first, b"cd", 5, Err(Failed));
+    check_exchange(rt, &mut first, b"cd", 5, Ok(6));
+    check_exchange(rt, &mut second, b"ef", 0, Err(Failed));
+    check_exchange(rt, &mut third, b"gh", u64::MAX - 2, Ok(u64::MAX - 1));
     hang_up(links, first);
     hang_up(links, second);
     hang_up(links, third);
@@ -267,13 +285,13 @@ fn dials_are_answered_by_plan(rt: HostRuntime) -> Result<(), Fail> {
     let mut links = MemoryLinks::new(alloc, Vec::new(alloc));
     links.plan_dials(vec![in alloc; Plan::At(vec![in alloc; 1]?), Plan::From(0)]?);
     exchange_by_three(&rt, alloc, &mut links)?;
-    assert_eq!(rt; links.faults(), 0);
+    checks::faults(&rt, links.faults(), 0);
     let back = links.dials_back();
-    assert_eq!(rt; back.len(), 3);
+    checks::count(&rt, "dials", back.len(), 3);
     for (dial, (name, faults, frames)) in back.iter().zip(&DIALS) {
-        assert_eq!(rt; dial.name(), *name);
-        assert_eq!(rt; dial.faults(), *faults);
-        assert_eq!(rt; frames_of(alloc, dial)?.as_slice(), *frames);
+        checks::bytes(&rt, "name", dial.name().as_bytes(), name.as_bytes());
+        checks::faults(&rt, dial.faults(), *faults);
+        checks::bytes(&rt, "frames", &frames_of(alloc, dial)?, frames);
     }
     Ok(())
 }

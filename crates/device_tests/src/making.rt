@@ -3,6 +3,7 @@ ghost use Rattle.cqe_base.specs.Schema.{has_duplicate};
 ghost use Rattle.init_engine.specs.Disks.{user_names};
 ghost use Rattle.outside.specs.MemoryShelves.{is_disk_out};
 
+use crate::checks;
 use cqe_base::user::{Method, User};
 use init_engine::{InitEnd, run_init};
 use log_journal::{Header, OpenError};
@@ -49,6 +50,21 @@ fn init(alloc: Global, shelf: &mut MemoryShelf, header: &Header) -> Result<InitE
 {
     let users = users(alloc)?;
     Ok(run_init(alloc, &users, header, "d", shelf))
+}
+
+// Makes them, and checks how that ends.
+fn check_init(
+    rt: &impl Abort,
+    alloc: Global,
+    shelf: &mut MemoryShelf,
+    header: &Header,
+    want: InitEnd,
+) -> Result<(), AllocError>
+    requires { (name : List ℕ) → is_disk_out shelf.old name ≡ false }
+    ensures { (name : List ℕ) → is_disk_out shelf.new name ≡ false }
+{
+    assert_eq!(rt; init(alloc, shelf, header)?, want);
+    Ok(())
 }
 
 // The bytes of a journal with this behind its header.
@@ -118,13 +134,13 @@ const THREE: [u8; 6] = [0, 255, 0, 255, 0, 255];
 fn empty_disks_become_journals(rt: HostRuntime) -> Result<(), Fail> {
     let alloc = rt.alloc();
     let mut shelf = MemoryShelf::new(alloc);
-    assert_eq!(rt; init(alloc, &mut shelf, &HEADER)?, InitEnd::Done);
+    check_init(&rt, alloc, &mut shelf, &HEADER, InitEnd::Done)?;
     check_journals(&rt, alloc, &shelf)?;
-    assert_eq!(rt; init(alloc, &mut shelf, &HEADER)?, InitEnd::Done);
+    check_init(&rt, alloc, &mut shelf, &HEADER, InitEnd::Done)?;
     check_shown(&rt, alloc, &shelf, &THREE)?;
-    assert_eq!(rt; init(alloc, &mut shelf, &OTHER_FACTS)?, OTHER_POLICY);
+    check_init(&rt, alloc, &mut shelf, &OTHER_FACTS, OTHER_POLICY)?;
     check_shown(&rt, alloc, &shelf, &THREE)?;
-    assert_eq!(rt; shelf.faults(), 0);
+    checks::faults(&rt, shelf.faults(), 0);
     Ok(())
 }
 
@@ -173,7 +189,7 @@ fn a_disk_that_is_not_empty_is_left(rt: HostRuntime) -> Result<(), Fail> {
     for (behind, end, shown) in &FOUND {
         let bytes = with_header(alloc, behind)?;
         let mut shelf = shelf_of_bob(alloc, bytes, Plan::Never)?;
-        assert_eq!(rt; init(alloc, &mut shelf, &HEADER)?, *end, "{behind:?}");
+        check_init(&rt, alloc, &mut shelf, &HEADER, *end)?;
         check_shown(&rt, alloc, &shelf, shown)?;
     }
     Ok(())
@@ -210,7 +226,7 @@ fn check_failing(
     end: InitEnd,
 ) -> Result<(), AllocError> {
     let mut shelf = failing_shelf(alloc, bytes, call)?;
-    assert_eq!(rt; init(alloc, &mut shelf, &HEADER)?, end, "call {call}");
+    check_init(rt, alloc, &mut shelf, &HEADER, end)?;
     assert!(rt; shelf.disk("d/bob.log").is_some(), "call {call}");
     assert!(rt; shelf.disk("d/eve.log").is_none(), "call {call}");
     Ok(())
@@ -228,9 +244,9 @@ fn failing_shelf(alloc: Global, bytes: Vec<u8>, call: u64) -> Result<MemoryShelf
 fn a_shelf_that_fails_stops_it(rt: HostRuntime) -> Result<(), Fail> {
     let alloc = rt.alloc();
     let mut shelf = MemoryShelf::with_plan(alloc, Plan::At(vec![in alloc; 1]?));
-    assert_eq!(rt; init(alloc, &mut shelf, &HEADER)?, InitEnd::ShelfFault);
+    check_init(&rt, alloc, &mut shelf, &HEADER, InitEnd::ShelfFault)?;
     check_shown(&rt, alloc, &shelf, &[0, 255, 254, 254])?;
-    assert_eq!(rt; init(alloc, &mut shelf, &HEADER)?, InitEnd::Done);
+    check_init(&rt, alloc, &mut shelf, &HEADER, InitEnd::Done)?;
     check_shown(&rt, alloc, &shelf, &THREE)?;
     Ok(())
 }

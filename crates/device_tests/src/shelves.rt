@@ -1,6 +1,7 @@
 ghost use Rattle.std.specs.Prelude.{◌≡◌, false, OnOk};
 ghost use Rattle.outside.specs.MemoryShelves.{is_disk_out};
 
+use crate::checks;
 use crate::disks::{Step, play};
 use outside::{Disk, Failed, MemoryDisk, MemoryShelf, Plan, Shelf, ShelfError};
 use std::alloc::{AllocError, Global};
@@ -15,6 +16,17 @@ fn put(shelf: &mut MemoryShelf, alloc: Global, name: &str, bytes: &[u8]) -> Resu
     shelf.put(alloc, name, bytes)
 }
 
+// Checks why a file isn't read.
+fn check_unread(
+    rt: &impl Abort,
+    alloc: Global,
+    shelf: &mut MemoryShelf,
+    name: &str,
+    want: ShelfError,
+) {
+    assert_eq!(rt; read(shelf, alloc, name).err(), Some(want));
+}
+
 #[test]
 fn a_shelf_reads_the_first_file_of_a_name(rt: HostRuntime) -> Result<(), Fail> {
     let alloc = rt.alloc();
@@ -23,18 +35,12 @@ fn a_shelf_reads_the_first_file_of_a_name(rt: HostRuntime) -> Result<(), Fail> {
     put(&mut shelf, alloc, "f", b"")?;
     put(&mut shelf, alloc, "p", b"another")?;
     let policy = read(&mut shelf, alloc, "p").ok().unwrap_or(Vec::new(alloc));
-    assert_eq!(rt; policy.as_slice(), b"version = 1".as_slice());
+    checks::bytes(&rt, "policy", &policy, b"version = 1");
     assert!(rt; read(&mut shelf, alloc, "f").is_ok());
-    assert_eq!(rt;
-        read(&mut shelf, alloc, "").err(),
-        Some(ShelfError::Missing)
-    );
-    assert_eq!(rt;
-        read(&mut shelf, alloc, "p ").err(),
-        Some(ShelfError::Missing)
-    );
+    check_unread(&rt, alloc, &mut shelf, "", ShelfError::Missing);
+    check_unread(&rt, alloc, &mut shelf, "p ", ShelfError::Missing);
     check_looked(&rt, &shelf);
-    assert_eq!(rt; shelf.faults(), 0);
+    checks::faults(&rt, shelf.faults(), 0);
     Ok(())
 }
 
@@ -53,11 +59,8 @@ fn a_shelf_fails_by_its_plan(rt: HostRuntime) -> Result<(), Fail> {
     let mut shelf = MemoryShelf::with_plan(alloc, Plan::At(vec![in alloc; 1]?));
     put(&mut shelf, alloc, "p", b"version = 1")?;
     assert!(rt; read(&mut shelf, alloc, "p").is_ok());
-    assert_eq!(rt;
-        read(&mut shelf, alloc, "p").err(),
-        Some(ShelfError::Failed)
-    );
-    assert_eq!(rt; shelf.faults(), 1);
+    check_unread(&rt, alloc, &mut shelf, "p", ShelfError::Failed);
+    checks::faults(&rt, shelf.faults(), 1);
     assert!(rt; read(&mut shelf, alloc, "p").is_ok());
     Ok(())
 }
@@ -116,8 +119,14 @@ fn a_disk_comes_back_as_it_was_given(rt: HostRuntime) -> Result<(), Fail> {
     use_disk(&rt, alloc, &mut shelf, "d/eve.log", &WRITES)?;
     use_disk(&rt, alloc, &mut shelf, "d/eve.log", &HAS_THREE)?;
     check_bytes(&rt, alloc, &shelf, "d/eve.log", b"abc")?;
-    assert_eq!(rt; shelf.faults(), 0);
+    checks::faults(&rt, shelf.faults(), 0);
     Ok(())
+}
+
+// A disk of two bytes of which the second call fails.
+fn failing_disk(alloc: Global) -> Result<MemoryDisk, AllocError> {
+    let plan = Plan::At(vec![in alloc; 1]?);
+    MemoryDisk::with_plan(alloc, vec![in alloc; 7, 8]?, plan)
 }
 
 const FAILS: [Step; 2] = [Step::Length(Ok(2)), Step::Sync(Err(Failed))];
@@ -126,12 +135,11 @@ const FAILS: [Step; 2] = [Step::Length(Ok(2)), Step::Sync(Err(Failed))];
 fn a_disk_keeps_its_count(rt: HostRuntime) -> Result<(), Fail> {
     let alloc = rt.alloc();
     let mut shelf = MemoryShelf::new(alloc);
-    let plan = Plan::At(vec![in alloc; 1]?);
-    let disk = MemoryDisk::with_plan(alloc, vec![in alloc; 7, 8]?, plan)?;
+    let disk = failing_disk(alloc)?;
     shelf.put_disk(alloc, "eve", disk)?;
     use_disk(&rt, alloc, &mut shelf, "eve", &FAILS)?;
     check_count(&rt, alloc, &mut shelf, "eve")?;
-    assert_eq!(rt; shelf.faults(), 0);
+    checks::faults(&rt, shelf.faults(), 0);
     Ok(())
 }
 
@@ -182,10 +190,10 @@ fn a_taking_that_fails_leaves_the_disk(rt: HostRuntime) -> Result<(), Fail> {
     assert!(rt; shelf.read_file(alloc, "p").is_ok());
     assert_eq!(rt; shelf.take_disk(alloc, "a").err(), Some(ShelfError::Failed));
     assert_eq!(rt; shelf.take_disk(alloc, "b").err(), Some(ShelfError::Failed));
-    assert_eq!(rt; shelf.faults(), 2);
+    checks::faults(&rt, shelf.faults(), 2);
     check_bytes(&rt, alloc, &shelf, "a", &[9])?;
     assert!(rt; shelf.disk("b").is_none());
     let disk = shelf.take_disk(alloc, "a")?;
-    assert_eq!(rt; disk.bytes(), [9].as_slice());
+    checks::bytes(&rt, "bytes", disk.bytes(), &[9]);
     Ok(())
 }

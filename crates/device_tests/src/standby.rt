@@ -1,7 +1,9 @@
+use crate::checks;
 use log_journal::{Header, Journal, OpenError, create};
 use outside::{MemoryDisk, MemorySink, MemorySource};
 use standby_core::{FrameRoom, Held, StandbyBook, StandbyEnd, TakeError, serve_standby};
 use std::alloc::{AllocError, Global};
+use std::process::Abort;
 use std::sync::Wait;
 use std::test::Fail;
 
@@ -109,14 +111,25 @@ fn served(
     (end, sink)
 }
 
+// Serves it so, and checks how it ends, and that nothing is answered.
+fn check_refused<R: Wait + Abort>(
+    rt: &R,
+    alloc: Global,
+    book: &mut StandbyBook<MemoryDisk>,
+    bytes: Vec<u8>,
+    want: StandbyEnd,
+) {
+    let (end, sink) = served(rt, alloc, book, bytes);
+    assert_eq!(rt; end, want);
+    checks::bytes(rt, "answers", sink.bytes(), &[]);
+}
+
 #[test]
 fn bad_frames_are_refused_without_an_answer(rt: HostRuntime) -> Result<(), Fail> {
     let alloc = rt.alloc();
     let mut book = book_of(alloc, "eve")?;
     for (damage, want) in &DAMAGES {
-        let (end, sink) = served(&rt, alloc, &mut book, damaged(alloc, damage)?);
-        assert_eq!(rt; end, *want);
-        assert_eq!(rt; sink.bytes().len(), 0);
+        check_refused(&rt, alloc, &mut book, damaged(alloc, damage)?, *want);
     }
     Ok(())
 }
@@ -138,20 +151,24 @@ fn records_are_taken_in_their_order(rt: HostRuntime) -> Result<(), Fail> {
     assert_eq!(rt; end, StandbyEnd::InputEnd);
     let lasts = [7, 15, 23, 31].map(|place| sink.bytes().get(place).copied());
     assert_eq!(rt; lasts, [Some(1), Some(1), Some(1), Some(2)]);
-    assert_eq!(rt; sink.bytes().len(), 32);
-    let held = book.close().pop().expect(&rt, "a journal");
+    checks::count(&rt, "answered", sink.bytes().len(), 32);
+    check_closed(&rt, book);
+    Ok(())
+}
+
+// Checks that a book has a journal of two records.
+fn check_closed(rt: &impl Abort, book: StandbyBook<MemoryDisk>) {
+    let held = book.close().pop().expect(rt, "a journal");
     assert_eq!(rt; held.count, 2);
     // The header, two records of eight bytes with their gates in front, and the closed gate.
-    assert_eq!(rt; held.journal.close().bytes().len(), 89);
-    Ok(())
+    checks::count(rt, "bytes", held.journal.close().bytes().len(), 89);
 }
 
 #[test]
 fn a_user_who_is_not_there_is_unknown(rt: HostRuntime) -> Result<(), Fail> {
     let alloc = rt.alloc();
     let mut book = book_of(alloc, "bob")?;
-    let (end, sink) = served(&rt, alloc, &mut book, frame(alloc, 0)?);
-    assert_eq!(rt; end, StandbyEnd::Take(TakeError::UnknownName));
-    assert_eq!(rt; sink.bytes().len(), 0);
+    let unknown = StandbyEnd::Take(TakeError::UnknownName);
+    check_refused(&rt, alloc, &mut book, frame(alloc, 0)?, unknown);
     Ok(())
 }

@@ -1,5 +1,6 @@
 ghost use Rattle.std.specs.Prelude.{[]};
 
+use crate::checks;
 use outside::{
     Failed, MemorySink, MemorySource, Pieces, Plan, Sink, Source, write_all, write_parts,
 };
@@ -29,9 +30,9 @@ fn check_pieces(rt: &impl Abort, alloc: Global, pieces: Pieces) -> Result<(), Al
     let mut source = MemorySource::with_plan(bytes.to_vec(alloc)?, pieces, Plan::Never);
     let (all, ended) = taken(alloc, &mut source)?;
     assert!(rt; ended);
-    assert_eq!(rt; all.as_slice(), bytes.as_slice());
-    assert_eq!(rt; take(&mut source, &mut [7]), Ok(0));
-    assert_eq!(rt; source.faults(), 0);
+    checks::bytes(rt, "taken", &all, bytes);
+    check_take(rt, &mut source, &mut [7], Ok(0));
+    checks::faults(rt, source.faults(), 0);
     Ok(())
 }
 
@@ -50,25 +51,39 @@ fn take(source: &mut MemorySource, into: &mut [u8]) -> Result<usize, Failed> {
     source.take(into)
 }
 
+// Takes a piece, and checks what is answered.
+fn check_take(
+    rt: &impl Abort,
+    source: &mut MemorySource,
+    into: &mut [u8],
+    want: Result<usize, Failed>,
+) {
+    assert_eq!(rt; take(source, into), want);
+}
+
 #[test]
 fn a_source_fails_at_the_named_calls(rt: HostRuntime) -> Result<(), Fail> {
     let alloc = rt.alloc();
     let plan = Plan::At(vec![in alloc; 1, 3]?);
     let mut source = MemorySource::with_plan(b"abcdefg".to_vec(alloc)?, Pieces::UpTo(2), plan);
     let mut piece = [0; 3];
-    assert_eq!(rt; take(&mut source, &mut piece), Ok(2));
-    assert_eq!(rt; take(&mut source, &mut piece), Err(Failed));
-    assert_eq!(rt; source.left(), b"cdefg".as_slice());
-    assert_eq!(rt; take(&mut source, &mut piece), Ok(2));
-    assert_eq!(rt; piece.as_slice(), b"cd\0".as_slice());
-    assert_eq!(rt; take(&mut source, &mut piece), Err(Failed));
-    assert_eq!(rt; take(&mut source, &mut []), Ok(0));
-    assert_eq!(rt; source.left(), b"efg".as_slice());
-    assert_eq!(rt; source.held(), b"abcdefg".as_slice());
-    assert_eq!(rt; source.faults(), 2);
+    check_take(&rt, &mut source, &mut piece, Ok(2));
+    check_take(&rt, &mut source, &mut piece, Err(Failed));
+    checks::bytes(&rt, "left", source.left(), b"cdefg");
+    check_take(&rt, &mut source, &mut piece, Ok(2));
+    checks::bytes(&rt, "piece", &piece, b"cd\0");
+    check_take(&rt, &mut source, &mut piece, Err(Failed));
+    check_take(&rt, &mut source, &mut [], Ok(0));
+    checks::bytes(&rt, "left", source.left(), b"efg");
+    checks::bytes(&rt, "held", source.held(), b"abcdefg");
+    checks::faults(&rt, source.faults(), 2);
     let mut stopped = MemorySource::with_plan(Vec::new(alloc), Pieces::Whole, Plan::From(0));
-    assert_eq!(rt; take(&mut stopped, &mut piece), Err(Failed));
+    check_take(&rt, &mut stopped, &mut piece, Err(Failed));
     Ok(())
+}
+
+fn write(sink: &mut MemorySink, bytes: &[u8]) -> Result<(), Failed> {
+    write_all(sink, bytes)
 }
 
 // What is written of seven bytes, and how many faults there are then.
@@ -81,10 +96,10 @@ fn check_written(
     faults: u64,
 ) {
     let mut sink = MemorySink::with_plan(alloc, pieces, plan);
-    let answer = write_all(&mut sink, b"refused");
+    let answer = write(&mut sink, b"refused");
     assert_eq!(rt; answer.is_ok(), faults == 0);
-    assert_eq!(rt; sink.bytes(), want);
-    assert_eq!(rt; sink.faults(), faults);
+    checks::bytes(rt, "written", sink.bytes(), want);
+    checks::faults(rt, sink.faults(), faults);
 }
 
 #[test]
@@ -111,10 +126,10 @@ fn a_sink_takes_all_or_a_part(rt: HostRuntime) -> Result<(), Fail> {
 // Checks that what is written stands one behind the other.
 fn check_lines(rt: &impl Abort, alloc: Global) -> Result<(), Failed> {
     let mut sink = MemorySink::new(alloc);
-    write_all(&mut sink, b"")?;
-    write_all(&mut sink, b"yes\n")?;
-    write_all(&mut sink, b"no\n")?;
-    assert_eq!(rt; sink.bytes(), b"yes\nno\n".as_slice());
+    write(&mut sink, b"")?;
+    write(&mut sink, b"yes\n")?;
+    write(&mut sink, b"no\n")?;
+    checks::bytes(rt, "written", sink.bytes(), b"yes\nno\n");
     Ok(())
 }
 
@@ -143,11 +158,11 @@ fn parts_are_written_one_after_the_other(rt: HostRuntime) -> Result<(), Fail> {
     write_lines(&mut sink, &lines(alloc)?)?;
     write_pieces(&mut sink, &[])?;
     write_pieces(&mut sink, &[b"cqe: ", "missing".as_bytes(), b"\n"])?;
-    assert_eq!(rt; sink.bytes(), b"yes\nno\ncqe: missing\n".as_slice());
+    checks::bytes(&rt, "written", sink.bytes(), b"yes\nno\ncqe: missing\n");
     let mut sink = MemorySink::with_plan(alloc, Pieces::UpTo(2), Plan::From(2));
     assert_eq!(rt; write_pieces(&mut sink, &[b"abc", b"def"]), Err(Failed));
-    assert_eq!(rt; sink.bytes(), b"abc".as_slice());
-    assert_eq!(rt; sink.faults(), 1);
+    checks::bytes(&rt, "written", sink.bytes(), b"abc");
+    checks::faults(&rt, sink.faults(), 1);
     Ok(())
 }
 
