@@ -1,33 +1,21 @@
 -- What was told of the records of users' journals, and that these lie there.
-use Rattle.std.proofs.Common.{◌≡◌, ℕ, Bool, true, false, List, [], ◌∷◌, Option, Some, map, sym, ap, subst, ◌∙◌}
+use Rattle.std.proofs.Common.{◌≡◌, ◌||◌, ℕ, Bool, true, false, List, [], ◌∷◌, Option, refl, sym, ap, subst, ◌∙◌}
 use Rattle.std.specs.Prelude.{bytes_eq}
-use Rattle.std.specs.List.{AllByRecursion}
 use Rattle.std.specs.Cmp.Lexicographic.{same_text}
 use Rattle.outside.specs.Shelf.{SameBeside, is_among}
 use Rattle.outside.specs.declared.disk.Disk.{Ghosts as DiskGhosts}
 use Rattle.cqe_base.specs.Schema.{Text, DatabaseSchema}
 use Rattle.cqe_base.specs.Facts.{FactSet}
-use Rattle.cqe_base.specs.declared.user.Purpose.{Purpose}
 use Rattle.cqe_base.specs.declared.user.User.{User}
-use Rattle.cqe_base.specs.Run.{Reply}
-use Rattle.desk_counter.specs.declared.item.Fixed.{Fixed}
-use Rattle.log_journal.specs.Walk.{AreThere}
-use Rattle.desk_crew.specs.Crew.{seat_journal, seat_kept, seat_disk, Tells, nobody, here, further, AreReopened}
+use Rattle.desk_crew.specs.Crew.{seat_journal}
 use Rattle.desk_crew.specs.Seats.{DeskSeat}
-use Rattle.desk_crew.specs.Shelved.{journals, ThereOn, AreSeatsOf, AreBack}
+use Rattle.desk_crew.specs.Shelved.{journals, ThereOn, SeatsThere, AreSeatsOf, AreBack}
 use Rattle.desk_crew.proofs.Shelving.{by_among}
 
 module _ {D : Type 0} {g h : _} (Disk : DiskGhosts D) (t : Disk.tells) where
-  abbrev There : D → Type 0
-  There disk = AreThere (Disk.heard disk) (Disk.reads disk)
-
-  -- what was told of the disk of each seat lay there as its desk was opened
-  abbrev pub SeatsThere : List (DeskSeat D g h) → Type 0
-  SeatsThere seats = AllByRecursion (λ seat. There (seat_disk seat)) seats
-
   -- at the first opening, since nothing was told of before
   pub there_first : (S : Type 0) (schema : DatabaseSchema) (world : FactSet) (header directory : List ℕ) (disk : Text → Option D) (count : Text → ℕ)
-      (users : List User) (seats : List (DeskSeat D g h)) → AreSeatsOf S Disk schema world header directory disk count users seats → SeatsThere seats
+      (users : List User) (seats : List (DeskSeat D g h)) → AreSeatsOf S Disk schema world header directory disk count users seats → SeatsThere Disk seats
   there_first S schema world header directory disk count [] [] are = tt
   there_first S schema world header directory disk count [] (seat ∷ seats) are = absurd are
   there_first S schema world header directory disk count (user ∷ users) [] are = absurd are
@@ -36,27 +24,9 @@ module _ {D : Type 0} {g h : _} (Disk : DiskGhosts D) (t : Disk.tells) where
     there_first S schema world header directory disk count users seats are.1,
   )
 
-  -- a call changes nothing of it
-  pub there_told : (schema : DatabaseSchema) (world : FactSet) (name : Text) (purpose : Purpose) (text : Text) (olds news : List (DeskSeat D g h))
-      (told : Option Reply) → Tells schema world name purpose text olds news told → SeatsThere olds → SeatsThere news
-  there_told schema world name purpose text [] [] told nobody there = tt
-  there_told schema world name purpose text olds news told (here {old} {new} {others} {told_reply} is answer) there =
-      (subst (λ (f : Fixed D). There f.disk) (sym answer.kept_is) there.0, there.1)
-  there_told schema world name purpose text olds news told (further {seat} {others} {after} {told_reply} other rest) there =
-      (there.0, there_told schema world name purpose text others after told rest there.1)
-
-  -- nor does a close with an opening behind it
-  pub there_again : (schema : DatabaseSchema) (world : FactSet) (header : List ℕ) (olds news : List (DeskSeat D g h))
-      → AreReopened schema world header Disk olds news → SeatsThere olds → SeatsThere news
-  there_again schema world header [] [] again there = tt
-  there_again schema world header [] (new ∷ news) again there = absurd again
-  there_again schema world header (old ∷ olds) [] again there = absurd again
-  there_again schema world header (old ∷ olds) (new ∷ news) again there =
-      (again.0.left.there t (again.0.is_closed.there t there.0), there_again schema world header olds news again.1 there.1)
-
   module _ (S : Type 0) (s : S) (disk disk' : Text → Option D) (count' : Text → ℕ) where
     -- so it is with the disks once they are back
-    back_there : (seats : List (DeskSeat D g h)) → AreBack S Disk disk' count' seats → SeatsThere seats → (name : Text)
+    back_there : (seats : List (DeskSeat D g h)) → AreBack S Disk disk' count' seats → SeatsThere Disk seats → (name : Text)
         → is_among (journals seats) name ≡ true → ThereOn Disk (disk' name)
     back_there [] back there name none = absurd cc
     back_there (seat ∷ seats) back there name among = by (bytes_eq name (seat_journal seat)) refl among
@@ -68,7 +38,7 @@ module _ {D : Type 0} {g h : _} (Disk : DiskGhosts D) (t : Disk.tells) where
         by false differs some = back_there seats back.1 there.1 name some
 
     -- and with all others, which weren't touched
-    pub all_there : (seats : List (DeskSeat D g h)) → AreBack S Disk disk' count' seats → SameBeside (journals seats) disk disk' → SeatsThere seats
+    pub all_there : (seats : List (DeskSeat D g h)) → AreBack S Disk disk' count' seats → SameBeside (journals seats) disk disk' → SeatsThere Disk seats
         → (name : Text) → ThereOn Disk (disk name) → ThereOn Disk (disk' name)
     all_there seats back beside there name =
         by_among (λ one. ThereOn Disk (disk one) → ThereOn Disk (disk' one)) (journals seats)
