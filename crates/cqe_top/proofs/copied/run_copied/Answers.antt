@@ -48,11 +48,11 @@ mirrors_for-requires-after_bounds g c κs within =
 
 pub copied_batch-end-requires-clause-there : goal.copied_batch-end-requires-clause-there
 copied_batch-end-requires-clause-there g c κs within =
-    unused_there g.L.Links.tells g.L.Dial.Dial.faults g.L.Dial.Dial.exchanged (slots_of c.in-Ok-mirrors_for.mirrors) c.in-Ok-mirrors_for.ensures.unused
+    unused_there g.L.Dial.Dial.tells g.L.Dial.Dial.faults g.L.Dial.Dial.exchanged (slots_of c.in-Ok-mirrors_for.mirrors) c.in-Ok-mirrors_for.ensures.unused
 
 pub copied_serve-end-requires-clause-there : goal.copied_serve-end-requires-clause-there
 copied_serve-end-requires-clause-there g c κs within =
-    unused_there g.L.Links.tells g.L.Dial.Dial.faults g.L.Dial.Dial.exchanged (slots_of c.in-Ok-mirrors_for.mirrors) c.in-Ok-mirrors_for.ensures.unused
+    unused_there g.L.Dial.Dial.tells g.L.Dial.Dial.faults g.L.Dial.Dial.exchanged (slots_of c.in-Ok-mirrors_for.mirrors) c.in-Ok-mirrors_for.ensures.unused
 
 pub hang_up_all-requires-after_bounds : goal.hang_up_all-requires-after_bounds
 hang_up_all-requires-after_bounds g c κs within =

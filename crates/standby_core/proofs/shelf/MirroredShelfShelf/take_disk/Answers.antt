@@ -1,11 +1,12 @@
 use Rattle.std.proofs.Common.{◌≡◌, ◌+◌, ◌++◌, Some, sym, ap, subst, ◌∙◌}
 use Rattle.std.specs.Prelude.{is_some}
+use Rattle.outside.specs.Disk.{HeardNothing}
 use Rattle.outside.specs.Shelf.{IsTaken}
-use Rattle.standby_core.specs.MirroredDisks.{inner_of, mirror_of, faults_by, origin_with}
+use Rattle.standby_core.specs.MirroredDisks.{inner_of, mirror_of, faults_by, origin_with, heard_by}
 use Rattle.standby_core.specs.Mirrors.{texts_of}
 use Rattle.standby_core.specs.Places.{faults_in, mirror_in}
 use Rattle.standby_core.specs.Slots.{place_at, mirrored_at, mirrored_lent, with_made}
-use Rattle.standby_core.proofs.Slotting.{new_is, restored, taken_count, taken_mirrored}
+use Rattle.standby_core.proofs.Slotting.{new_is, restored, taken_count, taken_mirrored, silent_heard}
 use Rattle.standby_core.proofs.shelf.MirroredShelfShelf.take_disk.Goals as goal
 
 -- ---- a name without a mirror
@@ -107,3 +108,10 @@ returns-in-Err-clause-refused_disks g c name =
     let same = restored c.args.name.now c.args.self.now.mirrors.now.slots.items c.take.new.self.slots.items c.put_new.new.self.slots.items c.in-Some.mirror
     c.in-Some.ensures.taken c.take.ensures.others c.put_new.ensures.put c.put_new.ensures.others name in
     λ i. mirrored_at (c.in-Err.ensures.refused_disks name i) (same i)
+
+-- ---- what was told of
+
+pub returns-in-Ok-clause-unheard : goal.returns-in-Ok-clause-unheard
+returns-in-Ok-clause-unheard g c =
+    subst (λ d. HeardNothing (heard_by g.C.Dial.tells g.C.Dial.exchanged (mirror_of d))) (sym c.new.ensures)
+    (silent_heard g.C.Dial.tells g.C.Dial.exchanged c.in-Some.mirror c.in-Some.ensures.silent)
