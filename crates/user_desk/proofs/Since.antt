@@ -54,7 +54,8 @@ module _ {D : Type 0} (moment : D → ℕ) (since : D → ℕ → List ℕ → T
     pub goes_first : (image : D → List ℕ → Type 0) → ((disk : D) (t : ℕ) (c : List ℕ) → t ≤ moment disk → image disk c → since disk t c)
         → ((disk : D) (c : List ℕ) → since disk (moment disk) c → image disk c)
         → (disk : D) (has_journal has_failed : Bool) (room : ℕ) → has_failed ≡ false
-        → GoesOn tells reads moment since faults heard origin (record { disk = disk; opened = disk; has_journal = has_journal; has_failed = has_failed; room = room })
+        → GoesOn tells reads moment since faults heard origin
+        (record { disk = disk; opened = disk; has_journal = has_journal; has_failed = has_failed; room = room })
     goes_first image counts_now only_now disk has_journal has_failed room whole = record {
       time = record {
         later = omega arith;
@@ -70,9 +71,11 @@ module _ {D : Type 0} (moment : D → ℕ) (since : D → ℕ → List ℕ → T
     }
 
     -- where the disk stays
-    pub goes_still : (store : Stored D) (disk : D) (has_journal has_failed : Bool) (room : ℕ) → GoesOn tells reads moment since faults heard origin store → disk ≡ store.disk
+    pub goes_still : (store : Stored D) (disk : D) (has_journal has_failed : Bool) (room : ℕ) → GoesOn tells reads moment since faults heard origin store → disk
+        ≡ store.disk
         → has_journal ≡ store.has_journal → has_failed ≡ store.has_failed
-        → GoesOn tells reads moment since faults heard origin (record { disk = disk; opened = store.opened; has_journal = has_journal; has_failed = has_failed; room = room })
+        → GoesOn tells reads moment since faults heard origin
+        (record { disk = disk; opened = store.opened; has_journal = has_journal; has_failed = has_failed; room = room })
     goes_still store disk has_journal has_failed room goes same same_journal same_failed = record {
       time = subst (λ d. Elapses (moment store.opened) (moment d) (since store.opened) (since d)) (sym same) goes.time;
       count = subst (λ d. faults store.opened ≤ faults d) (sym same) goes.count;
@@ -88,7 +91,8 @@ module _ {D : Type 0} (moment : D → ℕ) (since : D → ℕ → List ℕ → T
         → Elapses (moment store.disk) (moment disk) (since store.disk) (since disk) → faults store.disk ≤ faults disk → OnOk result (has_failed ≡ false)
         → OnErr result (Rose (faults store.disk) (faults disk)) → origin disk ≡ origin store.disk
         → (tells → AreThere (heard store.disk) (reads store.disk) → AreThere (heard disk) (reads disk))
-        → GoesOn tells reads moment since faults heard origin (record { disk = disk; opened = store.opened; has_journal = has_journal; has_failed = has_failed; room = room })
+        → GoesOn tells reads moment since faults heard origin
+        (record { disk = disk; opened = store.opened; has_journal = has_journal; has_failed = has_failed; room = room })
     goes_appended result store disk has_journal has_failed room goes journal time count whole cause comes there = record {
       time = elapses_on store.opened store.disk disk goes.time time;
       count = omega (arith, goes.count, count);
