@@ -67,9 +67,8 @@ module _ (schema : DatabaseSchema) (world : FactSet) (header : List ℕ) {D : Ty
   abbrev pub Limits : List (DeskSeat D g h) → Type 0
   Limits seats = AllByRecursion (λ (s : DeskSeat D g h). KeepsLimits schema (profile_of (seat_user s))) seats
 
-  -- what stays of the seats: their journals, and with their users their limits; their counts didn't fall, and their disks are those of their names; where what
-  was told of
-  -- them lay there, it does
+  -- what stays of the seats: their journals, and with their users their limits; their counts didn't fall, and their disks are those of their names;
+  -- where what was told of them lay there, it does
   pub record Stay (old new : List (DeskSeat D g h)) : Type 0 where
     pub names : journals new ≡ journals old
     pub users : map seat_name new ≡ map seat_name old

@@ -2,7 +2,8 @@
 -- them is what is promised without one, where exchanges with the standby that failed are counted
 -- with the faults of the users' disks, each with those of the disk whose name its dial has. And
 -- each exchange calls the standby, and gives it the frame of a record that lies in the journal of a
--- user of the policy; and each user has no more entries than the standby answered that it has of his.
+-- user of the policy; and each user has no more entries than the standby answered that it has of
+-- his.
 use Rattle.std.specs.Prelude.{◌≡◌, ◌⊎◌, ℕ, ◌+◌, ◌-◌, ◌++◌, Bool, true, false, List, Option, Some}
 use Rattle.std.specs.List.{AllByRecursion, slice_get}
 use Rattle.outside.specs.Dials.{Exchange}
@@ -61,7 +62,8 @@ IsExchangeWith standby header name one = (own : Header) × (header_bytes own ≡
 -- of a record of a user of this policy, which lies in his journal, at its number, as the call ends
 abbrev pub IsExchangeFor : Text → PolicyValue → List ℕ → (Text → List ℕ) → Exchange → Type 0
 IsExchangeFor standby policy header reads one = (place : ℕ) × (user : PolicyUser)
-    × (slice_get policy.users place ≡ Some user) × (is : IsExchangeWith standby header user.name one)
+    × (slice_get policy.users place ≡ Some user)
+    × (is : IsExchangeWith standby header user.name one)
     × IsNumbered (reads user.name) one.above (is.2.kind, is.2.text)
 
 -- All that was exchanged in the call are such exchanges. And of each user's journal, by its name,

@@ -24,8 +24,9 @@ use Rattle.desk_counter.specs.Sole.{IsAsOpened}
 -- with one entry in flight at most; only of a user who is served are there any; the count rose
 -- where an append failed; where none did, the disk has grown for the entries alone; the marks of
 -- all entries may be told; and where nothing was appended it is as it was at the opening; it comes
--- from where it came; where what was told of lay there, it does now. Since the opening each image opens a desk with a beginning of the history,
--- with the entry in flight, that has all entries at the opening.
+-- from where it came; where what was told of lay there, it does now. Since the opening each image
+-- opens a desk with a beginning of the history, with the entry in flight, that has all entries at
+-- the opening.
 pub record IsClosed {D : Type 0} (Disk : DiskGhosts D) (kept : Fixed D)
     (first own pairs : Entries TurnItem) (disk : D) : Type 0 where
   pub holds : Disk.tells → is_sealed kept.standing ≡ false → (c : List ℕ) → Disk.image disk c

@@ -131,8 +131,8 @@ AreLater faults count seats =
 
 -- what was told of the disk of each seat lay there as its desk was opened
 abbrev pub SeatsThere : {D : Type 0} {g h : _} → DiskGhosts D → List (DeskSeat D g h) → Type 0
-SeatsThere Disk seats =
-    AllByRecursion (λ seat. AreThere (Disk.heard (seat_disk seat)) (Disk.reads (seat_disk seat))) seats
+SeatsThere Disk seats = AllByRecursion
+    (λ seat. AreThere (Disk.heard (seat_disk seat)) (Disk.reads (seat_disk seat))) seats
 
 -- the disk of each seat comes from where the shelf knows the one under its journal's name to come
 -- from

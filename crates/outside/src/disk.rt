@@ -109,8 +109,8 @@ pub trait Disk {
 
     /// Sees to it that the mark of the record of this number, from 0, may be told. The caller gives
     /// its kind and its text, and has to see to it that they are those of the record that lies
-    /// there. A disk that is copied elsewhere answers Ok once it was answered a count above the number.
-    /// The disk stays as it is.
+    /// there. A disk that is copied elsewhere answers Ok once it was answered a count above the
+    /// number. The disk stays as it is.
     fn tell(&mut self, number: u64, kind: u8, text: &[u8]) -> Result<(), Failed>
         requires low { 1 ≤ kind }
         requires high { kind ≤ 5 }

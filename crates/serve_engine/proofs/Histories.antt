@@ -41,8 +41,8 @@ use Rattle.desk_crew.specs.Crew.{IsSeatAsOpened, IsClosed, refusal_of, seat_user
 use Rattle.desk_crew.specs.Crew.{seat_state, IsLeft}
 use Rattle.desk_crew.proofs.Shelving.{left_on}
 use Rattle.desk_crew.specs.Seats.{DeskSeat}
-use Rattle.desk_crew.specs.Shelved.{Journals, journals, journals_by, told_on, StandsAllAlong, AreLater, AreOwn, SeatsThere, IsSeatOf, AreSeatsOf, IsBack,
-AreBack}
+use Rattle.desk_crew.specs.Shelved.{Journals, journals, journals_by, told_on, StandsAllAlong, AreLater, AreOwn, SeatsThere, IsSeatOf, AreSeatsOf}
+use Rattle.desk_crew.specs.Shelved.{IsBack, AreBack}
 use Rattle.log_journal.specs.Walk.{AreThere}
 use Rattle.desk_crew.specs.Registered.{registered_journals}
 use Rattle.desk_crew.proofs.Giving.{CanGive, AreGiven, AllReturned}

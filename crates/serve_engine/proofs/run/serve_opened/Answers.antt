@@ -12,8 +12,8 @@ use Rattle.serve_engine.specs.Serving.{HaveServed, EndsDoors, IsDone, IsBroken}
 use Rattle.serve_engine.specs.Served.{Served}
 use Rattle.serve_engine.specs.Sharing.{seat_member, IsServedAt}
 use Rattle.serve_engine.proofs.Apart.{served_still, apart_own}
-use Rattle.serve_engine.proofs.Histories.{broken_end, have_served, all_in_world, broke_at, later_on_seats, own_on_seats, there_on_seats, journals_on_same,
-doors_many, doors_gave, doors_left}
+use Rattle.serve_engine.proofs.Histories.{broken_end, have_served, all_in_world, broke_at, later_on_seats, own_on_seats, there_on_seats, journals_on_same}
+use Rattle.serve_engine.proofs.Histories.{doors_many, doors_gave, doors_left}
 use Rattle.serve_engine.proofs.Histories.{ended_at, failed_at, ends_at, own_from, all_told, AreReady, all_ready, served_can, served_returned}
 use Rattle.serve_engine.proofs.run.serve_opened.Given.{Over}
 use Rattle.serve_engine.proofs.run.serve_opened.Goals as goal
