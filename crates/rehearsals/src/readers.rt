@@ -13,46 +13,44 @@ pub fn words_text(alloc: Global, line: &str) -> Result<String, AllocError> {
         return String::from_str(alloc, "no words");
     };
     match read_words(alloc, &words)? {
-        Some(Command::Case) => String::from_str(alloc, "case"),
-        Some(Command::Init(files)) => files_text(alloc, "init", &files),
-        Some(Command::Batch(batch)) => {
+        Some(command) => command_text(alloc, command),
+        None => String::from_str(alloc, "none"),
+    }
+}
+
+/// A command with its values in brackets.
+fn command_text(alloc: Global, command: Command<'_>) -> Result<String, AllocError> {
+    match command {
+        Command::Case => String::from_str(alloc, "case"),
+        Command::Init(files) => files_text(alloc, "init", &files),
+        Command::Batch(batch) => {
             let front = files_text(alloc, "batch", &batch.files)?;
             let behind = standby_text(alloc, batch.standby)?;
             format!(in alloc; "{front} {}{behind}", batch.workers)
         }
-        Some(Command::Audit(audit)) => {
-            let front = files_text(alloc, "audit", &audit.files)?;
+        Command::Audit(audit) => {
+            let front = named_text(alloc, "audit", &audit.files, audit.user)?;
             let form = if audit.json { "json" } else { "text" };
-            format!(in alloc; "{front} <{}> {form}", audit.user)
+            format!(in alloc; "{front} {form}")
         }
-        Some(Command::Selfrun(run)) => {
+        Command::Selfrun(run) => {
             format!(in alloc; "selfrun {} {} {}", run.seed, run.users, run.asks)
         }
-        Some(Command::Serve(serve)) => {
-            let front = files_text(alloc, "serve", &serve.files)?;
-            let (workers, sessions) = (serve.workers, serve.sessions);
+        Command::Serve(serve) => {
+            let front = named_text(alloc, "serve", &serve.files, serve.listen)?;
             let behind = standby_text(alloc, serve.standby)?;
-            format!(in alloc; "{front} <{}> {workers} {sessions}{behind}", serve.listen)
+            format!(in alloc; "{front} {} {}{behind}", serve.workers, serve.sessions)
         }
-        Some(Command::Migrate(migrate)) => {
-            let front = files_text(alloc, "migrate", &migrate.files)?;
-            format!(in alloc; "{front} <{}>", migrate.to)
+        Command::Migrate(migrate) => named_text(alloc, "migrate", &migrate.files, migrate.to),
+        Command::Dossier(dossier) => named_text(alloc, "dossier", &dossier.files, dossier.user),
+        Command::Check(check) => {
+            let (policy, facts, user) = (check.policy, check.facts, check.user);
+            format!(in alloc; "check <{policy}> <{facts}> <{user}>")
         }
-        Some(Command::Dossier(dossier)) => {
-            let front = files_text(alloc, "dossier", &dossier.files)?;
-            format!(in alloc; "{front} <{}>", dossier.user)
+        Command::Standby(standby) => {
+            let front = named_text(alloc, "standby", &standby.files, standby.listen)?;
+            format!(in alloc; "{front} {}", standby.sessions)
         }
-        Some(Command::Check(check)) => {
-            format!(in alloc;
-                "check <{}> <{}> <{}>",
-                check.policy, check.facts, check.user
-            )
-        }
-        Some(Command::Standby(standby)) => {
-            let front = files_text(alloc, "standby", &standby.files)?;
-            format!(in alloc; "{front} <{}> {}", standby.listen, standby.sessions)
-        }
-        None => String::from_str(alloc, "none"),
     }
 }
 
@@ -60,6 +58,17 @@ pub fn words_text(alloc: Global, line: &str) -> Result<String, AllocError> {
 fn files_text(alloc: Global, command: &str, files: &Files<'_>) -> Result<String, AllocError> {
     let (policy, facts, journals) = (files.policy, files.facts, files.journals);
     format!(in alloc; "{command} <{policy}> <{facts}> <{journals}>")
+}
+
+/// A command, the files that it names, and behind them a user, an address or a directory.
+fn named_text(
+    alloc: Global,
+    command: &str,
+    files: &Files<'_>,
+    behind: &str,
+) -> Result<String, AllocError> {
+    let front = files_text(alloc, command, files)?;
+    format!(in alloc; "{front} <{behind}>")
 }
 
 /// A standby's address behind a blank, or nothing.
