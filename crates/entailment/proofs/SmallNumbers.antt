@@ -1,16 +1,16 @@
 -- The numbers of a refutation with which the machine ends within a budget are small.
-use Rattle.std.proofs.Common.{◌≡◌, ℕ, zero, suc, ◌+◌, ◌<◌, ◌≤◌, Bool, true, false, List, [], ◌∷◌, ◌++◌, length, Option, Some, None, Result, Ok, Err, refl, sym, ap, ◌∙◌}
-use Rattle.std.proofs.Common.{subst, arith, length-append}
-use Rattle.std.specs.Prelude.{◌&&◌, ◌||◌, cond, nat_lt, slice_get, IfOk}
+use Rattle.std.proofs.Common.{◌≡◌, ℕ, zero, suc, ◌+◌, ◌<◌, ◌≤◌, Bool, true, false, List, [], ◌∷◌, ◌++◌, length, Option, Some, None, Result, Ok, Err}
+use Rattle.std.proofs.Common.{refl, ap, ◌∙◌, subst, arith, length-append}
+use Rattle.std.specs.Prelude.{◌||◌, cond, nat_lt, slice_get, IfOk}
 use Rattle.std.specs.List.{list_all, AllByRecursion}
 use Rattle.std.proofs.lemmas.Bool.{and_parts, and_from, both_ways, cond_both, le-leb, lt-ltb, ltb-true}
 use Rattle.cqe_base.specs.Schema.{DatabaseSchema}
 use Rattle.cqe_base.specs.Literal.{Literal, variable_of, opposite, has_literal, ClauseBelow, ClausesBelow}
 use Rattle.cqe_base.specs.Refutation.{RefutationLine, without_variable, resolvent, clashes, resolvent_on, single_resolvent, resolvent_with_next, chain_from}
-use Rattle.cqe_base.specs.Refutation.{chain_result, same_literals, is_result, lines_right, is_refutation}
-use Rattle.cqe_base.specs.Machine.{State, start, End, Model, Refuted, Step, Continues, Ends, kept_count, conflict_line, conflict_cost, state_after_conflict}
-use Rattle.cqe_base.specs.Machine.{conflict_step, first_unit, first_unassigned, decide_step, unit_step, conflict_or_unit_step, step, level}
-use Rattle.cqe_base.specs.Machine.{Ended, with_cost, end_after, end_within, MachineEnds}
+use Rattle.cqe_base.specs.Refutation.{chain_result, is_result, lines_right}
+use Rattle.cqe_base.specs.Machine.{State, start, Model, Refuted, Step, Continues, Ends, kept_count, conflict_line, conflict_cost, state_after_conflict}
+use Rattle.cqe_base.specs.Machine.{conflict_step, first_unit, first_unassigned, decide_step, unit_step, conflict_or_unit_step, step}
+use Rattle.cqe_base.specs.Machine.{Ended, with_cost, end_after, end_within}
 use Rattle.cqe_base.specs.MachineLaws.{BudgetIsWholeCost}
 use Rattle.cqe_base.proofs.Analysis.{each_filter, each_union}
 use Rattle.cqe_base.proofs.MachineRules.{each_has}

@@ -134,8 +134,8 @@ pub fn test(
 
 /// The same, with the refutation where the goal follows: that with which the machine ends. It is
 /// right for the probe's clauses, those of the log, of the premise and of the negated goal, and its
-/// lines are numbered on from them; so `confirm` says yes of it. Each number in it fits a signed one
-/// of 32 bits.
+/// lines are numbered on from them; so `confirm` says yes of it. Each number in it is at most
+/// 2,147,483,646.
 pub fn certify(
     alloc: Global,
     view: &mut View<'_>,
