@@ -619,6 +619,32 @@ module _ (schema : DatabaseSchema) (world : FactSet) (user : UserProfile) where
         never true e = cc
         never false e = cc
 
+    -- where the journal is refused, neither an ask nor an opening takes an entry, and none is an opening that holds
+    module _ (opened : History) (events : List Event) (standing : Standing) (desk_state : UserState) (sealed : is_sealed standing ≡ true) where
+      abbrev behind : List Event → UserState
+      behind all = after_events schema world user (opening schema world user opened) all
+
+      pub still_asked : (purpose : Purpose) (text : Text) (ending : Ending) → IsState standing desk_state (behind events)
+          → (list_any is_opened (events ++ call purpose text ending ∷ []) ≡ list_any is_opened events)
+          × (behind (events ++ call purpose text ending ∷ []) ≡ behind events)
+      still_asked purpose text ending is = (
+        any-push is_opened events (call purpose text ending) ∙ or-false (list_any is_opened events),
+        after_events-push schema world user (opening schema world user opened) events (call purpose text ending)
+            ∙ sealed_still (behind events) purpose text ending (sealed_is standing desk_state (behind events) sealed is),
+      )
+
+      pub still_restarted : (found opens : Bool) → IsState standing desk_state (behind (events ++ restart found opens ∷ []))
+          → (list_any is_opened (events ++ restart found opens ∷ []) ≡ list_any is_opened events)
+          × ((behind (events ++ restart found opens ∷ [])).entries ≡ (behind events).entries)
+      still_restarted found opens is =
+          let pushed = after_events-push schema world user (opening schema world user opened) events (restart found opens) in
+          let shut : opens ≡ false =
+          opens_shut standing desk_state (behind events) found opens (subst (IsState standing desk_state) pushed is) sealed in (
+            any-push is_opened events (restart found opens) ∙ ap (λ b. list_any is_opened events || b) shut ∙ or-false (list_any is_opened events),
+            ap (λ (s : UserState). s.entries) pushed
+                ∙ ap (λ b. (after_event schema world user (behind events) (restart found b)).entries) shut,
+          )
+
     opens_held : (standing : Standing) (shown_standing : Run.Standing) (entries : History) (pending : Option AnsweredQuery) (state : UserState)
         (found opens : Bool) → shown_standing ≡ standing_of standing
         → IsState standing (record { entries = entries; standing = shown_standing; broken = is_some pending; pending = pending })

@@ -36,7 +36,7 @@ use Rattle.desk_crew.specs.Crew.{IsSeatIn, IsSeatAsOpened, is_named, IsClosed, I
 use Rattle.desk_crew.proofs.Asking.{still_served}
 use Rattle.desk_crew.specs.Seats.{DeskSeat}
 use Rattle.batch_engine.proofs.Courses.{any-push, Course, course_on, stays_on, IsRunning, IsLiving, live, closing, Asked, ask_step, Restarted, IsExclusive}
-use Rattle.batch_engine.proofs.Courses.{open_step}
+use Rattle.batch_engine.proofs.Courses.{open_step, still_asked, still_restarted}
 use Rattle.batch_engine.proofs.Along.{Clock, IsAlong, IsAlongClosed, along_first, along_event, along_on, along_open, along_closed, amid_all, amid_within}
 use Rattle.batch_engine.proofs.Along.{behind_front, run_on, no_fewer, shown_at, BeginsLife, CutBefore, cut_push}
 use Rattle.desk_crew.proofs.Lasting.{taken_moment}
@@ -132,6 +132,9 @@ module _ (schema : DatabaseSchema) (world : FactSet) (header directory : List �
         (Disk.image_since (seat_disk seat))
     pub least : is_sealed (seat_standing seat) ≡ false → length user.opened ≤ length (seat_kept seat).opening
     pub fewer : is_sealed (seat_standing seat) ≡ false → HasFewer schema world user events (length (seat_kept seat).opening)
+    -- where his journal is refused and an opening of it held before, the marks of all his entries may be told
+    pub marks : is_sealed (seat_standing seat) ≡ true → list_any is_opened events ≡ true
+        → length (after_events schema world user.profile (opening schema world user.profile user.opened) events).entries ≤ Disk.told (seat_disk seat)
 
   -- all do, behind the events of a script
   abbrev pub AreSeated : List ScriptEvent → List NamedUser → List (DeskSeat D g h) → Type 0
@@ -190,6 +193,14 @@ module _ (schema : DatabaseSchema) (world : FactSet) (header directory : List �
           fewer = λ served. subst (λ (f : Fixed D). HasFewer schema world user (events ++ call purpose text asked.ending ∷ []) (length f.opening)) (sym kept)
               (fewer_asked schema world user events (call purpose text asked.ending) (length (seat_kept old).opening) refl
               (seated.fewer (ap (λ (f : Fixed D). is_sealed f.standing) (sym kept) ∙ served)));
+          marks = λ sealed some.
+              let shut : is_sealed (seat_standing old) ≡ true = ap (λ (f : Fixed D). is_sealed f.standing) (sym kept) ∙ sealed in
+              let still = still_asked schema world user.profile header (bytes user.name) (before user.name) (images user.name) user.opened events
+              (seat_standing old) (seat_state old) shut purpose text asked.ending seated.living.is_in in
+              let was = seated.marks shut (sym still.0 ∙ some) in
+              let same = ap (λ (s : UserState). length s.entries) still.1 in
+              let disk = ap (λ (f : Fixed D). Disk.told f.disk) kept in
+              omega (arith, was, same, disk);
         };
       }
 
@@ -294,6 +305,26 @@ module _ (schema : DatabaseSchema) (world : FactSet) (header directory : List �
 
       left_as : disk ≡ seat_disk seat → (Disk.reads disk ≡ Disk.reads (seat_disk seat)) × ((c : List ℕ) → Disk.image disk c → Disk.image (seat_disk seat) c)
       left_as same = (ap Disk.reads same, λ c at. subst (λ d. Disk.image d c) same at)
+
+  -- so the marks of all his entries may be told, where an opening held
+  pub told_at : (user : NamedUser) (events : List Event) (seat : DeskSeat D g h) (disk : D) → IsSeated user events seat
+      → IsClosed Disk seat.desk disk → list_any is_opened events ≡ true
+      → length (after_events schema world user.profile (opening schema world user.profile user.opened) events).entries ≤ Disk.told disk
+  told_at user events seat disk seated closed some = by (is_sealed (seat_standing seat)) refl
+    where
+      state : UserState
+      state = after_events schema world user.profile (opening schema world user.profile user.opened) events
+
+      by : (b : Bool) → is_sealed (seat_standing seat) ≡ b → length state.entries ≤ Disk.told disk
+      by true sealed =
+          let was = seated.marks sealed some in
+          let same = ap Disk.told (closed.shut sealed) in
+          omega (arith, was, same)
+      by false served =
+          let is : length state.entries ≡ length (seat_history seat) = ap (λ (s : UserState). length s.entries)
+          (shown_at (seat_standing seat) (seat_state seat) state served seated.living.is_in) in
+          let most : length (seat_history seat) ≤ Disk.told disk = closed.told t in
+          omega (arith, is, most)
 
   -- what each crash could leave up to a close
   pub along_at : (user : NamedUser) (events : List Event) (seat : DeskSeat D g h) (disk : D) (seated : IsSeated user events seat)
@@ -517,6 +548,12 @@ module _ (schema : DatabaseSchema) (world : FactSet) (header directory : List �
             along = along.1;
             least = λ served. least_at user (events ++ restart step.found step.opens ∷ []) new opened.opening_is served step.running.is_in;
             fewer = λ served. fewer_at user (events ++ restart step.found step.opens ∷ []) new opened.opening_is served step.running.is_in;
+            marks = λ sealed some.
+                let still = still_restarted schema world user.profile header (bytes user.name) (before user.name) (images user.name) user.opened events
+                (seat_standing new) (seat_state new) sealed step.found step.opens step.running.is_in in
+                let was = told_at user events old closed seated again.is_closed (sym still.0 ∙ some) in
+                let same = ap (λ (h : History). length h) still.1 in
+                omega (arith, was, same, again.left.still_told);
           },
         )
 
@@ -625,6 +662,10 @@ module _ (schema : DatabaseSchema) (world : FactSet) (header directory : List �
                     ([] ++ restart step.found step.opens ∷ []) seat from.opening_is served step.running.is_in;
                 fewer = λ served. fewer_at (record { name = name; profile = profile_of user; opened = opened })
                     ([] ++ restart step.found step.opens ∷ []) seat from.opening_is served step.running.is_in;
+                marks = λ sealed some.
+                    let still = still_restarted schema world (profile_of user) header (bytes name) (before name) (images name) opened []
+                    (seat_standing seat) (seat_state seat) sealed step.found step.opens step.running.is_in in
+                    let e : false ≡ true = sym still.0 ∙ some in absurd cc;
               },
             );
           }

@@ -1,5 +1,5 @@
 -- What a batch writes, and what its lines mean for each of its users.
-use Rattle.std.specs.Prelude.{◌≡◌, ◌⊎◌, ◌&&◌, ℕ, Bool, true, false, List, [], ◌∷◌, ◌++◌}
+use Rattle.std.specs.Prelude.{◌≡◌, ◌⊎◌, ◌≤◌, ◌&&◌, ℕ, Bool, true, false, List, [], ◌∷◌, ◌++◌}
 use Rattle.std.specs.Prelude.{length, take, map, Option, Some, Ok, Err}
 use Rattle.std.specs.List.{flat_map, list_any, AllByRecursion}
 use Rattle.cqe_base.specs.Schema.{Text, DatabaseSchema}
@@ -138,6 +138,9 @@ module _ (schema : DatabaseSchema) (world : FactSet) (header : List ℕ) (journa
     pub size : list_any is_failed_append (own_events user.name events) ≡ false
         → IsNoLonger (journals.bytes user.name) (state_after schema world user events).entries
         (journals.reads user.name)
+    -- where an opening held, the marks of all his entries may be told
+    pub told : list_any is_opened (own_events user.name events) ≡ true
+        → length (state_after schema world user events).entries ≤ journals.told user.name
     -- and unless one held and a call was made for him, his journal is as it was
     pub kept : (list_any is_opened (own_events user.name events)
         && list_any is_call (own_events user.name events)) ≡ false → KeepsJournal journals user.name

@@ -7,11 +7,12 @@ use Rattle.outside.specs.Shelf.{SameNames, SameBeside, NoneFell, SomeRose, Lent,
 use Rattle.outside.specs.declared.disk.Disk.{Ghosts as DiskGhosts}
 use Rattle.outside.specs.declared.shelf.Shelf.{Ghosts as ShelfGhosts}
 use Rattle.cqe_base.specs.Schema.{Text}
-use Rattle.desk_crew.specs.Shelved.{journals_by}
+use Rattle.desk_crew.specs.Shelved.{journals_by, told_on}
 use Rattle.log_journal.specs.Names.{journal_name}
-use Rattle.standby_core.specs.MirroredDisks.{inner_of}
+use Rattle.standby_core.specs.MirroredDisks.{inner_of, mirror_of, told_by}
 use Rattle.standby_core.specs.Places.{faults_in}
-use Rattle.standby_core.specs.Slots.{place_at, mirrored_at}
+use Rattle.standby_core.specs.Slots.{place_at, mirrored_at, marks_told}
+use Rattle.standby_core.specs.declared.mirrored_disk.MirroredDisk.{MirroredDisk}
 use Rattle.standby_core.specs.declared.slot.Place.{Place}
 use Rattle.standby_core.specs.declared.slot.Slot.{Slot}
 use Rattle.standby_core.specs.Doors as doors
@@ -50,6 +51,11 @@ since_under : {D C : Type 0} {g : _} (since : D → ℕ → List ℕ → Type 0)
 since_under since None place = refl
 since_under since (Some d) place = refl
 
+told_under : {D C : Type 0} {g : _} (answered : C → ℕ) (o : Option D) (place : Option (Place C g))
+    → told_on (λ (d : MirroredDisk D C g). told_by answered (mirror_of d)) (mirrored_at o place) ≡ marks_told answered o place
+told_under answered None place = refl
+told_under answered (Some d) place = refl
+
 -- what the shelf holds beneath its mirrors
 lent_disk : {D C : Type 0} {g : _} (o : Option D) (place : Option (Place C g)) → option_map inner_of (mirrored_at o place) ≡ o
 lent_disk None place = refl
@@ -67,13 +73,18 @@ module _ {F D C : Type 0} {g : _} (Shelf : ShelfGhosts F D) (Disk : DiskGhosts D
   abbrev failed : Text → ℕ
   failed name = faults_in faults (place_at slots' name)
 
-  mirrors_copied : (directory : Text)
-      → journals_by (λ d. Disk.reads (inner_of d)) (λ d. Disk.image (inner_of d)) (λ d. Disk.moment (inner_of d)) (λ d. Disk.image_since (inner_of d)) directory
+  -- the number below which its marks may be told
+  abbrev marks : (C → ℕ) → Text → ℕ
+  marks answered name = marks_told answered (Shelf.disk new name) (place_at slots' name)
+
+  mirrors_copied : (answered : C → ℕ) (directory : Text)
+      → journals_by (λ d. Disk.reads (inner_of d)) (λ d. Disk.image (inner_of d)) (λ d. Disk.moment (inner_of d)) (λ d. Disk.image_since (inner_of d))
+      (λ d. told_by answered (mirror_of d)) directory
       (λ name. mirrored_at (Shelf.disk old name) (place_at slots name)) (λ name. mirrored_at (Shelf.disk new name) (place_at slots' name))
       (λ name. Shelf.disk_faults old name + faults_in faults (place_at slots name))
       (λ name. Shelf.disk_faults new name + faults_in faults (place_at slots' name))
-      ≡ copied_journals Shelf Disk directory old new failed
-  mirrors_copied directory = λ i. record {
+      ≡ copied_journals Shelf Disk directory old new failed (marks answered)
+  mirrors_copied answered directory = λ i. record {
     bytes = λ name. bytes_under Disk.reads (Shelf.disk old (journal_name directory name)) (place_at slots (journal_name directory name)) i;
     image_before = λ name. image_under Disk.image (Shelf.disk old (journal_name directory name)) (place_at slots (journal_name directory name)) i;
     before = λ name. none_more (Shelf.disk_faults old (journal_name directory name)) (faults_in faults (place_at slots (journal_name directory name)))
@@ -84,19 +95,22 @@ module _ {F D C : Type 0} {g : _} (Shelf : ShelfGhosts F D) (Disk : DiskGhosts D
     began = λ name. moment_under Disk.moment (Shelf.disk old (journal_name directory name)) (place_at slots (journal_name directory name)) i;
     ended = λ name. moment_under Disk.moment (Shelf.disk new (journal_name directory name)) (place_at slots' (journal_name directory name)) i;
     since = λ name. since_under Disk.image_since (Shelf.disk new (journal_name directory name)) (place_at slots' (journal_name directory name)) i;
+    told = λ name. told_under answered (Shelf.disk new (journal_name directory name)) (place_at slots' (journal_name directory name)) i;
   }
 
-  pub same_copied : (directory : Text)
-      → journals_by (λ d. Disk.reads (inner_of d)) (λ d. Disk.image (inner_of d)) (λ d. Disk.moment (inner_of d)) (λ d. Disk.image_since (inner_of d)) directory
+  pub same_copied : (answered : C → ℕ) (directory : Text)
+      → journals_by (λ d. Disk.reads (inner_of d)) (λ d. Disk.image (inner_of d)) (λ d. Disk.moment (inner_of d)) (λ d. Disk.image_since (inner_of d))
+      (λ d. told_by answered (mirror_of d)) directory
       (λ name. mirrored_at (Shelf.disk lent name) (place_at lent_slots name)) (λ name. mirrored_at (Shelf.disk new name) (place_at slots' name))
       (λ name. Shelf.disk_faults lent name + faults_in faults (place_at lent_slots name))
       (λ name. Shelf.disk_faults new name + faults_in faults (place_at slots' name))
-      ≡ copied_journals Shelf Disk directory old new failed
-  same_copied directory =
+      ≡ copied_journals Shelf Disk directory old new failed (marks answered)
+  same_copied answered directory =
       (λ i. journals_by (λ d. Disk.reads (inner_of d)) (λ d. Disk.image (inner_of d)) (λ d. Disk.moment (inner_of d)) (λ d. Disk.image_since (inner_of d))
-      directory (λ name. mirrored_at (Shelf.disk (was i) name) (place_at (were i) name)) (λ name. mirrored_at (Shelf.disk new name) (place_at slots' name))
+      (λ d. told_by answered (mirror_of d)) directory (λ name. mirrored_at (Shelf.disk (was i) name) (place_at (were i) name))
+      (λ name. mirrored_at (Shelf.disk new name) (place_at slots' name))
       (λ name. Shelf.disk_faults (was i) name + faults_in faults (place_at (were i) name))
-      (λ name. Shelf.disk_faults new name + faults_in faults (place_at slots' name))) ∙ mirrors_copied directory
+      (λ name. Shelf.disk_faults new name + faults_in faults (place_at slots' name))) ∙ mirrors_copied answered directory
 
   before : (name : Text) → mirrored_at (Shelf.disk lent name) (place_at lent_slots name) ≡ mirrored_at (Shelf.disk old name) (place_at slots name)
   before name = λ i. mirrored_at (Shelf.disk (was i) name) (place_at (were i) name)
@@ -193,11 +207,12 @@ module _ {F D : Type 0} (Shelf : ShelfGhosts F D) (Disk : DiskGhosts D) (old mid
   abbrev pub counted_shelf : ShelfScene
   counted_shelf = record (shelf_of Shelf Disk old new) { disk_faults' = copied_counts (Shelf.disk_faults new) failed }
 
-  -- its journals are those behind the files
-  pub same_counted : copied_journals Shelf Disk files.directory mid new failed ≡ journals_of counted_shelf files
-  same_counted =
-      λ i. journals_by Disk.reads Disk.image Disk.moment Disk.image_since files.directory (λ name. disks name i) (Shelf.disk new) (λ name. counts name i)
-      (copied_counts (Shelf.disk_faults new) failed)
+  -- where of the disk of each name these marks may be told, its journals are those behind the files
+  pub same_counted : (marks : Text → ℕ)
+      → copied_journals Shelf Disk files.directory mid new failed marks ≡ journals_of (record counted_shelf { told' = marks }) files
+  same_counted marks =
+      λ i. record (journals_by Disk.reads Disk.image Disk.moment Disk.image_since Disk.told files.directory (λ name. disks name i) (Shelf.disk new)
+      (λ name. counts name i) (copied_counts (Shelf.disk_faults new) failed)) { told = λ name. marks (journal_name files.directory name) }
 
   -- no disk but the journals of the policy's users was touched, and no other count changed
   pub touches_counted : (policy : Policy) (users : List User) → users ≡ policy.users.items

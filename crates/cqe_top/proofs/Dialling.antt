@@ -1,5 +1,5 @@
 -- Of a call with a standby: which exchanges are counted as faults of disks, and whom its dials called.
-use Rattle.std.proofs.Common.{◌≡◌, ℕ, zero, suc, ◌+◌, Bool, true, false, List, [], ◌∷◌, ◌++◌, length, map, refl, sym, ap, subst, ◌∙◌, arith}
+use Rattle.std.proofs.Common.{◌≡◌, ℕ, zero, suc, ◌+◌, Bool, true, false, List, [], ◌∷◌, ◌++◌, length, map, get_or, refl, sym, ap, subst, ◌∙◌, inl, inr, arith}
 use Rattle.std.specs.Prelude.{Option, Some, None}
 use Rattle.std.specs.List.{AllByRecursion, slice_get}
 use Rattle.std.proofs.lemmas.Option.{none-some, same_Some}
@@ -9,15 +9,17 @@ use Rattle.cqe_base.specs.Facts.{FactSet}
 use Rattle.cqe_base.specs.Schema.{Text}
 use Rattle.cqe_base.specs.declared.user.User.{User}
 use Rattle.command_words.specs.Readings.{Reading, FileNames}
+use Rattle.log_journal.specs.Names.{journal_name}
 use Rattle.log_journal.specs.Opening.{header_bytes}
 use Rattle.log_journal.specs.declared.header.Header.{Header}
 use Rattle.policy_files.specs.Memory.{policy_user_of}
-use Rattle.policy_files.specs.Policies.{PolicyValue}
-use Rattle.standby_core.specs.Calls.{IsCallBy, IsCallAmong, IsFromAmong}
+use Rattle.policy_files.specs.Policies.{PolicyUser, PolicyValue}
+use Rattle.standby_core.specs.Calls.{IsCallBy, IsCallAmong, IsAnsweredIn, IsFromAmong}
 use Rattle.standby_core.specs.Users.{texts_for}
 use Rattle.standby_core.proofs.Hanging.{all_weaker}
 use Rattle.cqe_top.specs.declared.end.CommandEnd.{CommandEnd}
-use Rattle.cqe_top.specs.Copied.{IsExchangeFor, CallsAlone, has_standby, failed_exchanges, with_failed, counted_by, counted_with}
+use Rattle.cqe_top.specs.Copied.{IsExchangeWith, IsExchangeFor, CallsAlone, has_standby, failed_exchanges, with_failed, with_told, counted_by}
+use Rattle.cqe_top.specs.Copied.{counted_with}
 use Rattle.cqe_top.specs.Promise.{OfReading, Does, Always}
 use Rattle.cqe_top.specs.Reports.{FaultsHaveCauses}
 use Rattle.cqe_top.specs.Scene.{Scene, LinksScene}
@@ -70,6 +72,16 @@ counted s reading end failed is rose of cause always =
       always = subst Always all always;
     }
 
+-- no cause of a fault looks at the marks that may be told
+pub causes_told : (s : Scene) (marks : Text → ℕ) (end : CommandEnd) → FaultsHaveCauses s end → FaultsHaveCauses (with_told s marks) end
+causes_told s marks end cause = record {
+  read = cause.read;
+  write = cause.write;
+  shelf = cause.shelf;
+  disk = cause.disk;
+  links = cause.links;
+}
+
 -- ---- whom the dials called
 
 -- what is found among what several say was said by one of them, which stands there
@@ -84,25 +96,53 @@ found_of f [] place x is = absurd (none-some x is)
 found_of f (one ∷ xs) zero x is = ap (λ y. Some (f y)) (same_Some one x is)
 found_of f (one ∷ xs) (suc place) x is = found_of f xs place x is
 
+-- what holds of each holds of the one in a place
+each_at : {X : Type 0} (P : X → Type 0) (xs : List X) (place : ℕ) (x : X) → AllByRecursion P xs → slice_get xs place ≡ Some x → P x
+each_at P [] place x all at = absurd (none-some x at)
+each_at P (one ∷ xs) zero x all at = subst P (same_Some one x at) all.0
+each_at P (one ∷ xs) (suc place) x all at = each_at P xs place x all.1 at
+
+-- an answer of one kind is one of another
+answered_weaker : (P Q : Exchange → Type 0) → ((one : Exchange) → P one → Q one) → (all : List Exchange) (count : ℕ) → IsAnsweredIn P all count
+    → IsAnsweredIn Q all count
+answered_weaker P Q weaker all count (inl none) = inl none
+answered_weaker P Q weaker all count (inr (place, one, at, is, said)) = inr (place, one, at, weaker one is, said)
+
 module _ (header : Header) (standby directory : Text) (policy : PolicyValue) (users : List User) (are : map policy_user_of users ≡ policy.users) where
   -- a call by the dial of one of these users tells of his records
   call_for : (one : Exchange) → IsCallAmong (map (texts_for header standby directory) users) one → IsExchangeFor standby policy (header_bytes header) one
   call_for one (place, texts, at, is) =
       let found = found_from (texts_for header standby directory) users place texts at in (
-        header,
-        refl,
         place,
         policy_user_of found.0,
         subst (λ them. slice_get them place ≡ Some (policy_user_of found.0)) are (found_of policy_user_of users place found.0 found.1),
-        subst (λ t. IsCallBy t one) (sym found.2) is,
+        (header, refl, subst (λ t. IsCallBy t one) (sym found.2) is),
       )
 
-  pub calls_from : (links : LinksScene) (world : FactSet) (made : List (List Text)) (mid : List Exchange)
-      → made ≡ map (texts_for header standby directory) users → mid ≡ links.exchanged → IsFromAmong made mid links.exchanged'
-      → CallsAlone links standby policy world (header_bytes header)
-  calls_from links world made mid is_made same from = record {
+  -- so many marks of a user may be told as were answered to his dial
+  answer_for : (told : Text → ℕ) (all : List Exchange)
+      → AllByRecursion (λ texts. IsAnsweredIn (IsCallBy texts) all (told (get_or texts 0 []))) (map (texts_for header standby directory) users)
+      → (place : ℕ) (user : PolicyUser) → slice_get policy.users place ≡ Some user
+      → IsAnsweredIn (IsExchangeWith standby (header_bytes header) user.name) all (told (journal_name directory user.name))
+  answer_for told all answers place user at =
+      let found = found_from policy_user_of users place user (subst (λ them. slice_get them place ≡ Some user) (sym are) at) in
+      let texts = texts_for header standby directory found.0 in
+      let his : IsAnsweredIn (IsCallBy texts) all (told (get_or texts 0 [])) =
+      each_at (λ t. IsAnsweredIn (IsCallBy t) all (told (get_or t 0 []))) (map (texts_for header standby directory) users) place texts answers
+      (found_of (texts_for header standby directory) users place found.0 found.1) in
+      subst (λ (u : PolicyUser). IsAnsweredIn (IsExchangeWith standby (header_bytes header) u.name) all (told (journal_name directory u.name))) found.2
+      (answered_weaker (IsCallBy texts) (IsExchangeWith standby (header_bytes header) (policy_user_of found.0).name) (λ one is. (header, refl, is)) all
+      (told (get_or texts 0 [])) his)
+
+  pub calls_from : (links : LinksScene) (world : FactSet) (told : Text → ℕ) (made : List (List Text)) (answers : List ℕ) (mid : List Exchange)
+      → made ≡ map (texts_for header standby directory) users → mid ≡ links.exchanged → (from : IsFromAmong made answers mid links.exchanged')
+      → AllByRecursion (λ texts. IsAnsweredIn (IsCallBy texts) from.exchanges (told (get_or texts 0 []))) made
+      → CallsAlone links standby directory told policy world (header_bytes header)
+  calls_from links world told made answers mid is_made same from marks = record {
     exchanges = from.exchanges;
     further = from.further ∙ ap (λ l. l ++ from.exchanges) same;
     each = all_weaker (IsCallAmong made) (IsExchangeFor standby policy (header_bytes header))
         (λ one is. call_for one (subst (λ m. IsCallAmong m one) is_made is)) from.exchanges from.each;
+    answered = answer_for told from.exchanges
+        (subst (AllByRecursion (λ texts. IsAnsweredIn (IsCallBy texts) from.exchanges (told (get_or texts 0 [])))) is_made marks);
   }

@@ -38,7 +38,7 @@ use Rattle.cqe_top.specs.declared.end.CommandEnd.{CommandEnd}
 use Rattle.cqe_top.specs.declared.end.CommandEnd.TheVariants as end
 use Rattle.cqe_top.specs.Audit.{AuditEnds, OfAudit}
 use Rattle.cqe_top.specs.Batch.{BatchEnds, RunsBatch, OfBatch, AnswersOverFiles}
-use Rattle.cqe_top.specs.Copied.{CopiedServeEnds, OfCopiedBatch, OfCopiedServe, with_failed, failed_exchanges}
+use Rattle.cqe_top.specs.Copied.{CopiedServeEnds, OfCopiedBatch, OfCopiedServe, with_failed, with_told, failed_exchanges}
 use Rattle.cqe_top.specs.Dossier.{DossierEnds, OfDossier}
 use Rattle.cqe_top.specs.Files.{both, said_on, SayOn, journals_of, new_user, new_users}
 use Rattle.cqe_top.specs.Lives.{TellsAll, IsEndOf, BatchCallsJoin, IsLeft, LeavesPart, LeavesParts, UsesJournals, CallsAreParts}
@@ -243,10 +243,11 @@ module _ {F D : Type 0} (Shelf : ShelfGhosts F D) (Disk : DiskGhosts D) (old new
   abbrev Parts : Type 0
   Parts = LeavesParts (journals_of shelf files) policy world header
 
-  -- the shelf with these counts of the disks' faults behind the call; no journal looks at them
-  abbrev counted : (Text → ℕ) → ShelfScene
-  counted count = record shelf {
+  -- the shelf with these counts of the disks' faults behind the call, and with these marks that may be told; no part looks at them
+  abbrev counted : (Text → ℕ) → (Text → ℕ) → ShelfScene
+  counted count marks = record shelf {
     disk_faults' = count;
+    told' = marks;
   }
 
   -- the counts behind a call in which exchanges that failed are counted, too
@@ -262,25 +263,26 @@ module _ {F D : Type 0} (Shelf : ShelfGhosts F D) (Disk : DiskGhosts D) (old new
       keeps_same Disk files.directory (Shelf.disk old) (Shelf.disk new) (Shelf.disk_faults old) (Shelf.disk_faults new) only_now same
 
   module _ (tells : shelf.tells) (said : said_on shelf files ≡ both policy world header) where
-    of_batch : (count : Text → ℕ) (e : CommandEnd) → BatchEnds (counted count) input output files e → Parts
-    of_batch count (end.Batch users engine_end) runs =
+    of_batch : (count marks : Text → ℕ) (e : CommandEnd) → BatchEnds (counted count marks) input output files e → Parts
+    of_batch count marks (end.Batch users engine_end) runs =
         let over = runs.over_files tells in
-        let answers : AnswersOverFiles (counted count) input output files users engine_end policy world header =
-        said_once (AnswersOverFiles (counted count) input output files users engine_end) policy over.0 world over.1 header over.2 (sym over.3 ∙ said) over.4 in
-        batch_leaves (journals_of (counted count) files) policy world header engine_end answers.journals
-    of_batch count (end.Files why) runs = inl (kept_disks runs.0.disks.0)
-    of_batch count end.Memory runs = inl (kept_disks (same_disks runs.0))
-    of_batch count end.Usage runs = absurd runs
-    of_batch count (end.Case case) runs = absurd runs
-    of_batch count (end.Init users init) runs = absurd runs
-    of_batch count end.Nobody runs = absurd runs
-    of_batch count (end.Audit name audit) runs = absurd runs
-    of_batch count (end.Selfrun run) runs = absurd runs
-    of_batch count (end.Serve users served) runs = absurd runs
-    of_batch count (end.Migrate users moved) runs = absurd runs
-    of_batch count (end.Dossier name shown) runs = absurd runs
-    of_batch count (end.Check checked) runs = absurd runs
-    of_batch count (end.Standby users copied) runs = absurd runs
+        let answers : AnswersOverFiles (counted count marks) input output files users engine_end policy world header =
+        said_once (AnswersOverFiles (counted count marks) input output files users engine_end) policy over.0 world over.1 header over.2 (sym over.3 ∙ said)
+        over.4 in
+        batch_leaves (journals_of (counted count marks) files) policy world header engine_end answers.journals
+    of_batch count marks (end.Files why) runs = inl (kept_disks runs.0.disks.0)
+    of_batch count marks end.Memory runs = inl (kept_disks (same_disks runs.0))
+    of_batch count marks end.Usage runs = absurd runs
+    of_batch count marks (end.Case case) runs = absurd runs
+    of_batch count marks (end.Init users init) runs = absurd runs
+    of_batch count marks end.Nobody runs = absurd runs
+    of_batch count marks (end.Audit name audit) runs = absurd runs
+    of_batch count marks (end.Selfrun run) runs = absurd runs
+    of_batch count marks (end.Serve users served) runs = absurd runs
+    of_batch count marks (end.Migrate users moved) runs = absurd runs
+    of_batch count marks (end.Dossier name shown) runs = absurd runs
+    of_batch count marks (end.Check checked) runs = absurd runs
+    of_batch count marks (end.Standby users copied) runs = absurd runs
 
     of_audit : (user : Text) (json : Bool) (e : CommandEnd) → AuditEnds shelf output files user json e → Parts
     of_audit user json (end.Audit name engine_end) runs =
@@ -318,61 +320,64 @@ module _ {F D : Type 0} (Shelf : ShelfGhosts F D) (Disk : DiskGhosts D) (old new
     of_dossier user (end.Check checked) runs = absurd runs
     of_dossier user (end.Standby users copied) runs = absurd runs
 
-    of_serve : (count : Text → ℕ) (address : Text) (workers limit : ℕ) (e : CommandEnd) → ServeEnds (counted count) links files address workers limit e → Parts
-    of_serve count address workers limit (end.Serve users engine_end) runs =
+    of_serve : (count marks : Text → ℕ) (address : Text) (workers limit : ℕ) (e : CommandEnd) → ServeEnds (counted count marks) links files address workers
+        limit e → Parts
+    of_serve count marks address workers limit (end.Serve users engine_end) runs =
         let over = runs.over_files tells in
-        let serves : ServesOverFiles (counted count) links files address workers limit users engine_end policy world header =
-        said_once (ServesOverFiles (counted count) links files address workers limit users engine_end) policy over.0 world over.1 header over.2
+        let serves : ServesOverFiles (counted count marks) links files address workers limit users engine_end policy world header =
+        said_once (ServesOverFiles (counted count marks) links files address workers limit users engine_end) policy over.0 world over.1 header over.2
         (sym over.3 ∙ said) over.4 in
-        serving_leaves (journals_of (counted count) files) policy world header users.items engine_end serves.of_policy serves.journals
-    of_serve count address workers limit (end.Files why) runs = inl (kept_disks runs.0.disks.0)
-    of_serve count address workers limit end.Memory runs = inl (kept_disks (same_disks runs.0))
-    of_serve count address workers limit end.Usage runs = absurd runs
-    of_serve count address workers limit (end.Case case) runs = absurd runs
-    of_serve count address workers limit (end.Init users init) runs = absurd runs
-    of_serve count address workers limit (end.Batch users batched) runs = absurd runs
-    of_serve count address workers limit end.Nobody runs = absurd runs
-    of_serve count address workers limit (end.Audit name audit) runs = absurd runs
-    of_serve count address workers limit (end.Selfrun run) runs = absurd runs
-    of_serve count address workers limit (end.Migrate users moved) runs = absurd runs
-    of_serve count address workers limit (end.Dossier name shown) runs = absurd runs
-    of_serve count address workers limit (end.Check checked) runs = absurd runs
-    of_serve count address workers limit (end.Standby users copied) runs = absurd runs
+        serving_leaves (journals_of (counted count marks) files) policy world header users.items engine_end serves.of_policy serves.journals
+    of_serve count marks address workers limit (end.Files why) runs = inl (kept_disks runs.0.disks.0)
+    of_serve count marks address workers limit end.Memory runs = inl (kept_disks (same_disks runs.0))
+    of_serve count marks address workers limit end.Usage runs = absurd runs
+    of_serve count marks address workers limit (end.Case case) runs = absurd runs
+    of_serve count marks address workers limit (end.Init users init) runs = absurd runs
+    of_serve count marks address workers limit (end.Batch users batched) runs = absurd runs
+    of_serve count marks address workers limit end.Nobody runs = absurd runs
+    of_serve count marks address workers limit (end.Audit name audit) runs = absurd runs
+    of_serve count marks address workers limit (end.Selfrun run) runs = absurd runs
+    of_serve count marks address workers limit (end.Migrate users moved) runs = absurd runs
+    of_serve count marks address workers limit (end.Dossier name shown) runs = absurd runs
+    of_serve count marks address workers limit (end.Check checked) runs = absurd runs
+    of_serve count marks address workers limit (end.Standby users copied) runs = absurd runs
 
-    of_copied_serve : (address : Text) (workers limit : ℕ) (e : CommandEnd)
-        → CopiedServeEnds (with_failed (scene_of shelf input output links) (failed_exchanges links)) files address workers limit e → Parts
-    of_copied_serve address workers limit (end.Serve users engine_end) runs = of_serve with_exchanges address workers limit (end.Serve users engine_end) runs
-    of_copied_serve address workers limit (end.Files why) runs = inl (kept_disks runs.0.disks.0)
-    of_copied_serve address workers limit end.Memory runs = inl (kept_disks (same_disks runs.0))
-    of_copied_serve address workers limit end.Usage runs = absurd runs
-    of_copied_serve address workers limit (end.Case case) runs = absurd runs
-    of_copied_serve address workers limit (end.Init users init) runs = absurd runs
-    of_copied_serve address workers limit (end.Batch users batched) runs = absurd runs
-    of_copied_serve address workers limit end.Nobody runs = absurd runs
-    of_copied_serve address workers limit (end.Audit name audit) runs = absurd runs
-    of_copied_serve address workers limit (end.Selfrun run) runs = absurd runs
-    of_copied_serve address workers limit (end.Migrate users moved) runs = absurd runs
-    of_copied_serve address workers limit (end.Dossier name shown) runs = absurd runs
-    of_copied_serve address workers limit (end.Check checked) runs = absurd runs
-    of_copied_serve address workers limit (end.Standby users copied) runs = absurd runs
+    of_copied_serve : (marks : Text → ℕ) (address : Text) (workers limit : ℕ) (e : CommandEnd)
+        → CopiedServeEnds (with_told (with_failed (scene_of shelf input output links) (failed_exchanges links)) marks) files address workers limit e → Parts
+    of_copied_serve marks address workers limit (end.Serve users engine_end) runs = of_serve with_exchanges marks address workers limit
+    (end.Serve users engine_end) runs
+    of_copied_serve marks address workers limit (end.Files why) runs = inl (kept_disks runs.0.disks.0)
+    of_copied_serve marks address workers limit end.Memory runs = inl (kept_disks (same_disks runs.0))
+    of_copied_serve marks address workers limit end.Usage runs = absurd runs
+    of_copied_serve marks address workers limit (end.Case case) runs = absurd runs
+    of_copied_serve marks address workers limit (end.Init users init) runs = absurd runs
+    of_copied_serve marks address workers limit (end.Batch users batched) runs = absurd runs
+    of_copied_serve marks address workers limit end.Nobody runs = absurd runs
+    of_copied_serve marks address workers limit (end.Audit name audit) runs = absurd runs
+    of_copied_serve marks address workers limit (end.Selfrun run) runs = absurd runs
+    of_copied_serve marks address workers limit (end.Migrate users moved) runs = absurd runs
+    of_copied_serve marks address workers limit (end.Dossier name shown) runs = absurd runs
+    of_copied_serve marks address workers limit (end.Check checked) runs = absurd runs
+    of_copied_serve marks address workers limit (end.Standby users copied) runs = absurd runs
 
     of_reading : (r : Option Reading) (e : CommandEnd) → Does (scene_of shelf input output links) r e → UsesJournals files r → Parts
     of_reading (Some (runs_batch its workers)) e does same =
-        of_batch shelf.disk_faults' e (subst (λ (f : FileNames). OfBatch (scene_of shelf input output links) f e) same does.command).ends
+        of_batch shelf.disk_faults' shelf.told' e (subst (λ (f : FileNames). OfBatch (scene_of shelf input output links) f e) same does.command).ends
     of_reading (Some (runs_audit its user json)) e does same =
         of_audit user json e (subst (λ (f : FileNames). OfAudit (scene_of shelf input output links) f user json e) same does.command).ends
     of_reading (Some (runs_serve its address workers limit)) e does same =
-        of_serve shelf.disk_faults' address workers limit e
+        of_serve shelf.disk_faults' shelf.told' address workers limit e
         (subst (λ (f : FileNames). OfServe (scene_of shelf input output links) f address workers limit e) same does.command).ends
     of_reading (Some (runs_dossier its user)) e does same =
         of_dossier user e (subst (λ (f : FileNames). OfDossier (scene_of shelf input output links) f user e) same does.command).ends
     of_reading (Some (runs_copied_batch its workers standby)) e does same =
-        of_batch with_exchanges e
-        (subst (λ (f : FileNames). OfCopiedBatch (with_failed (scene_of shelf input output links) (failed_exchanges links)) f standby e) same does.command).ends
+        let of = subst (λ (f : FileNames). OfCopiedBatch (with_failed (scene_of shelf input output links) (failed_exchanges links)) f standby e) same
+        does.command in
+        of_batch with_exchanges of.told e of.ends
     of_reading (Some (runs_copied_serve its address workers limit standby)) e does same =
-        of_copied_serve address workers limit e
-        (subst (λ (f : FileNames). OfCopiedServe (with_failed (scene_of shelf input output links) (failed_exchanges links)) f address workers limit standby e)
-        same does.command).ends
+        let of = subst (λ (f : FileNames).
+        OfCopiedServe (with_failed (scene_of shelf input output links) (failed_exchanges links)) f address workers limit standby e) same does.command in
+        of_copied_serve of.told address workers limit e of.ends
     of_reading None e does uses = absurd uses
     of_reading (Some runs_case) e does uses = absurd uses
     of_reading (Some (runs_init its)) e does uses = absurd uses

@@ -59,7 +59,8 @@ module _ {F D : Type 0} (Shelf : ShelfGhosts F D) (Disk : DiskGhosts D) (old mid
     -- the journals are the same
     pub same_journals : journals_of (shelf_of Shelf Disk mid new) files ≡ journals_of (shelf_of Shelf Disk old new) files
     same_journals =
-        λ i. journals_by Disk.reads Disk.image Disk.moment Disk.image_since files.directory (λ name. disks name i) (Shelf.disk new) (λ name. counts name i)
+        λ i. journals_by Disk.reads Disk.image Disk.moment Disk.image_since Disk.told files.directory (λ name. disks name i) (Shelf.disk new)
+        (λ name. counts name i)
         (Shelf.disk_faults new)
 
     -- no disk but the journals of the policy's users was touched, and no other count changed

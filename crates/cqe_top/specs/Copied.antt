@@ -1,17 +1,19 @@
 -- The commands `batch` and `serve` with a standby, which copies their journals. What is promised of
 -- them is what is promised without one, where exchanges with the standby that failed are counted
 -- with the faults of the users' disks, each with those of the disk whose name its dial has. And
--- each exchange calls the standby, and gives it the frame of some record of a user of the policy.
+-- each exchange calls the standby, and gives it the frame of some record of a user of the policy;
+-- and each user has no more entries than the standby answered that it has of his.
 use Rattle.std.specs.Prelude.{◌≡◌, ◌⊎◌, ℕ, ◌+◌, ◌-◌, ◌++◌, Bool, true, false, List, Option, Some}
 use Rattle.std.specs.List.{AllByRecursion, slice_get}
 use Rattle.outside.specs.Dials.{Exchange}
 use Rattle.cqe_base.specs.Facts.{FactSet}
 use Rattle.cqe_base.specs.Schema.{Text}
 use Rattle.command_words.specs.Readings.{FileNames, Reading, runs_copied_batch, runs_copied_serve}
+use Rattle.log_journal.specs.Names.{journal_name}
 use Rattle.log_journal.specs.Opening.{header_bytes}
 use Rattle.log_journal.specs.declared.header.Header.{Header}
 use Rattle.policy_files.specs.Policies.{PolicyUser, PolicyValue}
-use Rattle.standby_core.specs.Calls.{IsExchangeOf}
+use Rattle.standby_core.specs.Calls.{IsExchangeOf, IsAnsweredIn}
 use Rattle.standby_core.specs.Users.{frame_user}
 use Rattle.cqe_top.specs.declared.end.CommandEnd.{CommandEnd}
 use Rattle.cqe_top.specs.declared.end.CommandEnd.TheVariants as command_end
@@ -49,28 +51,42 @@ counted_with s reading = counted_by s (has_standby reading)
 
 -- ---- whom the dials call, and what they tell
 
--- An exchange with the standby at this address told it of some record of a user of this policy,
+-- An exchange with the standby at this address told it of some record of the user of this name,
 -- with this header. His name stands in the frame if it has room for it.
-abbrev pub IsExchangeFor : Text → PolicyValue → List ℕ → Exchange → Type 0
-IsExchangeFor standby policy header one =
-    (own : Header) × (header_bytes own ≡ header) × (place : ℕ) × (user : PolicyUser)
-    × (slice_get policy.users place ≡ Some user)
-    × IsExchangeOf standby own (frame_user user.name) one
+abbrev pub IsExchangeWith : Text → List ℕ → Text → Exchange → Type 0
+IsExchangeWith standby header name one = (own : Header) × (header_bytes own ≡ header)
+    × IsExchangeOf standby own (frame_user name) one
 
--- all that was exchanged in the call are such exchanges
-pub record CallsAlone (links : LinksScene) (standby : Text) (policy : PolicyValue)
-    (world : FactSet) (header : List ℕ) : Type 0 where
+-- of some record of a user of this policy
+abbrev pub IsExchangeFor : Text → PolicyValue → List ℕ → Exchange → Type 0
+IsExchangeFor standby policy header one = (place : ℕ) × (user : PolicyUser)
+    × (slice_get policy.users place ≡ Some user) × IsExchangeWith standby header user.name one
+
+-- All that was exchanged in the call are such exchanges. And of each user's journal, by its name,
+-- the marks that may be told are those with lower numbers than the standby answered to one for him;
+-- where it answered none, there are none.
+pub record CallsAlone (links : LinksScene) (standby directory : Text) (told : Text → ℕ)
+    (policy : PolicyValue) (world : FactSet) (header : List ℕ) : Type 0 where
   pub exchanges : List Exchange
   pub further : links.exchanged' ≡ links.exchanged ++ exchanges
   pub each : AllByRecursion (IsExchangeFor standby policy header) exchanges
+  pub answered : (place : ℕ) (user : PolicyUser) → slice_get policy.users place ≡ Some user
+      → IsAnsweredIn (IsExchangeWith standby header user.name) exchanges
+      (told (journal_name directory user.name))
 
 -- where the command ran, the standby alone was called, by what the files say, and else nobody
-abbrev pub CallsStandby : Scene → FileNames → Text → CommandEnd → Type 0
-CallsStandby s files standby (command_end.Batch users engine_end) =
-    s.shelf.tells → s.links.tells → SayOn s.shelf files (CallsAlone s.links standby)
-CallsStandby s files standby (command_end.Serve users engine_end) =
-    s.shelf.tells → s.links.tells → SayOn s.shelf files (CallsAlone s.links standby)
-CallsStandby s files standby end = s.links.tells → s.links.exchanged' ≡ s.links.exchanged
+abbrev pub CallsStandby : Scene → FileNames → Text → (Text → ℕ) → CommandEnd → Type 0
+CallsStandby s files standby told (command_end.Batch users engine_end) =
+    s.shelf.tells → s.links.tells
+    → SayOn s.shelf files (CallsAlone s.links standby files.directory told)
+CallsStandby s files standby told (command_end.Serve users engine_end) =
+    s.shelf.tells → s.links.tells
+    → SayOn s.shelf files (CallsAlone s.links standby files.directory told)
+CallsStandby s files standby told end = s.links.tells → s.links.exchanged' ≡ s.links.exchanged
+
+-- the scene where of the disk of each name the marks may be told that have lower numbers than this
+abbrev pub with_told : Scene → (Text → ℕ) → Scene
+with_told s told = record s { shelf = record s.shelf { told' = told } }
 
 -- ---- the commands
 
@@ -87,12 +103,14 @@ pub record KeepsDoors (links : LinksScene) : Type 0 where
   pub listened : links.tells → links.listened' ≡ links.listened
 
 -- `batch` with a standby at this address, as `OfBatch`: it listens nowhere, and opens connections
--- to the standby, or leaves the links alone
+-- to the standby, or leaves the links alone. The marks that may be told are those that the standby
+-- answered for.
 pub record OfCopiedBatch (s : Scene) (files : FileNames) (standby : Text) (end : CommandEnd)
     : Type 0 where
-  pub ends : BatchEnds s.shelf s.input s.output files end
+  pub told : Text → ℕ
+  pub ends : BatchEnds (with_told s told).shelf s.input s.output files end
   pub listens_nowhere : SameLinks s.links ⊎ KeepsDoors s.links
-  pub calls : CallsStandby s files standby end
+  pub calls : CallsStandby s files standby told end
   pub succeeds : BatchSucceeds s.shelf s.input s.output files end
 
 -- the ends that `serve` with a standby may have
@@ -105,11 +123,12 @@ CopiedServeEnds s files address workers limit command_end.Memory =
     SameShelf s.shelf × SameLinks s.links
 CopiedServeEnds s files address workers limit end = ⊥
 
--- `serve` with a standby at this address, as `OfServe`
+-- `serve` with a standby at this address, as `OfServe`, with marks as of `batch`
 pub record OfCopiedServe (s : Scene) (files : FileNames) (address : Text) (workers limit : ℕ)
     (standby : Text) (end : CommandEnd) : Type 0 where
-  pub ends : CopiedServeEnds s files address workers limit end
+  pub told : Text → ℕ
+  pub ends : CopiedServeEnds (with_told s told) files address workers limit end
   pub reads_nothing : SameInput s.input
   pub writes_nothing : SameOutput s.output
-  pub calls : CallsStandby s files standby end
+  pub calls : CallsStandby s files standby told end
   pub succeeds : ServeSucceeds s.shelf s.links files address workers limit end

@@ -91,9 +91,11 @@ module _ (shelf : ShelfScene) (files : FileNames) where
 
   -- the journals before the call and behind it
   abbrev pub journals_of : Journals
-  journals_of =
-      journals_by shelf.Disk.reads shelf.Disk.image shelf.Disk.moment shelf.Disk.image_since
-      files.directory shelf.disk shelf.disk' shelf.disk_faults shelf.disk_faults'
+  journals_of = record (journals_by shelf.Disk.reads shelf.Disk.image shelf.Disk.moment
+      shelf.Disk.image_since shelf.Disk.told files.directory shelf.disk shelf.disk'
+      shelf.disk_faults shelf.disk_faults') {
+        told = λ name. shelf.told' (journal_name files.directory name);
+      }
 
   -- the journals of a policy's users
   abbrev pub journals_in : PolicyValue → List Text

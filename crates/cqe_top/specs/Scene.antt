@@ -18,6 +18,7 @@ use Rattle.outside.specs.declared.shelf.Shelf.{Ghosts as ShelfGhosts}
 use Rattle.outside.specs.declared.stream.Sink.{Ghosts as SinkGhosts}
 use Rattle.outside.specs.declared.stream.Source.{Ghosts as SourceGhosts}
 use Rattle.cqe_base.specs.Schema.{Text}
+use Rattle.desk_crew.specs.Shelved.{told_on}
 
 -- ---- the objects
 
@@ -72,6 +73,8 @@ pub record ShelfScene : Type 1 where
   -- the count of faults of the disk of a name
   pub disk_faults : Text → ℕ
   pub disk_faults' : Text → ℕ
+  -- the number below which the marks of the records of the disk of a name may be told
+  pub told' : Text → ℕ
   -- the shelf's own count
   pub faults : Count
   -- the shelf itself
@@ -170,6 +173,7 @@ shelf_of {F} {D} Shelf Disk old new = record {
   is_out' = Shelf.is_out new;
   disk_faults = Shelf.disk_faults old;
   disk_faults' = Shelf.disk_faults new;
+  told' = λ name. told_on Disk.told (Shelf.disk new name);
   faults = record { before = Shelf.faults old; now = Shelf.faults new };
   Object = F;
   object = old;

@@ -9,6 +9,7 @@ use Rattle.command_words.specs.Readings.{runs_batch, runs_audit, runs_selfrun, r
 use Rattle.command_words.specs.Readings.{runs_migrate, runs_dossier, runs_check}
 use Rattle.command_words.specs.Readings.{runs_copied_batch, runs_copied_serve, runs_standby}
 use Rattle.desk_crew.specs.Shelved.{Journals, journals_by}
+use Rattle.log_journal.specs.Names.{journal_name}
 use Rattle.outside.specs.declared.disk.Disk.{Ghosts as DiskGhosts}
 use Rattle.outside.specs.declared.shelf.Shelf.{Ghosts as ShelfGhosts}
 use Rattle.policy_files.specs.declared.error.PolicyError.{PolicyError}
@@ -114,9 +115,13 @@ KeepsCopiedBounds (copied.Serve listening) = ServesBounds listening.workers list
 abbrev pub copied_counts : (Text → ℕ) → (Text → ℕ) → Text → ℕ
 copied_counts count failed name = count name + failed name
 
--- the journals of users in a directory, where so many exchanges with a standby failed for each disk
+-- the journals of users in a directory, where so many exchanges with a standby failed for each
+-- disk, and the marks with lower numbers than this may be told
 abbrev pub copied_journals : {F D : Type 0} → ShelfGhosts F D → DiskGhosts D → Text → F → F
-    → (Text → ℕ) → Journals
-copied_journals Shelf Disk directory old new failed =
-    journals_by Disk.reads Disk.image Disk.moment Disk.image_since directory (Shelf.disk old)
-    (Shelf.disk new) (Shelf.disk_faults old) (copied_counts (Shelf.disk_faults new) failed)
+    → (Text → ℕ) → (Text → ℕ) → Journals
+copied_journals Shelf Disk directory old new failed marks =
+    record (journals_by Disk.reads Disk.image Disk.moment Disk.image_since Disk.told directory
+    (Shelf.disk old) (Shelf.disk new) (Shelf.disk_faults old)
+    (copied_counts (Shelf.disk_faults new) failed)) {
+      told = λ name. marks (journal_name directory name);
+    }

@@ -12,7 +12,7 @@ ghost use Rattle.line_protocol.specs.Rests.{IsRest};
 ghost use Rattle.log_journal.specs.Opening.{header_bytes};
 ghost use Rattle.serve_engine.specs.Serving as serving;
 ghost use Rattle.serve_engine.specs.Serving.{IsDone};
-ghost use Rattle.standby_core.specs.MirrorSets.{slots_of, dial_faults};
+ghost use Rattle.standby_core.specs.MirrorSets.{slots_of, dial_faults, dial_marks};
 ghost use Rattle.standby_core.specs.Places.{is_away};
 ghost use Rattle.standby_core.specs.Slots.{place_at, slot_texts, there_among};
 ghost use Rattle.cqe_top.specs.Promise.{Does};
@@ -163,18 +163,22 @@ where
     ensures made { map (slot_texts C.name C.address) (slots_of mirrors.new)
         ≡ map (slot_texts C.name C.address) (slots_of mirrors.old) }
     ensures all_there { there_among (slots_of mirrors.new) ≡ length (slots_of mirrors.new) }
+    ensures none_away { (name : List ℕ)
+        → is_away (place_at (slots_of mirrors.new) name) ≡ false }
     ensures ends { F.tells → S.tells → K.tells
         → batch.EndsBatch registry.now.schema.now registry.now.world.now
         (header_bytes registry.now.header.now)
         (copied_journals F.Shelf F.D.Disk registry.now.directory.now shelf.old shelf.new
-        (dial_faults C.faults mirrors.new))
+        (dial_faults C.faults mirrors.new)
+        (dial_marks C.answered (F.disk shelf.new) mirrors.new))
         (map named_user registry.now.users.now) result (S.left source.old) (S.left source.new)
         (K.written sink.old) (K.written sink.new) }
     ensures journals { F.tells
         → batch.LeavesJournals registry.now.schema.now registry.now.world.now
         (header_bytes registry.now.header.now)
         (copied_journals F.Shelf F.D.Disk registry.now.directory.now shelf.old shelf.new
-        (dial_faults C.faults mirrors.new))
+        (dial_faults C.faults mirrors.new)
+        (dial_marks C.answered (F.disk shelf.new) mirrors.new))
         (map named_user registry.now.users.now) result }
     ensures disks { SameBeside
         (registered_journals registry.now.directory.now registry.now.users.now) (F.disk shelf.old)
@@ -249,18 +253,22 @@ where
     ensures made { map (slot_texts C.name C.address) (slots_of mirrors.new)
         ≡ map (slot_texts C.name C.address) (slots_of mirrors.old) }
     ensures all_there { there_among (slots_of mirrors.new) ≡ length (slots_of mirrors.new) }
+    ensures none_away { (name : List ℕ)
+        → is_away (place_at (slots_of mirrors.new) name) ≡ false }
     ensures ends { F.tells → L.tells
         → serving.EndsServing registry.now.schema.now registry.now.world.now
         (header_bytes registry.now.header.now)
         (copied_journals F.Shelf F.D.Disk registry.now.directory.now shelf.old shelf.new
-        (dial_faults C.faults mirrors.new))
+        (dial_faults C.faults mirrors.new)
+        (dial_marks C.answered (F.disk shelf.new) mirrors.new))
         registry.now.users.now (L.given links.old) (L.given links.new) (L.back links.old)
         (L.back links.new) result }
     ensures journals { F.tells
         → serving.LeavesJournals registry.now.schema.now registry.now.world.now
         (header_bytes registry.now.header.now)
         (copied_journals F.Shelf F.D.Disk registry.now.directory.now shelf.old shelf.new
-        (dial_faults C.faults mirrors.new))
+        (dial_faults C.faults mirrors.new)
+        (dial_marks C.answered (F.disk shelf.new) mirrors.new))
         registry.now.users.now result }
     ensures listens { L.tells → (L.listened links.new ≡ L.listened links.old)
         ⊎ (L.listened links.new

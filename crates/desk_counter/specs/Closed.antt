@@ -21,10 +21,10 @@ use Rattle.desk_counter.specs.Sole.{IsAsOpened}
 -- its journal was refused, each image holds the state that they show, whose history is legal and
 -- within the limits; they are those that it was put under the counter with and then the pass's own,
 -- with one entry in flight at most; only of a user who is served are there any; the count rose
--- where an append failed; where none did, the disk has grown for the entries alone; and where
--- nothing was appended it is as it was at the opening; it comes from where it came. Since the
--- opening each image opens a desk with a beginning of the history, with the entry in flight, that
--- has all entries at the opening.
+-- where an append failed; where none did, the disk has grown for the entries alone; the marks of
+-- all entries may be told; and where nothing was appended it is as it was at the opening; it comes
+-- from where it came. Since the opening each image opens a desk with a beginning of the history,
+-- with the entry in flight, that has all entries at the opening.
 pub record IsClosed {D : Type 0} (Disk : DiskGhosts D) (kept : Fixed D)
     (first own pairs : Entries TurnItem) (disk : D) : Type 0 where
   pub holds : Disk.tells → is_sealed kept.standing ≡ false → (c : List ℕ) → Disk.image disk c
@@ -38,6 +38,7 @@ pub record IsClosed {D : Type 0} (Disk : DiskGhosts D) (kept : Fixed D)
   pub cause : has_broke pairs ≡ true → Rose (Disk.faults kept.disk) (Disk.faults disk)
   pub size : Disk.tells → has_broke pairs ≡ false
       → IsNoLonger (Disk.reads kept.disk) (history_of pairs) (Disk.reads disk)
+  pub told : Disk.tells → length (history_of pairs) ≤ Disk.told disk
   pub shut : is_sealed kept.standing ≡ true → disk ≡ kept.disk
   pub still : IsAsOpened kept pairs → disk ≡ kept.disk
   pub since : Disk.tells → is_sealed kept.standing ≡ false → (c : List ℕ)

@@ -107,13 +107,15 @@ journal_seated (Ok seat) = seat_journal seat
 journal_seated (Err returned) = string_bytes returned.journal
 
 -- an opening leaves a disk as it was: it reads the same, no crash leaves anything new, at no moment
--- of it either, its count of faults didn't fall, and it comes from where it came
+-- of it either, its count of faults didn't fall, it comes from where it came, and each mark that
+-- might be told still may
 pub record IsLeft {D : Type 0} (Disk : DiskGhosts D)
     (old new : D) : Type 0 where
   pub reads_same : Disk.reads new ≡ Disk.reads old
   pub images : (c : List ℕ) → Disk.image new c → Disk.image old c
   pub later : Disk.faults old ≤ Disk.faults new
   pub comes : Disk.origin new ≡ Disk.origin old
+  pub still_told : Disk.told old ≤ Disk.told new
   pub time : Elapses (Disk.moment old) (Disk.moment new) (Disk.image_since old)
       (Disk.image_since new)
   pub rests : (c : List ℕ) → Disk.image_since new (Disk.moment old) c → Disk.image old c

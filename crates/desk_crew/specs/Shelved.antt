@@ -15,8 +15,9 @@ use Rattle.desk_crew.specs.Seats.{DeskSeat}
 -- The journals of users by their names, in a call: the bytes that were read of each as the call
 -- began, none where there was no disk, and what a crash could leave then; the count of its disk's
 -- faults then, and as the call ended; the bytes that are read then, and what a crash may leave; the
--- moments at which the call began and ended, by the clock of its disk, where there was one; and
--- what a crash could leave at the moments since one of that clock, as the call ended.
+-- moments at which the call began and ended, by the clock of its disk, where there was one; what a
+-- crash could leave at the moments since one of that clock, as the call ended; and the number below
+-- which the marks of its records may be told then, 0 where there is no disk.
 pub record Journals : Type 1 where
   pub bytes : Text → List ℕ
   pub image_before : Text → List ℕ → Type 0
@@ -27,13 +28,19 @@ pub record Journals : Type 1 where
   pub began : Text → Option ℕ
   pub ended : Text → Option ℕ
   pub since : Text → ℕ → List ℕ → Type 0
+  pub told : Text → ℕ
+
+-- the number below which the marks of a disk's records may be told, 0 where there is no disk
+abbrev pub told_on : {D : Type 0} → (D → ℕ) → Option D → ℕ
+told_on told None = 0
+told_on told (Some disk) = told disk
 
 -- the journals of users in a directory, by the disks and the counts under their names as a call
 -- began and as it ended
 abbrev pub journals_by : {D : Type 0} → (D → List ℕ) → (D → List ℕ → Type 0) → (D → ℕ)
-    → (D → ℕ → List ℕ → Type 0) → Text → (Text → Option D) → (Text → Option D) → (Text → ℕ)
-    → (Text → ℕ) → Journals
-journals_by reads image moment since directory disk disk' count count' = record {
+    → (D → ℕ → List ℕ → Type 0) → (D → ℕ) → Text → (Text → Option D) → (Text → Option D)
+    → (Text → ℕ) → (Text → ℕ) → Journals
+journals_by reads image moment since told directory disk disk' count count' = record {
   bytes = λ name. bytes_on reads (disk (journal_name directory name));
   image_before = λ name. image_on image (disk (journal_name directory name));
   before = λ name. count (journal_name directory name);
@@ -43,13 +50,14 @@ journals_by reads image moment since directory disk disk' count count' = record 
   began = λ name. option_map moment (disk (journal_name directory name));
   ended = λ name. option_map moment (disk' (journal_name directory name));
   since = λ name. since_on since (disk' (journal_name directory name));
+  told = λ name. told_on told (disk' (journal_name directory name));
 }
 
 -- the same by a shelf as a call began and as it ended
 abbrev pub journals_on : {F D : Type 0} → ShelfGhosts F D → DiskGhosts D → Text → F → F → Journals
 journals_on Shelf Disk directory old new =
-    journals_by Disk.reads Disk.image Disk.moment Disk.image_since directory (Shelf.disk old)
-    (Shelf.disk new) (Shelf.disk_faults old) (Shelf.disk_faults new)
+    journals_by Disk.reads Disk.image Disk.moment Disk.image_since Disk.told directory
+    (Shelf.disk old) (Shelf.disk new) (Shelf.disk_faults old) (Shelf.disk_faults new)
 
 -- The journal of this name was first opened in the call at a moment of its disk's clock. Up to it
 -- no crash could leave anything new; since then each leaves bytes of this kind; and where no

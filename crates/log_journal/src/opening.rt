@@ -200,6 +200,7 @@ fn record_at<D: Disk>(
         (D.moment disk.old) (D.moment disk.new) (D.image_since disk.old) (D.image_since disk.new)
         (D.faults disk.old) (D.faults disk.new) }
     ensures origin { D.origin disk.new ≡ D.origin disk.old }
+    ensures still_told { D.told disk.old ≤ D.told disk.new }
 {
     let mut window = [0; WINDOW];
     let count = disk.read_at(gate, &mut window)?;
@@ -226,6 +227,7 @@ fn read_records<D: Disk>(
         (D.moment disk.old) (D.moment disk.new) (D.image_since disk.old) (D.image_since disk.new)
         (D.faults disk.old) (D.faults disk.new) }
     ensures origin { D.origin disk.new ≡ D.origin disk.old }
+    ensures still_told { D.told disk.old ≤ D.told disk.new }
 {
     let mut records = Vec::new(alloc);
     let mut gate = 72;
@@ -253,6 +255,7 @@ fn read_header<D: Disk>(disk: &mut D, first: &[u8; 8], header: &Header) -> Resul
         (D.moment disk.old) (D.moment disk.new) (D.image_since disk.old) (D.image_since disk.new)
         (D.faults disk.old) (D.faults disk.new) }
     ensures origin { D.origin disk.new ≡ D.origin disk.old }
+    ensures still_told { D.told disk.old ≤ D.told disk.new }
 {
     let _length = disk.length()?;
     let mut start = [0; 73];
@@ -286,6 +289,7 @@ fn read_journal<D: Disk>(
         (D.moment disk.old) (D.moment disk.new) (D.image_since disk.old) (D.image_since disk.new)
         (D.faults disk.old) (D.faults disk.new) }
     ensures origin { D.origin disk.new ≡ D.origin disk.old }
+    ensures still_told { D.told disk.old ≤ D.told disk.new }
 {
     read_header(disk, first, header)?;
     read_records(alloc, disk, kinds)
@@ -310,6 +314,7 @@ fn read_synced<D: Disk>(
         (D.faults disk.old) (D.faults disk.new)) }
     ensures reads { D.reads disk.new ≡ D.reads disk.old }
     ensures origin { D.origin disk.new ≡ D.origin disk.old }
+    ensures still_told { D.told disk.old ≤ D.told disk.new }
     ensures durable { OnOk result (Only (D.reads disk.new) (D.image disk.new)) }
     ensures synced { IfErr result (λ why. (why ≡ OpenError.DiskFault)
         ⊎ Only (D.reads disk.new) (D.image disk.new)) }
@@ -343,6 +348,7 @@ fn read_told<D: Disk>(
         (D.faults disk.new)) }
     ensures reads { D.reads disk.new ≡ D.reads disk.old }
     ensures origin { D.origin disk.new ≡ D.origin disk.old }
+    ensures still_told { D.told disk.old ≤ D.told disk.new }
     ensures durable { OnOk result (Only (D.reads disk.new) (D.image disk.new)) }
     ensures synced { IfErr result (λ why. (why ≡ OpenError.DiskFault)
         ⊎ Only (D.reads disk.new) (D.image disk.new)) }
@@ -391,6 +397,9 @@ pub fn open<D: Disk>(
 
     ensures reads { D.reads (disk_after result) ≡ D.reads disk }
     ensures origin { D.origin (disk_after result) ≡ D.origin disk }
+
+    // No mark that might be told before may not be told any more.
+    ensures still_told { D.told disk ≤ D.told (disk_after result) }
     ensures durable { OnOk result (Only (D.reads disk) (D.image (disk_after result))) }
     ensures synced { IfErr result (λ r. (r.why ≡ OpenError.DiskFault)
         ⊎ Only (D.reads disk) (D.image r.disk)) }

@@ -40,6 +40,7 @@ pub(crate) fn tell_all<D: Disk>(disk: &mut D, all: &[Record]) -> Result<(), Fail
     requires each { All (IsRecord 5) all.now }
     requires few { length all.now < 2 ^ 64 }
     ensures told { OnOk result (length all.now ≤ D.told disk.new) }
+    ensures still_told { D.told disk.old ≤ D.told disk.new }
     ensures origin { D.origin disk.new ≡ D.origin disk.old }
     ensures only { IsOnlyRead (D.reads disk.old) (D.reads disk.new) (D.image disk.old)
         (D.image disk.new)

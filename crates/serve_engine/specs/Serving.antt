@@ -1,5 +1,5 @@
 -- What serving connections means for the users and for the connections.
-use Rattle.std.specs.Prelude.{◌≡◌, ◌⊎◌, ℕ, suc, ◌+◌, Bool, true, false, List, [], ◌∷◌, ◌++◌}
+use Rattle.std.specs.Prelude.{◌≡◌, ◌⊎◌, ◌≤◌, ℕ, suc, ◌+◌, Bool, true, false, List, [], ◌∷◌, ◌++◌}
 use Rattle.std.specs.Prelude.{Option, Vec, string_bytes, not, length, option_to_list}
 use Rattle.std.specs.declared.alloc.Global.{Global}
 use Rattle.std.specs.List.{AllZip, list_any, flat_map}
@@ -82,6 +82,8 @@ module _ (schema : DatabaseSchema) (world : FactSet) (header : List ℕ) (journa
     pub size : member_broke member ≡ false
         → IsNoLonger (journals.bytes (string_bytes user.name)) member.history
         (journals.reads (string_bytes user.name))
+    -- the marks of all his entries may be told
+    pub told : length member.history ≤ journals.told (string_bytes user.name)
     -- only where he is served has he entries, or did an append fail
     pub idle : is_open standing ≡ false → (member.history ≡ []) × (member_broke member ≡ false)
     -- where it was refused, or nothing was appended, it is as it was

@@ -1,9 +1,9 @@
 -- What the dial of a mirror has exchanged, with one exchange more.
-use Rattle.std.proofs.Common.{◌≡◌, ℕ, ◌≤◌, List, [], ◌∷◌, ◌++◌, ◌∙◌, length, All, subst, sym, inl, inr}
+use Rattle.std.proofs.Common.{◌≡◌, ℕ, ◌≤◌, max, List, [], ◌∷◌, ◌++◌, ◌∙◌, length, All, Some, None, ap, subst, sym, inl, inr, arith}
 use Rattle.std.proofs.lemmas.List.Elements.{All-nil, All-cons, All-append, All-same}
 use Rattle.outside.specs.Dials.{Exchange, IsNext, MayBeNext}
 use Rattle.log_journal.specs.declared.header.Header.{Header}
-use Rattle.standby_core.specs.Calls.{IsExchangeOf}
+use Rattle.standby_core.specs.Calls.{IsExchangeOf, number_answered, greatest_answer}
 use Rattle.standby_core.specs.Frames.{Carried, frame_bytes}
 
 -- it was given the frame of a record
@@ -40,3 +40,26 @@ module _ (address address' : List ℕ) (header : Header) (one : Carried) (still 
   pub calls_maybe : MayBeNext exchange all all' → IsGiven address header one exchange → All (IsExchangeOf address' header one.name) all'
   calls_maybe (inl same) given = here (All-same (IsExchangeOf address header one.name) all' all same so_far)
   calls_maybe (inr next) given = calls_next next given
+
+-- ---- the greatest number that was answered
+
+greatest_push : (all : List Exchange) (one : Exchange)
+    → greatest_answer (all ++ one ∷ []) ≡ max (greatest_answer all) (number_answered one.answer)
+greatest_push [] one = omega arith
+greatest_push (first ∷ all) one = let rest = greatest_push all one in omega (arith, rest)
+
+module _ (all all' : List Exchange) (exchange : Exchange) (before : ℕ) (so_far : greatest_answer all ≡ before) where
+  -- a number that isn't below it is the greatest then
+  pub greatest_next : (count : ℕ) → IsNext exchange all all' → exchange.answer ≡ Some count → before ≤ count → greatest_answer all' ≡ count
+  greatest_next count next answer above =
+      let whole = ap greatest_answer next ∙ greatest_push all exchange in
+      let here = ap number_answered answer in
+      omega (arith, so_far, whole, here, above)
+
+  -- where none is answered it stays
+  pub greatest_maybe : MayBeNext exchange all all' → exchange.answer ≡ None → greatest_answer all' ≡ before
+  greatest_maybe (inl same) none = ap greatest_answer same ∙ so_far
+  greatest_maybe (inr next) none =
+      let whole = ap greatest_answer next ∙ greatest_push all exchange in
+      let here = ap number_answered none in
+      omega (arith, so_far, whole, here)

@@ -1,25 +1,26 @@
 -- Dials that are hung up, one after the other.
-use Rattle.std.proofs.Common.{◌≡◌, ℕ, suc, ◌+◌, Bool, true, false, Some}
+use Rattle.std.proofs.Common.{◌≡◌, ◌⊎◌, ◌≤◌, ◌<◌, inl, inr, ⊎_elim, max, ℕ, zero, suc, ◌+◌, Bool, true, false, Option, Some, None}
 use Rattle.std.proofs.Common.{List, [], ◌∷◌, ◌++◌, length, map, get_or, refl, sym, ap, subst, ◌∙◌}
 use Rattle.std.proofs.Common.{arith, append_assoc, append-nil, All, option_map}
 use Rattle.std.specs.Prelude.{bytes_eq, if◌then◌else◌}
-use Rattle.std.specs.List.{AllByRecursion}
+use Rattle.std.specs.List.{AllByRecursion, AllZip, slice_get}
 use Rattle.std.specs.Cmp.Lexicographic.{same_text}
-use Rattle.std.proofs.lemmas.Bool.{or_parts}
+use Rattle.std.proofs.lemmas.Bool.{or_parts, cases_lt}
+use Rattle.std.proofs.lemmas.Option.{none-some}
 use Rattle.std.proofs.lemmas.List.Elements.{recursion_from_All}
 use Rattle.std.proofs.lemmas.List.Sums.{sum_by-cons, sum_by-append}
 use Rattle.cqe_base.specs.Schema.{contains_text, has_duplicate}
 use Rattle.outside.specs.Dials.{Exchange, faults_for}
 use Rattle.outside.specs.Shelf.{SameOthers}
-use Rattle.standby_core.specs.Calls.{IsExchangeOf, IsCallBy, IsCallAmong}
+use Rattle.standby_core.specs.Calls.{IsExchangeOf, IsCallBy, IsCallAmong, number_answered, greatest_answer, IsAnsweredIn}
 use Rattle.standby_core.specs.declared.mirror.Mirror.{Mirror}
 use Rattle.standby_core.specs.declared.slot.Place.{Place}
 use Rattle.standby_core.specs.declared.slot.Place.TheVariants.{New, Out, Back}
 use Rattle.standby_core.specs.declared.slot.Slot.{Slot}
 use Rattle.standby_core.specs.Mirrors.{dial_of, header_of, user_of}
 use Rattle.standby_core.specs.Named.{first_named}
-use Rattle.standby_core.specs.Places.{mirror_in, faults_in, there_in, exchanged_in, texts_or}
-use Rattle.standby_core.specs.Slots.{slot_name, slot_texts, place_at, faults_of, there_among, exchanged_among}
+use Rattle.standby_core.specs.Places.{mirror_in, faults_in, there_in, exchanged_in, answered_in, texts_or}
+use Rattle.standby_core.specs.Slots.{slot_name, slot_texts, slot_answered, place_at, faults_of, there_among, exchanged_among}
 
 all_behind : {X : Type 0} (P : X → Type 0) (xs ys : List X) → AllByRecursion P xs → AllByRecursion P ys → AllByRecursion P (xs ++ ys)
 all_behind P [] ys first second = second
@@ -169,3 +170,82 @@ module _ {C : Type 0} {g : _} (own address : C → List ℕ) (exchanged : C → 
       (calls_among slots))
       (all_weaker (IsCallBy texts) (IsCallAmong (texts ∷ made)) (λ one is. (0, texts, refl, is)) (exchanged_in exchanged slot.place)
       (calls_in texts slot.place (same slot)))
+
+-- ---- what they were last answered
+
+-- the greatest number was answered in one of the exchanges, if it isn't 0
+answered_once : (P : Exchange → Type 0) (all : List Exchange) → AllByRecursion P all → IsAnsweredIn P all (greatest_answer all)
+answered_once P [] each = inl refl
+answered_once P (one ∷ all) each = by one.answer refl (answered_once P all each.1)
+  where
+    later : (count : ℕ) → IsAnsweredIn P all count → IsAnsweredIn P (one ∷ all) count
+    later count (inl none) = inl none
+    later count (inr (place, it, at, is, said)) = inr (suc place, it, at, is, said)
+
+    by : (answer : Option ℕ) → one.answer ≡ answer → IsAnsweredIn P all (greatest_answer all)
+        → IsAnsweredIn P (one ∷ all) (max (number_answered one.answer) (greatest_answer all))
+    by None none rest =
+        let here = ap number_answered none in
+        let same : greatest_answer all ≡ max (number_answered one.answer) (greatest_answer all) = omega (arith, here) in
+        subst (IsAnsweredIn P (one ∷ all)) same (later (greatest_answer all) rest)
+    by (Some count) said rest =
+        let here = ap number_answered said in
+        ⊎_elim
+        (λ (below : greatest_answer all < count).
+        let same : count ≡ max (number_answered one.answer) (greatest_answer all) = omega (arith, here, below) in
+        subst (IsAnsweredIn P (one ∷ all)) same (inr (0, one, refl, each.0, said)))
+        (λ (above : count ≤ greatest_answer all).
+        let same : greatest_answer all ≡ max (number_answered one.answer) (greatest_answer all) = omega (arith, here, above) in
+        subst (IsAnsweredIn P (one ∷ all)) same (later (greatest_answer all) rest))
+        (cases_lt (greatest_answer all) count)
+
+-- what was answered among some was answered among these and more
+answered_front : (P : Exchange → Type 0) (xs ys : List Exchange) (count : ℕ) → IsAnsweredIn P xs count → IsAnsweredIn P (xs ++ ys) count
+answered_front P xs ys count (inl none) = inl none
+answered_front P xs ys count (inr (place, it, at, is, said)) = inr (place, it, in_front xs place at, is, said)
+  where
+    in_front : (l : List Exchange) (k : ℕ) → slice_get l k ≡ Some it → slice_get (l ++ ys) k ≡ Some it
+    in_front [] k at = absurd (none-some it at)
+    in_front (x ∷ l) zero at = at
+    in_front (x ∷ l) (suc k) at = in_front l k at
+
+answered_behind : (P : Exchange → Type 0) (xs ys : List Exchange) (count : ℕ) → IsAnsweredIn P ys count → IsAnsweredIn P (xs ++ ys) count
+answered_behind P [] ys count is = is
+answered_behind P (x ∷ xs) ys count is = later (answered_behind P xs ys count is)
+  where
+    later : IsAnsweredIn P (xs ++ ys) count → IsAnsweredIn P (x ∷ (xs ++ ys)) count
+    later (inl none) = inl none
+    later (inr (place, it, at, is, said)) = inr (suc place, it, at, is, said)
+
+all_front : (P : List (List ℕ) → Exchange → Type 0) (xs ys : List Exchange) (made : List (List (List ℕ))) (counts : List ℕ)
+    → AllZip (λ texts. IsAnsweredIn (P texts) xs) made counts → AllZip (λ texts. IsAnsweredIn (P texts) (xs ++ ys)) made counts
+all_front P xs ys [] [] all = tt
+all_front P xs ys (texts ∷ made) (count ∷ counts) all =
+    (answered_front (P texts) xs ys count all.0, all_front P xs ys made counts all.1)
+all_front P xs ys [] (count ∷ counts) all = absurd all
+all_front P xs ys (texts ∷ made) [] all = absurd all
+
+module _ {C : Type 0} {g : _} (own address : C → List ℕ) (answered : C → ℕ) (exchanged : C → List Exchange)
+    (calls : (mirror : Mirror C g) → All (IsExchangeOf (address (dial_of mirror)) (header_of mirror) (user_of mirror)) (exchanged (dial_of mirror)))
+    (same : (slot : Slot C g) → texts_or own address (slot_texts own address slot) (mirror_in (Some slot.place)) ≡ slot_texts own address slot)
+    (greatest : (mirror : Mirror C g) → greatest_answer (exchanged (dial_of mirror)) ≡ answered (dial_of mirror)) where
+  -- what the dial in a place was last answered
+  last_in : (made : List (List ℕ)) (place : Place C g) → AllByRecursion (IsCallBy made) (exchanged_in exchanged place)
+      → IsAnsweredIn (IsCallBy made) (exchanged_in exchanged place) (answered_in answered place)
+  last_in made (New mirror) each =
+      subst (IsAnsweredIn (IsCallBy made) (exchanged (dial_of mirror))) (greatest mirror) (answered_once (IsCallBy made) (exchanged (dial_of mirror)) each)
+  last_in made (Back mirror) each =
+      subst (IsAnsweredIn (IsCallBy made) (exchanged (dial_of mirror))) (greatest mirror) (answered_once (IsCallBy made) (exchanged (dial_of mirror)) each)
+  last_in made Out each = inl refl
+
+  -- and what all were
+  pub last_among : (slots : List (Slot C g)) → AllZip (λ texts. IsAnsweredIn (IsCallBy texts) (exchanged_among exchanged slots))
+      (map (slot_texts own address) slots) (map (slot_answered answered) slots)
+  last_among [] = tt
+  last_among (slot ∷ slots) =
+      let texts = slot_texts own address slot in (
+        answered_behind (IsCallBy texts) (exchanged_among exchanged slots) (exchanged_in exchanged slot.place) (answered_in answered slot.place)
+            (last_in texts slot.place (calls_in own address exchanged calls same texts slot.place (same slot))),
+        all_front IsCallBy (exchanged_among exchanged slots) (exchanged_in exchanged slot.place) (map (slot_texts own address) slots)
+            (map (slot_answered answered) slots) (last_among slots),
+      )

@@ -1,6 +1,8 @@
 -- Mirrors that are there, and not out.
-use Rattle.std.proofs.Common.{◌≡◌, ◌≤◌, ℕ, ◌+◌, Bool, true, false, Some, List, [], ◌∷◌, length, map, refl, sym, ap, ◌∙◌, arith, option_map}
+use Rattle.std.proofs.Common.{◌≡◌, ◌≤◌, ℕ, ◌+◌, Bool, true, false, Option, Some, None, List, [], ◌∷◌, length, map, get_or, refl, sym, ap, subst, inl}
+use Rattle.std.proofs.Common.{◌∙◌, arith, option_map}
 use Rattle.std.specs.Prelude.{bytes_eq, if◌then◌else◌}
+use Rattle.std.specs.List.{AllByRecursion, AllZip}
 use Rattle.std.specs.Cmp.Lexicographic.{same_text}
 use Rattle.std.proofs.lemmas.Bool.{or_parts}
 use Rattle.std.proofs.lemmas.List.{length-map}
@@ -11,9 +13,11 @@ use Rattle.outside.specs.Dials.{Exchange}
 use Rattle.standby_core.specs.declared.slot.Place.{Place}
 use Rattle.standby_core.specs.declared.slot.Place.TheVariants.{New, Out, Back}
 use Rattle.standby_core.specs.declared.slot.Slot.{Slot}
+use Rattle.standby_core.specs.Calls.{IsAnsweredIn}
+use Rattle.standby_core.specs.Mirrors.{dial_of}
 use Rattle.standby_core.specs.Named.{first_named}
-use Rattle.standby_core.specs.Places.{there_in, is_away}
-use Rattle.standby_core.specs.Slots.{slot_name, slot_texts, place_at, there_among, AreUnused}
+use Rattle.standby_core.specs.Places.{there_in, answered_in, is_away}
+use Rattle.standby_core.specs.Slots.{slot_name, slot_texts, slot_answered, place_at, marks_told, there_among, AreUnused}
 
 module _ {C : Type 0} {g : _} where
   not_away : (place : Place C g) → there_in place ≡ 1 → is_away (Some place) ≡ false
@@ -98,3 +102,58 @@ module _ {C : Type 0} {g : _} where
   all_hung_up own address old new made before mid last more there less =
       let same = many own address old new made in
       omega (arith, more, there, same, less)
+
+-- ---- what stands under the names of several
+
+module _ {C : Type 0} {g : _} where
+  abbrev Own : List (Slot C g) → Slot C g → Type 0
+  Own base slot = place_at base (slot_name slot) ≡ Some slot.place
+
+  own_behind : (first : Slot C g) (base slots : List (Slot C g)) → contains_text (map slot_name slots) (slot_name first) ≡ false
+      → AllByRecursion (Own base) slots → AllByRecursion (Own (first ∷ base)) slots
+  own_behind first base [] none all = tt
+  own_behind first base (slot ∷ slots) none all =
+      let parts = or_parts (bytes_eq (slot_name first) (slot_name slot)) (contains_text (map slot_name slots) (slot_name first)) none in (
+        ap (λ b. option_map (λ (s : Slot C g). s.place) (if b then Some first else first_named slot_name base (slot_name slot))) parts.0 ∙ all.0,
+        own_behind first base slots parts.1 all.1,
+      )
+
+  -- where the names differ, each stands under its own
+  own_places : (slots : List (Slot C g)) → has_duplicate (map slot_name slots) ≡ false → AllByRecursion (Own slots) slots
+  own_places [] distinct = tt
+  own_places (slot ∷ slots) distinct =
+      let parts = or_parts (contains_text (map slot_name slots) (slot_name slot)) (has_duplicate (map slot_name slots)) distinct in (
+        ap (λ b. option_map (λ (s : Slot C g). s.place) (if b then Some slot else first_named slot_name slots (slot_name slot)))
+            (text_is (slot_name slot)),
+        own_behind slot slots slots parts.0 (own_places slots parts.1),
+      )
+
+  module _ {D : Type 0} (own address : C → List ℕ) (answered : C → ℕ) (disk : List ℕ → Option D) (base : List (Slot C g))
+      (none : (name : List ℕ) → is_away (place_at base name) ≡ false) (named : (slot : Slot C g) → own (dial_of slot.made.value) ≡ slot_name slot)
+      (Of : List (List ℕ) → Exchange → Type 0) (all : List Exchange) where
+    abbrev marks : List ℕ → ℕ
+    marks name = marks_told answered (disk name) (place_at base name)
+
+    -- of a disk whose mirror is there so many marks may be told as its dial was answered
+    marks_of : (o : Option D) (place : Place C g) (texts : List (List ℕ)) → is_away (Some place) ≡ false
+        → IsAnsweredIn (Of texts) all (answered_in answered place) → IsAnsweredIn (Of texts) all (marks_told answered o (Some place))
+    marks_of None place texts there is = inl refl
+    marks_of (Some d) (New mirror) texts there is = is
+    marks_of (Some d) (Back mirror) texts there is = is
+    marks_of (Some d) Out texts there is = absurd cc
+
+    marks_among : (slots : List (Slot C g)) → AllByRecursion (Own base) slots
+        → AllZip (λ texts. IsAnsweredIn (Of texts) all) (map (slot_texts own address) slots) (map (slot_answered answered) slots)
+        → AllByRecursion (λ texts. IsAnsweredIn (Of texts) all (marks (get_or texts 0 []))) (map (slot_texts own address) slots)
+    marks_among [] at answers = tt
+    marks_among (slot ∷ slots) at answers = (
+      subst (λ n. IsAnsweredIn (Of (slot_texts own address slot)) all (marks n)) (sym (named slot))
+          (subst (λ p. IsAnsweredIn (Of (slot_texts own address slot)) all (marks_told answered (disk (slot_name slot)) p)) (sym at.0)
+          (marks_of (disk (slot_name slot)) slot.place (slot_texts own address slot) (sym (ap is_away at.0) ∙ none (slot_name slot)) answers.0)),
+      marks_among slots at.1 answers.1,
+    )
+
+    pub marks_answered : has_duplicate (map slot_name base) ≡ false
+        → AllZip (λ texts. IsAnsweredIn (Of texts) all) (map (slot_texts own address) base) (map (slot_answered answered) base)
+        → AllByRecursion (λ texts. IsAnsweredIn (Of texts) all (marks (get_or texts 0 []))) (map (slot_texts own address) base)
+    marks_answered distinct answers = marks_among base (own_places base distinct) answers

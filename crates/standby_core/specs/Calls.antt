@@ -1,6 +1,7 @@
 -- What a mirror gives its standby.
-use Rattle.std.specs.Prelude.{◌≡◌, ℕ, ◌≤◌, ◌++◌, List, [], length, get_or, Option, Some}
-use Rattle.std.specs.List.{AllByRecursion, slice_get}
+use Rattle.std.specs.Prelude.{◌≡◌, ◌⊎◌, ℕ, ◌≤◌, max, ◌∷◌, ◌++◌, List, [], length, get_or, Option}
+use Rattle.std.specs.Prelude.{Some, None}
+use Rattle.std.specs.List.{AllByRecursion, AllZip, slice_get}
 use Rattle.outside.specs.Dials.{Exchange}
 use Rattle.log_journal.specs.declared.header.Header.{Header}
 use Rattle.standby_core.specs.Frames.{Carried, frame_bytes}
@@ -44,8 +45,26 @@ abbrev pub IsCallAmong : List (List (List ℕ)) → Exchange → Type 0
 IsCallAmong made one = (k : ℕ) × (texts : List (List ℕ)) × (slice_get made k ≡ Some texts)
     × IsCallBy texts one
 
--- what was exchanged behind the other are calls of such dials
-pub record IsFromAmong (made : List (List (List ℕ))) (old new : List Exchange) : Type 0 where
+-- the number that was answered, 0 where none was
+abbrev pub number_answered : Option ℕ → ℕ
+number_answered None = 0
+number_answered (Some count) = count
+
+-- the greatest number that was answered in exchanges, 0 where none was
+abbrev pub greatest_answer : List Exchange → ℕ
+greatest_answer [] = 0
+greatest_answer (one ∷ all) = max (number_answered one.answer) (greatest_answer all)
+
+-- this number is 0, or was answered in one of these exchanges, of which this holds
+abbrev pub IsAnsweredIn : (Exchange → Type 0) → List Exchange → ℕ → Type 0
+IsAnsweredIn Of all count = (count ≡ 0) ⊎ ((place : ℕ) × (one : Exchange)
+    × (slice_get all place ≡ Some one) × Of one × (one.answer ≡ Some count))
+
+-- what was exchanged behind the other are calls of such dials; and each of these numbers is 0, or
+-- was answered to the dial in its place
+pub record IsFromAmong (made : List (List (List ℕ))) (answers : List ℕ) (old new : List Exchange) :
+    Type 0 where
   pub exchanges : List Exchange
   pub further : new ≡ old ++ exchanges
   pub each : AllByRecursion (IsCallAmong made) exchanges
+  pub answered : AllZip (λ texts. IsAnsweredIn (IsCallBy texts) exchanges) made answers

@@ -44,6 +44,12 @@ exchanged_in exchanged (New mirror) = exchanged (dial_of mirror)
 exchanged_in exchanged (Back mirror) = exchanged (dial_of mirror)
 exchanged_in exchanged Out = []
 
+-- the number that was last answered to its dial, 0 at first
+abbrev pub answered_in : {C : Type 0} {g : _} → (C → ℕ) → Place C g → ℕ
+answered_in answered (New mirror) = answered (dial_of mirror)
+answered_in answered (Back mirror) = answered (dial_of mirror)
+answered_in answered Out = 0
+
 -- the faults of its dial; a mirror that was taken and isn't back had none
 abbrev pub faults_in : {C : Type 0} {g : _} → (C → ℕ) → Option (Place C g) → ℕ
 faults_in faults place = faults_by faults (mirror_in place)

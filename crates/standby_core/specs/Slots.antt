@@ -7,11 +7,11 @@ use Rattle.outside.specs.Shelf.{Lent}
 use Rattle.standby_core.specs.declared.mirrored_disk.MirroredDisk.{MirroredDisk}
 use Rattle.standby_core.specs.declared.slot.Place.{Place}
 use Rattle.standby_core.specs.declared.slot.Slot.{Slot}
-use Rattle.standby_core.specs.MirroredDisks.{mirrored}
+use Rattle.standby_core.specs.MirroredDisks.{mirrored, told_by}
 use Rattle.standby_core.specs.Named.{first_named}
 use Rattle.standby_core.specs.Mirrors.{texts_of}
-use Rattle.standby_core.specs.Places.{mirror_in, faults_in, there_in, exchanged_in, is_away}
-use Rattle.standby_core.specs.Places.{IsUnused}
+use Rattle.standby_core.specs.Places.{mirror_in, faults_in, there_in, exchanged_in, answered_in}
+use Rattle.standby_core.specs.Places.{is_away, IsUnused}
 
 -- the name of a slot
 abbrev pub slot_name : {C : Type 0} {g : _} → Slot C g → List ℕ
@@ -25,6 +25,16 @@ place_at slots name = option_map (λ slot. slot.place) (first_named slot_name sl
 abbrev pub mirrored_at : {D C : Type 0} {g : _} → Option D → Option (Place C g)
     → Option (MirroredDisk D C g)
 mirrored_at disk place = option_map (λ d. mirrored d (mirror_in place)) disk
+
+-- the number below which the marks may be told of a disk with what stands there, 0 where there is
+-- no disk
+abbrev pub marks_told : {D C : Type 0} {g : _} → (C → ℕ) → Option D → Option (Place C g) → ℕ
+marks_told answered None place = 0
+marks_told answered (Some disk) place = told_by answered (mirror_in place)
+
+-- the number that was last answered to the dial of a slot's mirror, where that is there
+abbrev pub slot_answered : {C : Type 0} {g : _} → (C → ℕ) → Slot C g → ℕ
+slot_answered answered slot = answered_in answered slot.place
 
 -- what says where the disk with a slot's mirror comes from, as that was made
 abbrev pub slot_texts : {C : Type 0} {g : _} → (C → List ℕ) → (C → List ℕ) → Slot C g

@@ -7,7 +7,7 @@ ghost use Rattle.log_journal.specs.Names.{journal_name};
 ghost use Rattle.standby_core.specs.Calls.{IsFromAmong};
 ghost use Rattle.standby_core.specs.Places.{faults_in, there_in, exchanged_in, IsUnused};
 ghost use Rattle.standby_core.specs.Slots.{slot_name, slot_texts, faults_of, exchanged_among};
-ghost use Rattle.standby_core.specs.Slots.{there_among, AreUnused};
+ghost use Rattle.standby_core.specs.Slots.{slot_answered, there_among, AreUnused};
 ghost use Rattle.standby_core.specs.MirrorSets.{slots_of, dial_faults};
 ghost use Rattle.standby_core.specs.Users.{frame_user, texts_for};
 ghost use Rattle.standby_core.specs.Doors.{KeepsDoors, KeepsCalls};
@@ -115,10 +115,12 @@ pub fn hang_up_all<L: Links>(links: &mut L, mirrors: Mirrors<L::Dial>)
     ensures exchange_faults { (name : List ℕ) → L.exchange_faults links.new name
         ≡ L.exchange_faults links.old name + dial_faults L.Dial.faults mirrors name }
 
-    // What the dials exchanged told of records of the users whose mirrors they are.
+    // What the dials exchanged told of records of the users whose mirrors they are. What each was
+    // last answered was answered in one of these exchanges.
     ensures exchanged { L.tells
         → IsFromAmong (map (slot_texts L.Dial.name L.Dial.address) (slots_of mirrors))
-        (L.exchanged links.old) (L.exchanged links.new) }
+        (map (slot_answered L.Dial.answered) (slots_of mirrors)) (L.exchanged links.old)
+        (L.exchanged links.new) }
     ensures doors { KeepsDoors L.Links links.old links.new }
 {
     let Mirrors { slots } = mirrors;

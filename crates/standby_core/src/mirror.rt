@@ -3,7 +3,7 @@ ghost use Rattle.std.specs.Prelude.{◌≡◌, ◌<◌, ◌≤◌, ◌+◌, ◌^
 ghost use Rattle.std.specs.Prelude.{string_bytes, OnOk, OnErr};
 ghost use Rattle.outside.specs.Dials.{IsNext, MayBeNext};
 ghost use Rattle.outside.specs.Faults.{HasCause};
-ghost use Rattle.standby_core.specs.Calls.{IsExchangeOf, telling_of};
+ghost use Rattle.standby_core.specs.Calls.{IsExchangeOf, telling_of, greatest_answer};
 ghost use Rattle.standby_core.specs.CallProps.{AreExchangesOf-prop};
 
 use crate::FrameRoom;
@@ -25,6 +25,7 @@ pub struct Mirror<C: Dial> {
     ghost short: { length (string_bytes user) ≤ 32 },
     ghost calls: { C.tells → All (IsExchangeOf (C.address dial) header (string_bytes user))
         (C.exchanged dial) } by { AreExchangesOf-prop _ _ _ _ _ },
+    ghost greatest: { C.tells → greatest_answer (C.exchanged dial) ≡ C.answered dial },
 }
 
 impl<C: Dial> Mirror<C> {

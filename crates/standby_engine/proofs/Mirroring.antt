@@ -69,7 +69,7 @@ failed_same reads (h ∷ all) = ap (λ b. is_broken h.journal || b) (failed_same
 
 -- where the count of a user's disk rose, some count did
 pub rose_of : {D : Type 0} (Disk : DiskGhosts D) (directory : Text) (disk0 disk1 : Text → Option D) (count0 count1 : Text → ℕ) (users : List User)
-    → SomeFailed (journals_by Disk.reads Disk.image Disk.moment Disk.image_since directory disk0 disk1 count0 count1) users → SomeRose count0 count1
+    → SomeFailed (journals_by Disk.reads Disk.image Disk.moment Disk.image_since Disk.told directory disk0 disk1 count0 count1) users → SomeRose count0 count1
 rose_of Disk directory disk0 disk1 count0 count1 [] failed = absurd failed
 rose_of Disk directory disk0 disk1 count0 count1 (u ∷ users) (inl rose) = (journal_name directory (string_bytes u.name), rose)
 rose_of Disk directory disk0 disk1 count0 count1 (u ∷ users) (inr later) = rose_of Disk directory disk0 disk1 count0 count1 users later
@@ -256,7 +256,7 @@ module _ (directory header : List ℕ) {D : Type 0} {g : _} (told : Type 0) (Dis
     -- where an append failed, the count of that user's disk rose
     pub some_failed : (users : List User) (places : List (Place D g)) (are : Placed users places) (after : List (Held D g)) → AreBack places after
         → AllCounted Disk.faults (counts_of users places are) after → has_broken after ≡ true
-        → SomeFailed (journals_by Disk.reads Disk.image Disk.moment Disk.image_since directory disk0 disk1 count0 count1) users
+        → SomeFailed (journals_by Disk.reads Disk.image Disk.moment Disk.image_since Disk.told directory disk0 disk1 count0 count1) users
     some_failed [] [] are [] back counted broken = absurd cc
     some_failed [] [] are (h ∷ after) back counted broken = absurd counted
     some_failed [] (p ∷ places) are after back counted broken = absurd are
@@ -268,8 +268,8 @@ module _ (directory header : List ℕ) {D : Type 0} {g : _} (told : Type 0) (Dis
       where
         by : (b : Bool) → is_broken h.journal ≡ b
             → (has_broken after ≡ true
-            → SomeFailed (journals_by Disk.reads Disk.image Disk.moment Disk.image_since directory disk0 disk1 count0 count1) users)
-            → SomeFailed (journals_by Disk.reads Disk.image Disk.moment Disk.image_since directory disk0 disk1 count0 count1) (u ∷ users)
+            → SomeFailed (journals_by Disk.reads Disk.image Disk.moment Disk.image_since Disk.told directory disk0 disk1 count0 count1) users)
+            → SomeFailed (journals_by Disk.reads Disk.image Disk.moment Disk.image_since Disk.told directory disk0 disk1 count0 count1) (u ∷ users)
         by true is later =
             inl (subst (λ n. Rose n (count1 (journal_name directory (string_bytes u.name)))) are.0.counted
             (subst (λ n. Rose (Disk.faults are.0.taken) n) (sym back.opened.0.counted ∙ ap count1 are.0.journal_is) (counted.0.rose is)))
@@ -314,11 +314,13 @@ module _ (directory header : List ℕ) {D : Type 0} {g : _} (told : Type 0) (Dis
 
       -- and each at the moments since then some first ones, and so what follows from them
       stood_along : (stands : List ℕ → Type 0) → ((c : List ℕ) → HasCopied header (length began_with) (copy_in Disk.reads h) c → stands c)
-          → StandsAllAlong (journals_by Disk.reads Disk.image Disk.moment Disk.image_since directory disk0 disk1 count0 count1) (string_bytes u.name) true
+          → StandsAllAlong (journals_by Disk.reads Disk.image Disk.moment Disk.image_since Disk.told directory disk0 disk1 count0 count1) (string_bytes u.name)
+          true
           stands
       stood_along stands weaker =
           let now = held_disk h in
-          stands_along (journals_by Disk.reads Disk.image Disk.moment Disk.image_since directory disk0 disk1 count0 count1) (string_bytes u.name) false stands
+          stands_along (journals_by Disk.reads Disk.image Disk.moment Disk.image_since Disk.told directory disk0 disk1 count0 count1) (string_bytes u.name)
+          false stands
           (Disk.moment is.taken) (Disk.moment (held_disk held)) (Disk.moment now) (Disk.moment now) (Disk.image_since is.taken)
           (Disk.image_since (held_disk held)) (Disk.image_since now) (Disk.image is.taken) (Disk.image now)
           (taken_moment Disk.reads Disk.image Disk.moment (disk0 own) is.taken (is.from s))
@@ -329,7 +331,7 @@ module _ (directory header : List ℕ) {D : Type 0} {g : _} (told : Type 0) (Dis
           (λ fine c here. weaker c (lasts.stood c here)) (λ fine c here. weaker c (as_begun c (lasts.leaves_it c here)))
           (λ refused. absurd cc) (λ refused. absurd cc)
 
-      pub has_grown : GrowsJournal header (journals_by Disk.reads Disk.image Disk.moment Disk.image_since directory disk0 disk1 count0 count1)
+      pub has_grown : GrowsJournal header (journals_by Disk.reads Disk.image Disk.moment Disk.image_since Disk.told directory disk0 disk1 count0 count1)
           (string_bytes u.name)
       has_grown = record {
         first = began_with;
@@ -340,7 +342,7 @@ module _ (directory header : List ℕ) {D : Type 0} {g : _} (told : Type 0) (Dis
       }
 
       pub has_copied : count_of held.journal ≡ length began_with → held_name h ≡ held_name held
-          → IsCopyOf header (journals_by Disk.reads Disk.image Disk.moment Disk.image_since directory disk0 disk1 count0 count1) (string_bytes u.name)
+          → IsCopyOf header (journals_by Disk.reads Disk.image Disk.moment Disk.image_since Disk.told directory disk0 disk1 count0 count1) (string_bytes u.name)
           (copy_in Disk.reads held) (copy_in Disk.reads h)
       has_copied counts names_are =
           let counted : held.count ≡ length began_with = is.sound.1 ∙ counts in
@@ -364,7 +366,7 @@ module _ (directory header : List ℕ) {D : Type 0} {g : _} (told : Type 0) (Dis
     pub all_copied : told → Disk.tells → CountsNow Disk → OnlyNow Disk
         → (users : List User) (places : List (Place D g)) (are : Placed users places) (after : List (Held D g))
         → AreBack places after → AllLast Disk header (map held_disk (journals_in places)) after
-        → AreCopied header (journals_by Disk.reads Disk.image Disk.moment Disk.image_since directory disk0 disk1 count0 count1) users
+        → AreCopied header (journals_by Disk.reads Disk.image Disk.moment Disk.image_since Disk.told directory disk0 disk1 count0 count1) users
         (map place_refusal places)
     all_copied s t counts_now only_now [] [] are after back lasts = tt
     all_copied s t counts_now only_now [] (p ∷ places) are after back lasts = absurd are
@@ -396,7 +398,7 @@ module _ (directory header : List ℕ) {D : Type 0} {g : _} (told : Type 0) (Dis
         → (users : List User) (places : List (Place D g)) (are : Placed users places) (after : List (Held D g))
         → AreBack places after → AllLast Disk header (map held_disk (journals_in places)) after
         → map held_name after ≡ map held_name (journals_in places)
-        → AreCopiesOf header (journals_by Disk.reads Disk.image Disk.moment Disk.image_since directory disk0 disk1 count0 count1) users
+        → AreCopiesOf header (journals_by Disk.reads Disk.image Disk.moment Disk.image_since Disk.told directory disk0 disk1 count0 count1) users
         (map place_refusal places) (map (copy_in Disk.reads) (journals_in places)) (map (copy_in Disk.reads) after)
     all_served s t counts_now only_now counts [] [] are [] back lasts named = tt
     all_served s t counts_now only_now counts [] [] are (h ∷ after) back lasts named = absurd lasts

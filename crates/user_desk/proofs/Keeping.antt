@@ -1,5 +1,5 @@
 -- What a desk keeps, from its opening and from ask to ask.
-use Rattle.std.proofs.Common.{◌≡◌, ℕ, Bool, true, false, List, [], ◌++◌, length, refl, sym, ap, ◌∙◌, subst}
+use Rattle.std.proofs.Common.{◌≡◌, ◌≤◌, ℕ, Bool, true, false, List, [], ◌++◌, length, refl, sym, ap, ◌∙◌, subst, arith}
 use Rattle.std.specs.Prelude.{Option, None, option_to_list, is_some}
 use Rattle.std.proofs.lemmas.List.{append-nil}
 use Rattle.cqe_base.specs.Schema.{DatabaseSchema}
@@ -8,16 +8,17 @@ use Rattle.cqe_base.specs.History.{UserProfile, AnsweredQuery, History}
 use Rattle.cqe_base.specs.Censor.{IsLegal, admitted}
 use Rattle.cqe_base.specs.Limits.{KeepsSizes}
 use Rattle.user_desk.specs.Entries.{StandsWithin}
-use Rattle.user_desk.specs.Causes.{IsStanding}
+use Rattle.user_desk.specs.Causes.{IsStanding, IsReplay}
 use Rattle.user_desk.specs.Standings.{is_open, is_sealed}
 use Rattle.user_desk.specs.Kept.{IsConsistentDesk}
 use Rattle.user_desk.specs.declared.standing.Standing.{Standing}
 use Rattle.user_desk.specs.declared.standing.Standing.TheVariants.{Open, Closed, Sealed}
 use Rattle.log_journal.specs.Opening.{IsRefused}
+use Rattle.log_journal.specs.Records.{Recorded}
 use Rattle.log_journal.specs.declared.header.OpenError.{OpenError}
 use Rattle.log_journal.specs.declared.header.OpenError.TheVariants.{NotAJournal, OtherPolicy, Damaged, DiskFault, Memory, OldVersion}
-use Rattle.user_desk.specs.declared.standing.DeskError.TheVariants.{Journal}
-use Rattle.user_desk.proofs.Bytes.{within_more}
+use Rattle.user_desk.specs.declared.standing.DeskError.TheVariants.{Journal, Stale, Unlawful, Size, NotAdmitted, Unsafe}
+use Rattle.user_desk.proofs.Bytes.{within_more, as_many}
 use Rattle.user_desk.proofs.Restarting.{opens_served}
 
 -- an open desk isn't sealed
@@ -134,3 +135,21 @@ kept_first schema schema' world world' user user' told image header bytes entrie
     (kept_opening schema world user told image header bytes entries before now standing has_journal has_failed is
     (legal_at schema schema' world world' user user' entries s w u legal) (sizes_at schema schema' user user' entries s u sizes) only journal whole)
     s w u refl (λ c here. here) refl refl
+
+-- a replay takes no more entries than there are records
+pub replayed_within : (schema : DatabaseSchema) (world : FactSet) (user : UserProfile) (all : List Recorded) (entries : History) (standing : Standing)
+    → IsReplay schema world user all entries standing → length entries ≤ length all
+replayed_within schema world user all entries standing is = by standing is
+  where
+    none : entries ≡ [] → length entries ≤ length all
+    none empty = let size = ap length empty in omega (arith, size)
+
+    by : (s : Standing) → IsReplay schema world user all entries s → length entries ≤ length all
+    by Open replay = let many = as_many schema all entries replay.1 in omega (arith, many)
+    by (Closed admission) replay = none replay.2
+    by (Sealed (Journal why)) replay = none replay.0
+    by (Sealed (Stale number)) replay = none replay.0
+    by (Sealed (Unlawful number stored computed)) replay = none replay.0
+    by (Sealed (Size number)) replay = none replay.0
+    by (Sealed (NotAdmitted admission)) replay = none replay.0
+    by (Sealed (Unsafe number)) replay = none replay.0

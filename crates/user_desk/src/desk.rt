@@ -55,6 +55,7 @@ pub struct Desk<'w, D: Disk> {
     ghost size: { D.tells → is_some (option_map answered_query_of in_flight) ≡ false
         → IsNoLonger (D.reads (opened_disk store)) (kept_history log)
         (D.reads (stored_disk store)) },
+    ghost told: { D.tells → length (kept_history log) ≤ D.told (stored_disk store) },
 }
 
 impl<'w, D: Disk> Desk<'w, D> {
@@ -155,6 +156,9 @@ impl<'w, D: Disk> Desk<'w, D> {
         ensures size { D.tells → is_broken_desk self.now ≡ false
             → IsNoLonger (D.reads (opening_disk self.now)) (desk_history self.now)
             (D.reads (desk_disk self.now)) }
+
+        // The marks of all entries may be told.
+        ensures told { D.tells → length (desk_history self.now) ≤ D.told (desk_disk self.now) }
 
         // The clock has gone on since, the count of faults hasn't fallen, and it rose where an
         // append failed.

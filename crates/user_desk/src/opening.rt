@@ -77,6 +77,7 @@ pub fn open_desk<'w, D: Disk>(
 
     ensures reads { D.reads (disk_opened result) ≡ D.reads disk }
     ensures origin { D.origin (disk_opened result) ≡ D.origin disk }
+    ensures still_told { D.told disk ≤ D.told (disk_opened result) }
     ensures durable { IfOk result (λ desk. is_sealed (desk_standing desk) ≡ false
         → Only (D.reads disk) (D.image (desk_disk desk))) }
     ensures images { (c : List ℕ) → D.image (disk_opened result) c → D.image disk c }

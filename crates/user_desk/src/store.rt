@@ -1,8 +1,9 @@
 //! Where a desk keeps its disk, and what that disk was at the desk's opening.
-ghost use Rattle.std.specs.Prelude.{◌≡◌, ◌≤◌, List, ℕ, true, false, length, OnOk, OnErr};
+ghost use Rattle.std.specs.Prelude.{◌≡◌, ◌≤◌, ◌<◌, List, ℕ, true, false, length, OnOk, OnErr};
 ghost use Rattle.outside.specs.Disk.{Elapses};
 ghost use Rattle.outside.specs.Faults.{Rose};
 ghost use Rattle.log_journal.specs.Records.{Adds, KeepsOrAdds};
+ghost use Rattle.log_journal.specs.Walk.{records};
 
 use log_journal::Journal;
 use outside::{Disk, Failed};
@@ -102,6 +103,12 @@ impl<D: Disk> Store<D> {
         ensures origin { D.origin (stored_disk self.new) ≡ D.origin (stored_disk self.old) }
         ensures cause { OnErr result
             (Rose (D.faults (stored_disk self.old)) (D.faults (stored_disk self.new))) }
+
+        // Behind Ok the mark of the record may be told, whose number is the count of those before
+        // it.
+        ensures told { D.tells → OnOk result
+            (length (records (D.reads (stored_disk self.old))) < D.told (stored_disk self.new)) }
+        ensures still_told { D.told (stored_disk self.old) ≤ D.told (stored_disk self.new) }
         ensures opened { opened_disk self.new ≡ opened_disk self.old }
     {
         match &mut self.medium {

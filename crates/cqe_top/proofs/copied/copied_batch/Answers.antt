@@ -1,12 +1,12 @@
-use Rattle.std.proofs.Common.{◌≡◌, ◌≤◌, ◌+◌, sym, ap, subst, ◌∙◌, length, map, rules}
+use Rattle.std.proofs.Common.{◌≡◌, ◌≤◌, ◌+◌, false, sym, ap, subst, ◌∙◌, length, map, rules}
 use Rattle.outside.specs.Faults.{Rose}
 use Rattle.outside.specs.Shelf.{SameNames, SameBeside, NoneOut, NoneFell, SomeRose, Lent}
 use Rattle.batch_engine.specs.Batch as batch
 use Rattle.desk_crew.specs.Crew.{named_user}
 use Rattle.desk_crew.specs.Registered.{registered_journals}
 use Rattle.log_journal.specs.Opening.{header_bytes}
-use Rattle.standby_core.specs.Places.{faults_in}
-use Rattle.standby_core.specs.MirrorSets.{slots_of, dial_faults}
+use Rattle.standby_core.specs.Places.{faults_in, is_away}
+use Rattle.standby_core.specs.MirrorSets.{slots_of, dial_faults, dial_marks}
 use Rattle.standby_core.specs.Slots.{place_at, slot_texts, there_among}
 use Rattle.standby_core.proofs.There.{all_there}
 use Rattle.cqe_top.specs.Steps.{copied_counts, copied_journals}
@@ -23,7 +23,8 @@ run_batch-requires-clause-inside g c κs within =
 pub returns-clause-ends : goal.returns-clause-ends
 returns-clause-ends g c = λ told in_told out_told.
     lent_two (λ shelf mirrors. batch.EndsBatch c.args.registry.now.schema.now c.args.registry.now.world.now (header_bytes c.args.registry.now.header.now)
-    (copied_journals g.F.Shelf g.F.D.Disk c.args.registry.now.directory.now c.args.shelf.now shelf (dial_faults g.C.Dial.faults mirrors))
+    (copied_journals g.F.Shelf g.F.D.Disk c.args.registry.now.directory.now c.args.shelf.now shelf (dial_faults g.C.Dial.faults mirrors)
+    (dial_marks g.C.Dial.answered (g.F.Shelf.disk shelf) mirrors))
     (map named_user c.args.registry.now.users.now) c.run_batch.result (g.S.Source.left c.args.source.now) (g.S.Source.left c.run_batch.new.source)
     (g.K.Sink.written c.args.sink.now) (g.K.Sink.written c.run_batch.new.sink))
     _ c.run_batch.new.shelf.shelf.now c.mirrors-1.given.0 c.run_batch.new.shelf.mirrors.now
@@ -36,13 +37,14 @@ returns-clause-ends g c = λ told in_told out_told.
     (same_copied g.F.Shelf g.F.D.Disk g.C.Dial.faults c.new-mirrored.result.shelf.now c.args.shelf.now c.run_batch.new.shelf.shelf.now
     c.new-mirrored.ensures.shelf
     (slots_of c.new-mirrored.result.mirrors.now) (slots_of c.args.mirrors.now) (slots_of c.run_batch.new.shelf.mirrors.now)
-    (ap slots_of c.new-mirrored.ensures.mirrors) c.requires.fresh c.args.registry.now.directory.now)
+    (ap slots_of c.new-mirrored.ensures.mirrors) c.requires.fresh g.C.Dial.answered c.args.registry.now.directory.now)
     (c.run_batch.ensures.ends told in_told out_told))
 
 pub returns-clause-journals : goal.returns-clause-journals
 returns-clause-journals g c = λ told.
     lent_two (λ shelf mirrors. batch.LeavesJournals c.args.registry.now.schema.now c.args.registry.now.world.now (header_bytes c.args.registry.now.header.now)
-    (copied_journals g.F.Shelf g.F.D.Disk c.args.registry.now.directory.now c.args.shelf.now shelf (dial_faults g.C.Dial.faults mirrors))
+    (copied_journals g.F.Shelf g.F.D.Disk c.args.registry.now.directory.now c.args.shelf.now shelf (dial_faults g.C.Dial.faults mirrors)
+    (dial_marks g.C.Dial.answered (g.F.Shelf.disk shelf) mirrors))
     (map named_user c.args.registry.now.users.now) c.run_batch.result)
     _ c.run_batch.new.shelf.shelf.now c.mirrors-1.given.0 c.run_batch.new.shelf.mirrors.now
     (shelf_back _ c.run_batch.new.shelf.shelf.now _ _ c.run_batch.ensures.lent (search rules))
@@ -53,7 +55,7 @@ returns-clause-journals g c = λ told.
     (same_copied g.F.Shelf g.F.D.Disk g.C.Dial.faults c.new-mirrored.result.shelf.now c.args.shelf.now c.run_batch.new.shelf.shelf.now
     c.new-mirrored.ensures.shelf
     (slots_of c.new-mirrored.result.mirrors.now) (slots_of c.args.mirrors.now) (slots_of c.run_batch.new.shelf.mirrors.now)
-    (ap slots_of c.new-mirrored.ensures.mirrors) c.requires.fresh c.args.registry.now.directory.now)
+    (ap slots_of c.new-mirrored.ensures.mirrors) c.requires.fresh g.C.Dial.answered c.args.registry.now.directory.now)
     (c.run_batch.ensures.journals told))
 
 -- ---- the disks and their counts
@@ -172,3 +174,9 @@ returns-clause-all_there g c =
     (sym (mirrors_back c.mirrors-1.given.0 c.run_batch.new.shelf.mirrors.now _ _ c.run_batch.ensures.lent (search rules)))
     (all_there (slots_of c.run_batch.new.shelf.mirrors.now) c.run_batch.new.shelf.mirrors.now.distinct
     (λ name. c.run_batch.new.shelf.back name (c.run_batch.ensures.inside name)))
+
+pub returns-clause-none_away : goal.returns-clause-none_away
+returns-clause-none_away g c name =
+    subst (λ mirrors. is_away (place_at (slots_of mirrors) name) ≡ false)
+    (sym (mirrors_back c.mirrors-1.given.0 c.run_batch.new.shelf.mirrors.now _ _ c.run_batch.ensures.lent (search rules)))
+    (c.run_batch.new.shelf.back name (c.run_batch.ensures.inside name))

@@ -1,11 +1,11 @@
-use Rattle.std.proofs.Common.{◌≡◌, ◌≤◌, ◌+◌, sym, ap, subst, ◌∙◌, length, map, rules}
+use Rattle.std.proofs.Common.{◌≡◌, ◌≤◌, ◌+◌, false, sym, ap, subst, ◌∙◌, length, map, rules}
 use Rattle.outside.specs.Faults.{Rose}
 use Rattle.outside.specs.Shelf.{SameNames, SameBeside, NoneOut, NoneFell, SomeRose, Lent}
 use Rattle.desk_crew.specs.Registered.{registered_journals}
 use Rattle.log_journal.specs.Opening.{header_bytes}
 use Rattle.serve_engine.specs.Serving as serving
-use Rattle.standby_core.specs.Places.{faults_in}
-use Rattle.standby_core.specs.MirrorSets.{slots_of, dial_faults}
+use Rattle.standby_core.specs.Places.{faults_in, is_away}
+use Rattle.standby_core.specs.MirrorSets.{slots_of, dial_faults, dial_marks}
 use Rattle.standby_core.specs.Slots.{place_at, slot_texts, there_among}
 use Rattle.standby_core.proofs.There.{all_there}
 use Rattle.cqe_top.specs.Steps.{copied_counts, copied_journals}
@@ -22,7 +22,8 @@ run_serve-requires-clause-inside g c κs within =
 pub returns-clause-ends : goal.returns-clause-ends
 returns-clause-ends g c = λ told links_told.
     lent_two (λ shelf mirrors. serving.EndsServing c.args.registry.now.schema.now c.args.registry.now.world.now (header_bytes c.args.registry.now.header.now)
-    (copied_journals g.F.Shelf g.F.D.Disk c.args.registry.now.directory.now c.args.shelf.now shelf (dial_faults g.C.Dial.faults mirrors))
+    (copied_journals g.F.Shelf g.F.D.Disk c.args.registry.now.directory.now c.args.shelf.now shelf (dial_faults g.C.Dial.faults mirrors)
+    (dial_marks g.C.Dial.answered (g.F.Shelf.disk shelf) mirrors))
     c.args.registry.now.users.now (g.L.Links.given c.args.links.now) (g.L.Links.given c.run_serve.new.links) (g.L.Links.back c.args.links.now)
     (g.L.Links.back c.run_serve.new.links) c.run_serve.result)
     _ c.run_serve.new.shelf.shelf.now c.mirrors-1.given.0 c.run_serve.new.shelf.mirrors.now
@@ -35,13 +36,14 @@ returns-clause-ends g c = λ told links_told.
     (same_copied g.F.Shelf g.F.D.Disk g.C.Dial.faults c.new-mirrored.result.shelf.now c.args.shelf.now c.run_serve.new.shelf.shelf.now
     c.new-mirrored.ensures.shelf
     (slots_of c.new-mirrored.result.mirrors.now) (slots_of c.args.mirrors.now) (slots_of c.run_serve.new.shelf.mirrors.now)
-    (ap slots_of c.new-mirrored.ensures.mirrors) c.requires.fresh c.args.registry.now.directory.now)
+    (ap slots_of c.new-mirrored.ensures.mirrors) c.requires.fresh g.C.Dial.answered c.args.registry.now.directory.now)
     (c.run_serve.ensures.ends told links_told))
 
 pub returns-clause-journals : goal.returns-clause-journals
 returns-clause-journals g c = λ told.
     lent_two (λ shelf mirrors. serving.LeavesJournals c.args.registry.now.schema.now c.args.registry.now.world.now (header_bytes c.args.registry.now.header.now)
-    (copied_journals g.F.Shelf g.F.D.Disk c.args.registry.now.directory.now c.args.shelf.now shelf (dial_faults g.C.Dial.faults mirrors))
+    (copied_journals g.F.Shelf g.F.D.Disk c.args.registry.now.directory.now c.args.shelf.now shelf (dial_faults g.C.Dial.faults mirrors)
+    (dial_marks g.C.Dial.answered (g.F.Shelf.disk shelf) mirrors))
     c.args.registry.now.users.now c.run_serve.result)
     _ c.run_serve.new.shelf.shelf.now c.mirrors-1.given.0 c.run_serve.new.shelf.mirrors.now
     (shelf_back _ c.run_serve.new.shelf.shelf.now _ _ c.run_serve.ensures.lent (search rules))
@@ -52,7 +54,7 @@ returns-clause-journals g c = λ told.
     (same_copied g.F.Shelf g.F.D.Disk g.C.Dial.faults c.new-mirrored.result.shelf.now c.args.shelf.now c.run_serve.new.shelf.shelf.now
     c.new-mirrored.ensures.shelf
     (slots_of c.new-mirrored.result.mirrors.now) (slots_of c.args.mirrors.now) (slots_of c.run_serve.new.shelf.mirrors.now)
-    (ap slots_of c.new-mirrored.ensures.mirrors) c.requires.fresh c.args.registry.now.directory.now)
+    (ap slots_of c.new-mirrored.ensures.mirrors) c.requires.fresh g.C.Dial.answered c.args.registry.now.directory.now)
     (c.run_serve.ensures.journals told))
 
 -- ---- the disks and their counts
@@ -171,3 +173,9 @@ returns-clause-all_there g c =
     (sym (mirrors_back c.mirrors-1.given.0 c.run_serve.new.shelf.mirrors.now _ _ c.run_serve.ensures.lent (search rules)))
     (all_there (slots_of c.run_serve.new.shelf.mirrors.now) c.run_serve.new.shelf.mirrors.now.distinct
     (λ name. c.run_serve.new.shelf.back name (c.run_serve.ensures.inside name)))
+
+pub returns-clause-none_away : goal.returns-clause-none_away
+returns-clause-none_away g c name =
+    subst (λ mirrors. is_away (place_at (slots_of mirrors) name) ≡ false)
+    (sym (mirrors_back c.mirrors-1.given.0 c.run_serve.new.shelf.mirrors.now _ _ c.run_serve.ensures.lent (search rules)))
+    (c.run_serve.new.shelf.back name (c.run_serve.ensures.inside name))

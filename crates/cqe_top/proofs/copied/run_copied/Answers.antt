@@ -6,12 +6,13 @@ use Rattle.command_words.specs.Readings.{names_of_files}
 use Rattle.desk_crew.specs.Crew.{named_user}
 use Rattle.log_journal.specs.Opening.{header_bytes}
 use Rattle.policy_files.specs.Memory.{policy_value_of, policy_user_of}
-use Rattle.standby_core.specs.MirrorSets.{slots_of, dial_faults}
-use Rattle.standby_core.proofs.There.{unused_there, all_hung_up, all_dialling}
+use Rattle.standby_core.specs.Calls.{IsCallBy}
+use Rattle.standby_core.specs.MirrorSets.{slots_of, dial_faults, dial_marks}
+use Rattle.standby_core.proofs.There.{unused_there, all_hung_up, all_dialling, marks_answered}
 use Rattle.cqe_top.specs.Batch.{RunsBatch}
 use Rattle.serve_engine.specs.Serving as serving
 use Rattle.outside.specs.Visits.{place_of}
-use Rattle.cqe_top.specs.Copied.{with_failed, CallsStandby}
+use Rattle.cqe_top.specs.Copied.{with_failed, with_told, CallsStandby}
 use Rattle.cqe_top.specs.Files.{journals_of}
 use Rattle.cqe_top.specs.Promise.{Does}
 use Rattle.cqe_top.specs.Scene.{Scene, scene_of, shelf_of, input_of, output_of, links_of}
@@ -22,7 +23,7 @@ use Rattle.cqe_top.specs.declared.end.CommandEnd.TheVariants as ends
 use Rattle.cqe_top.specs.declared.end.FilesEnd.TheVariants as files_end
 use Rattle.cqe_top.proofs.Causes.{files_cause, batch_cause, serve_cause, plainly}
 use Rattle.cqe_top.proofs.Copying.{doors_kept, served_between, same_counted, touches_counted, some_rose_counted, none_fell_counted}
-use Rattle.cqe_top.proofs.Dialling.{counted_same, counted, calls_from}
+use Rattle.cqe_top.proofs.Dialling.{counted_same, counted, causes_told, calls_from}
 use Rattle.cqe_top.proofs.Good.{unread_copied, doors_same, nobody_called, batch_succeeds}
 use Rattle.cqe_top.proofs.Over.{batch_left, batch_over, serve_left, serve_over}
 use Rattle.cqe_top.proofs.Serving.{serve_succeeds, served_out}
@@ -147,6 +148,9 @@ returns-in-Err-mirrors_for g c = record {
 abbrev batch_failed : (g : Over) → After-drop-inputs-in-Batch-4 g → Text → ℕ
 batch_failed g c name = dial_faults g.L.Dial.Dial.faults c.copied_batch-end.new.mirrors name
 
+abbrev batch_marks : (g : Over) → After-drop-inputs-in-Batch-4 g → Text → ℕ
+batch_marks g c name = dial_marks g.L.Dial.Dial.answered (g.F.Shelf.disk c.copied_batch-end.new.shelf) c.copied_batch-end.new.mirrors name
+
 abbrev batch_scene : (g : Over) → After-drop-inputs-in-Batch-4 g → Scene
 batch_scene g c =
     scene_of (shelf_of g.F.Shelf g.F.D.Disk c.args.shelf.now c.copied_batch-end.new.shelf) (input_of g.S.Source c.args.source.now c.copied_batch-end.new.source)
@@ -163,13 +167,15 @@ returns-in-Batch g c = record {
       let inputs = c.in-Ok.inputs in
       let failed = batch_failed g c in
       let scene = with_failed (batch_scene g c) failed in
+      let marks = batch_marks g c in
+      let marked = with_told scene marks in
       let old = c.args.shelf.now in
       let mid = c.read_files.new.shelf in
       let new = c.copied_batch-end.new.shelf in
       let cause = batch_cause scene inputs.policy.users c.copied_batch-end.result ran.read_cause ran.write_cause
       (λ is. rose_since (g.F.Shelf.faults old) (g.F.Shelf.faults mid) (g.F.Shelf.faults new) read.later (ran.shelf_cause is))
       (λ is. some_rose_counted g.F.Shelf g.F.D.Disk old mid new read.disks read.counts failed files (ran.disk_cause is)) in
-      let runs : RunsBatch scene.shelf scene.input scene.output files inputs.policy.users c.copied_batch-end.result = record {
+      let runs : RunsBatch marked.shelf scene.input scene.output files inputs.policy.users c.copied_batch-end.result = record {
         over_files = λ told. (
           policy_value_of inputs.policy,
           inputs.world,
@@ -180,11 +186,11 @@ returns-in-Batch g c = record {
             touches = touches_counted g.F.Shelf g.F.D.Disk old mid new read.disks read.counts failed files inputs.policy c.as_slice.result.now
                 c.as_slice.ensures.value ran.disks ran.other_counts;
             journals = batch_left inputs.policy inputs.world (header_bytes inputs.header) c.as_slice.result.now _ _ c.copied_batch-end.result
-                (same_counted g.F.Shelf g.F.D.Disk old mid new read.disks read.counts failed files) c.as_slice.ensures.value (ran.journals told);
+                (same_counted g.F.Shelf g.F.D.Disk old mid new read.disks read.counts failed files marks) c.as_slice.ensures.value (ran.journals told);
             answers =
                 λ in_told out_told.
                 batch_over inputs.policy inputs.world (header_bytes inputs.header) c.as_slice.result.now _ _ c.copied_batch-end.result _ _ _ _
-                (same_counted g.F.Shelf g.F.D.Disk old mid new read.disks read.counts failed files) c.as_slice.ensures.value
+                (same_counted g.F.Shelf g.F.D.Disk old mid new read.disks read.counts failed files marks) c.as_slice.ensures.value
                 (ran.ends told in_told out_told);
           },
         );
@@ -198,20 +204,24 @@ returns-in-Batch g c = record {
       let later = ran.shelf_later in
       let reading = Some (reading_copied files (copied.Batch c.in-Batch.workers) c.args.standby.now) in
       let end = ends.Batch inputs.policy.users c.copied_batch-end.result in
-      let calls : CallsStandby scene files c.args.standby.now end = λ told links_told. (
+      let calls : CallsStandby scene files c.args.standby.now marks end = λ told links_told. (
         policy_value_of inputs.policy,
         inputs.world,
         header_bytes inputs.header,
         read.read told,
         calls_from inputs.header c.args.standby.now files.directory (policy_value_of inputs.policy) c.as_slice.result.now
-            (ap (map policy_user_of) c.as_slice.ensures.value) scene.links inputs.world _ (g.L.Links.exchanged c.mirrors_for.new.links)
-            (ran.made ∙ c.in-Ok-mirrors_for.ensures.made) (made.calls.exchanged links_told) (hung.exchanged links_told),
+            (ap (map policy_user_of) c.as_slice.ensures.value) scene.links inputs.world marks _ _ (g.L.Links.exchanged c.mirrors_for.new.links)
+            (ran.made ∙ c.in-Ok-mirrors_for.ensures.made) (made.calls.exchanged links_told) (hung.exchanged links_told)
+            (marks_answered g.L.Dial.Dial.name g.L.Dial.Dial.address g.L.Dial.Dial.answered (g.F.Shelf.disk new) (slots_of c.copied_batch-end.new.mirrors)
+            ran.none_away (λ slot. slot.named) IsCallBy (hung.exchanged links_told).exchanges c.copied_batch-end.new.mirrors.distinct
+            (hung.exchanged links_told).answered),
       ) in
       let does : Does (batch_scene g c) reading end =
       counted (batch_scene g c) reading end failed refl (λ name. hung.exchange_faults name ∙ ap (λ n. n + failed name) (made.calls.exchange_faults name))
       (record {
+        told = marks;
         ends = runs;
-        succeeds = batch_succeeds scene files inputs.policy.users c.copied_batch-end.result runs cause;
+        succeeds = batch_succeeds marked files inputs.policy.users c.copied_batch-end.result runs (causes_told scene marks end cause);
         calls = calls;
         listens_nowhere = inr (record {
           faults = last ∙ first;
@@ -255,6 +265,9 @@ returns-in-Batch g c = record {
 abbrev serve_failed : (g : Over) → After-drop-inputs-5 g → Text → ℕ
 serve_failed g c name = dial_faults g.L.Dial.Dial.faults c.copied_serve-end.new.mirrors name
 
+abbrev serve_marks : (g : Over) → After-drop-inputs-5 g → Text → ℕ
+serve_marks g c name = dial_marks g.L.Dial.Dial.answered (g.F.Shelf.disk c.copied_serve-end.new.shelf) c.copied_serve-end.new.mirrors name
+
 abbrev serve_scene : (g : Over) → After-drop-inputs-5 g → Scene
 serve_scene g c =
     scene_of (shelf_of g.F.Shelf g.F.D.Disk c.args.shelf.now c.copied_serve-end.new.shelf) (input_of g.S.Source c.args.source.now c.args.source.now)
@@ -272,6 +285,8 @@ returns g c = record {
       let listening = c.in-Serve.listening in
       let failed = serve_failed g c in
       let scene = with_failed (serve_scene g c) failed in
+      let marks = serve_marks g c in
+      let marked = with_told scene marks in
       let old = c.args.shelf.now in
       let mid = c.read_files.new.shelf in
       let new = c.copied_serve-end.new.shelf in
@@ -280,7 +295,7 @@ returns g c = record {
       let cause = serve_cause scene inputs.policy.users c.copied_serve-end.result (λ is. doors.rose (ran.links_cause is))
       (λ is. rose_since (g.F.Shelf.faults old) (g.F.Shelf.faults mid) (g.F.Shelf.faults new) read.later (ran.shelf_cause is))
       (λ is. some_rose_counted g.F.Shelf g.F.D.Disk old mid new read.disks read.counts failed files (ran.disk_cause is)) in
-      let runs : RunsServe scene.shelf scene.links files listening.address.now listening.workers listening.sessions inputs.policy.users
+      let runs : RunsServe marked.shelf scene.links files listening.address.now listening.workers listening.sessions inputs.policy.users
       c.copied_serve-end.result = record {
         over_files = λ told. (
           policy_value_of inputs.policy,
@@ -292,13 +307,13 @@ returns g c = record {
             touches = touches_counted g.F.Shelf g.F.D.Disk old mid new read.disks read.counts failed files inputs.policy c.as_slice.result.now
                 c.as_slice.ensures.value ran.disks ran.other_counts;
             journals = serve_left inputs.policy inputs.world (header_bytes inputs.header) c.as_slice.result.now _ _ c.copied_serve-end.result
-                (same_counted g.F.Shelf g.F.D.Disk old mid new read.disks read.counts failed files) c.as_slice.ensures.value (ran.journals told);
+                (same_counted g.F.Shelf g.F.D.Disk old mid new read.disks read.counts failed files marks) c.as_slice.ensures.value (ran.journals told);
             serves = λ links_told.
                 doors.served links_told (λ given given' back back'.
-                serving.EndsServing inputs.policy.schema inputs.world (header_bytes inputs.header) (journals_of scene.shelf files) inputs.policy.users.items
+                serving.EndsServing inputs.policy.schema inputs.world (header_bytes inputs.header) (journals_of marked.shelf files) inputs.policy.users.items
                 given given' back back' c.copied_serve-end.result)
                 (serve_over inputs.policy inputs.world (header_bytes inputs.header) c.as_slice.result.now _ _ c.copied_serve-end.result _ _ _ _
-                (same_counted g.F.Shelf g.F.D.Disk old mid new read.disks read.counts failed files) c.as_slice.ensures.value (ran.ends told links_told));
+                (same_counted g.F.Shelf g.F.D.Disk old mid new read.disks read.counts failed files marks) c.as_slice.ensures.value (ran.ends told links_told));
           },
         );
         looks = λ told. ran.looked ∙ read.both told;
@@ -332,22 +347,26 @@ returns g c = record {
       let later = ran.shelf_later in
       let reading = Some (reading_copied files (copied.Serve listening) c.args.standby.now) in
       let end = ends.Serve inputs.policy.users c.copied_serve-end.result in
-      let calls : CallsStandby scene files c.args.standby.now end = λ told links_told. (
+      let calls : CallsStandby scene files c.args.standby.now marks end = λ told links_told. (
         policy_value_of inputs.policy,
         inputs.world,
         header_bytes inputs.header,
         read.read told,
         calls_from inputs.header c.args.standby.now files.directory (policy_value_of inputs.policy) c.as_slice.result.now
-            (ap (map policy_user_of) c.as_slice.ensures.value) scene.links inputs.world _ (g.L.Links.exchanged links)
-            (ran.made ∙ c.in-Ok-mirrors_for.ensures.made) (ran.exchanged links_told ∙ made.calls.exchanged links_told) (hung.exchanged links_told),
+            (ap (map policy_user_of) c.as_slice.ensures.value) scene.links inputs.world marks _ _ (g.L.Links.exchanged links)
+            (ran.made ∙ c.in-Ok-mirrors_for.ensures.made) (ran.exchanged links_told ∙ made.calls.exchanged links_told) (hung.exchanged links_told)
+            (marks_answered g.L.Dial.Dial.name g.L.Dial.Dial.address g.L.Dial.Dial.answered (g.F.Shelf.disk new) (slots_of c.copied_serve-end.new.mirrors)
+            ran.none_away (λ slot. slot.named) IsCallBy (hung.exchanged links_told).exchanges c.copied_serve-end.new.mirrors.distinct
+            (hung.exchanged links_told).answered),
       ) in
       let does : Does (serve_scene g c) reading end =
       counted (serve_scene g c) reading end failed refl
       (λ name. hung.exchange_faults name ∙ ap (λ n. n + failed name) (ran.exchange_faults name ∙ made.calls.exchange_faults name))
       (record {
+        told = marks;
         ends = runs;
-        succeeds = serve_succeeds c.law_openings.ensures.unrefused scene files listening.address.now listening.workers listening.sessions
-            inputs.policy.users c.copied_serve-end.result runs cause;
+        succeeds = serve_succeeds c.law_openings.ensures.unrefused marked files listening.address.now listening.workers listening.sessions
+            inputs.policy.users c.copied_serve-end.result runs (causes_told scene marks end cause);
         reads_nothing = refl;
         writes_nothing = refl;
         calls = calls;

@@ -21,6 +21,7 @@ loop-init g c =
           (g.D.Disk.faults c.args.disk.now)
           (λ t d le is. g.met.D.Disk.counts_now c.args.disk.now t d le is) (λ d is. g.met.D.Disk.only_now c.args.disk.now d is);
       origin = refl;
+      still_told = omega arith;
     }
 
 pub returns-in_err-record-clause-refused : goal.returns-in_err-record-clause-refused
@@ -71,4 +72,5 @@ loop-preserved g c =
           (g.D.Disk.faults c.args.disk.now) (g.D.Disk.faults c.loop.disk) (g.D.Disk.faults c.record_at.new.disk)
           c.loop.invariant.only c.record_at.ensures.only;
       origin = c.record_at.ensures.origin ∙ c.loop.invariant.origin;
+      still_told = omega (arith, c.loop.invariant.still_told, c.record_at.ensures.still_told);
     }

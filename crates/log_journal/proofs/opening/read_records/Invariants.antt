@@ -1,4 +1,4 @@
-use Rattle.std.proofs.Common.{◌≡◌, All, map, drop}
+use Rattle.std.proofs.Common.{◌≡◌, ◌≤◌, All, map, drop}
 use Rattle.log_journal.specs.Opening.{recorded, IsRecord, IsOnlyRead}
 use Rattle.log_journal.proofs.Reading.{SoFar}
 use Rattle.log_journal.proofs.opening.read_records.Given as goal
@@ -11,4 +11,5 @@ invariant-loop g l = record {
       (g.D.Disk.moment l.initial.disk) (g.D.Disk.moment l.disk) (g.D.Disk.image_since l.initial.disk) (g.D.Disk.image_since l.disk)
       (g.D.Disk.faults l.initial.disk) (g.D.Disk.faults l.disk);
   origin : g.D.Disk.origin l.disk ≡ g.D.Disk.origin l.initial.disk;
+  still_told : g.D.Disk.told l.initial.disk ≤ g.D.Disk.told l.disk;
 }

@@ -7,6 +7,7 @@ use Rattle.log_journal.proofs.tell.tell_all.Goals as goal
 pub loop-number-init : goal.loop-number-init
 loop-number-init g c = record {
   told = omega arith;
+  still_told = omega arith;
   only = only_none (g.D.Disk.reads c.args.disk.now) (g.D.Disk.image c.args.disk.now) (g.D.Disk.moment c.args.disk.now)
       (g.D.Disk.image_since c.args.disk.now) (g.D.Disk.faults c.args.disk.now)
       (λ t d le is. g.met.D.Disk.counts_now c.args.disk.now t d le is) (λ d is. g.met.D.Disk.only_now c.args.disk.now d is);
@@ -40,6 +41,7 @@ tell_record-requires-clause-short g c =
 pub loop-number-preserved : goal.loop-number-preserved
 loop-number-preserved g c = record {
   told = omega (arith, c.in_ok-tell_record.ensures.may_be_told);
+  still_told = omega (arith, c.loop-number.invariant.still_told, c.tell_record.ensures.told);
   only = only_then (g.D.Disk.reads c.args.disk.now) (g.D.Disk.reads c.loop-number.disk) (g.D.Disk.reads c.tell_record.new.disk)
       (g.D.Disk.image c.args.disk.now) (g.D.Disk.image c.loop-number.disk) (g.D.Disk.image c.tell_record.new.disk)
       (g.D.Disk.moment c.args.disk.now) (g.D.Disk.moment c.loop-number.disk) (g.D.Disk.moment c.tell_record.new.disk)

@@ -6,6 +6,7 @@ use Rattle.log_journal.proofs.tell.tell_all.Given as goal
 abbrev pub invariant-loop-number : goal.invariant-loop-number
 invariant-loop-number g l = record {
   told : l.number ≤ g.D.Disk.told l.disk;
+  still_told : g.D.Disk.told l.fn.disk ≤ g.D.Disk.told l.disk;
   only : IsOnlyRead (g.D.Disk.reads l.fn.disk) (g.D.Disk.reads l.disk) (g.D.Disk.image l.fn.disk) (g.D.Disk.image l.disk)
       (g.D.Disk.moment l.fn.disk) (g.D.Disk.moment l.disk) (g.D.Disk.image_since l.fn.disk) (g.D.Disk.image_since l.disk)
       (g.D.Disk.faults l.fn.disk) (g.D.Disk.faults l.disk);

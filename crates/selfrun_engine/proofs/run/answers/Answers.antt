@@ -1,4 +1,4 @@
-use Rattle.std.proofs.Common.{◌≡◌, ◌∙◌, ap, sym, map, false, codes}
+use Rattle.std.proofs.Common.{◌≡◌, ◌^◌, ◌∙◌, ap, sym, map, false, codes}
 use Rattle.std.specs.List.{list_any}
 use Rattle.std.specs.Prelude.{is_some}
 use Rattle.outside.specs.MemoryDisk.{memory_bytes, memory_moment, IsMemoryImage, IsMemoryImageSince}
@@ -24,7 +24,8 @@ returns-in-Done-run_batch g c = λ items read named.
     let same = c.as_slice-users.ensures.value in
     let header = header_bytes c.args.header.now in
     let made = disk_named c.run_init.new.shelf in
-    let journals = journals_by memory_bytes IsMemoryImage memory_moment IsMemoryImageSince (codes "journals") made (disk_named c.run_batch.new.shelf)
+    let journals = journals_by memory_bytes IsMemoryImage memory_moment IsMemoryImageSince (λ d. 2 ^ 64) (codes "journals") made
+    (disk_named c.run_batch.new.shelf)
     (disk_faults_of c.run_init.new.shelf)
     (disk_faults_of c.run_batch.new.shelf) in
     let none : list_any is_some c.in-Done-run_batch.refusals.items ≡ false =

@@ -1,5 +1,5 @@
 use Rattle.std.proofs.Common.{◌∙◌, ap, ◌+◌}
-use Rattle.standby_core.proofs.Hanging.{faults_once, calls_among}
+use Rattle.standby_core.proofs.Hanging.{faults_once, calls_among, last_among}
 use Rattle.standby_core.specs.Slots.{exchanged_among}
 use Rattle.standby_core.proofs.dialling.hang_up_all.Goals as goal
 
@@ -15,4 +15,7 @@ returns-clause-exchanged g c told = record {
   further = c.hang_up_slots.ensures.exchanged told;
   each = calls_among g.L.Dial.Dial.name g.L.Dial.Dial.address g.L.Dial.Dial.exchanged (λ mirror. mirror.calls (g.met.L.Links.tells_dials told))
       (λ slot. slot.same) c.args.mirrors.slots.items;
+  answered = last_among g.L.Dial.Dial.name g.L.Dial.Dial.address g.L.Dial.Dial.answered g.L.Dial.Dial.exchanged
+      (λ mirror. mirror.calls (g.met.L.Links.tells_dials told)) (λ slot. slot.same) (λ mirror. mirror.greatest (g.met.L.Links.tells_dials told))
+      c.args.mirrors.slots.items;
 }

@@ -256,7 +256,7 @@ returns-clause-serves g c shelf_told door_told =
     let own = header_bytes c.args.header.now in
     let users = c.args.users.now in
     let places = c.in-Ok-open_journals.places.items in
-    let journals = (journals_by g.F.D.Disk.reads g.F.D.Disk.image g.F.D.Disk.moment g.F.D.Disk.image_since c.args.directory.now
+    let journals = (journals_by g.F.D.Disk.reads g.F.D.Disk.image g.F.D.Disk.moment g.F.D.Disk.image_since g.F.D.Disk.told c.args.directory.now
     (g.F.Shelf.disk c.args.shelf.now)
     (g.F.Shelf.disk c.give_back.new.shelf) (g.F.Shelf.disk_faults c.args.shelf.now) (g.F.Shelf.disk_faults c.give_back.new.shelf)) in
     let served = c.serve_door-end.ensures.served door_told disk_told in
@@ -297,7 +297,7 @@ pub returns-clause-journals : goal.returns-clause-journals
 returns-clause-journals g c shelf_told =
     let disk_told = g.met.F.Shelf.tells_disks shelf_told in
     let own = header_bytes c.args.header.now in
-    let journals = (journals_by g.F.D.Disk.reads g.F.D.Disk.image g.F.D.Disk.moment g.F.D.Disk.image_since c.args.directory.now
+    let journals = (journals_by g.F.D.Disk.reads g.F.D.Disk.image g.F.D.Disk.moment g.F.D.Disk.image_since g.F.D.Disk.told c.args.directory.now
     (g.F.Shelf.disk c.args.shelf.now)
     (g.F.Shelf.disk c.give_back.new.shelf) (g.F.Shelf.disk_faults c.args.shelf.now) (g.F.Shelf.disk_faults c.give_back.new.shelf)) in
     subst (LeavesCopies own journals c.args.users.now) (sym c.end_of.ensures)

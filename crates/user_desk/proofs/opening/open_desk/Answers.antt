@@ -1,4 +1,5 @@
-use Rattle.std.proofs.Common.{ℕ, List, map, sym, ap, subst, ◌∙◌}
+use Rattle.std.proofs.Common.{ℕ, List, length, map, sym, ap, subst, ◌∙◌, arith}
+use Rattle.std.proofs.lemmas.List.{length-map}
 use Rattle.cqe_base.specs.History.{profile_of}
 use Rattle.log_journal.specs.Opening.{header_bytes, recorded, IsRefused}
 use Rattle.log_journal.specs.Records.{IsJournal}
@@ -7,7 +8,7 @@ use Rattle.user_desk.specs.Causes.{IsStanding}
 use Rattle.user_desk.specs.Stored.{stored_disk, opened_disk}
 use Rattle.user_desk.proofs.Refusing.{standing_from}
 use Rattle.user_desk.proofs.Restarting.{restarts, opens_served}
-use Rattle.user_desk.proofs.Keeping.{legal_at, sizes_at, standing_sealed_by, kept_first, open_not_sealed}
+use Rattle.user_desk.proofs.Keeping.{legal_at, sizes_at, standing_sealed_by, kept_first, open_not_sealed, replayed_within}
 use Rattle.user_desk.proofs.Since.{since_first}
 use Rattle.user_desk.proofs.Sizes.{size_at_opening}
 use Rattle.user_desk.proofs.Taking.{count_of}
@@ -48,6 +49,13 @@ invariant_of-result g c =
       kept = kept;
       still = λ count none. sym began;
       size = λ told whole. size_at_opening (kept_history c.in-Ok-replay_log.log) _ _ (ap (λ d. g.D.Disk.reads d) began);
+      told = λ tells.
+          let most = replayed_within c.args.schema.now c.args.world.now (profile_of c.args.user.now) (map recorded c.deref.result.now)
+          (kept_history c.in-Ok-replay_log.log) c.in-Ok-replay_log.standing c.in-Ok-replay_log.ensures.replay in
+          let many = length-map c.deref.result.now recorded in
+          let same = ap length c.deref.ensures.value in
+          let disk = ap g.D.Disk.told at in
+          omega (arith, most, many, same, disk, c.in-Ok.ensures.told);
       since = since_first g.D.Disk.tells (λ i. g.D.Disk.image (stored_disk store) i) (λ i.
           g.D.Disk.image_since (stored_disk store) (g.D.Disk.moment (opened_disk store)) i) _ _ _ (header_bytes c.args.header.now) c.in-Ok-replay_log.standing _
           (kept_history c.in-Ok-replay_log.log) _ _ kept

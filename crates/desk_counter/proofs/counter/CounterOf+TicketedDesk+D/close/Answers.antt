@@ -1,5 +1,6 @@
-use Rattle.std.proofs.Common.{ap, sym, ◌∙◌, subst, ◌≡◌, ◌≤◌}
+use Rattle.std.proofs.Common.{ap, sym, ◌∙◌, subst, ◌≡◌, ◌≤◌, length}
 use Rattle.outside.specs.Disk.{Elapses}
+use Rattle.cqe_base.specs.History.{History}
 use Rattle.user_desk.specs.Standings.{is_sealed}
 use Rattle.user_desk.specs.declared.desk.Desk.{Desk}
 use Rattle.user_desk.specs.Desks.{desk_history, desk_disk, entry_in_flight}
@@ -54,6 +55,7 @@ returns-clause-closed g c =
       later = subst (λ (f : Fixed g.row.D.Denot). g.D.Disk.faults f.disk ≤ g.D.Disk.faults (desk_disk desk)) same known.count;
       cause = closed_cause desk kept pairs same history flies g.D.Disk known.cause;
       size = closed_size desk kept pairs same history flies g.D.Disk known.size;
+      told = λ tells. subst (λ (h : History). length h ≤ g.D.Disk.told (desk_disk desk)) history (known.told tells);
       shut = λ sealed.
           known.refused (ap (λ (f : Fixed g.row.D.Denot). is_sealed f.standing) same ∙ sealed) ∙ ap (λ (f : Fixed g.row.D.Denot). f.disk) same;
       still = λ opened. closed_still desk kept pairs same history flies known.begins known.still opened.count opened.none;

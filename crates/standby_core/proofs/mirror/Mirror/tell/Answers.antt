@@ -1,7 +1,7 @@
-use Rattle.std.proofs.Common.{◌≡◌, refl, sym, ap, ◌∙◌}
+use Rattle.std.proofs.Common.{◌≡◌, refl, sym, ap, ◌∙◌, arith}
 use Rattle.standby_core.specs.Frames.{Carried, frame_bytes}
 use Rattle.standby_core.specs.Mirrors.{dial_of, header_of, user_of}
-use Rattle.standby_core.proofs.Calling.{calls_next, calls_maybe}
+use Rattle.standby_core.proofs.Calling.{calls_next, calls_maybe, greatest_next, greatest_maybe}
 use Rattle.standby_core.proofs.mirror.Mirror.tell.Goals as goal
 
 -- ---- the dial failed
@@ -21,6 +21,9 @@ invariant_of-self g c =
           calls_maybe (g.C.Dial.address (dial_of mirror)) (g.C.Dial.address c.exchange.new.self) (header_of mirror) one c.exchange.ensures.address
           (g.C.Dial.exchanged (dial_of mirror)) (g.C.Dial.exchanged c.exchange.new.self) (mirror.calls told) _ (c.in_err-self.ensures.failed told)
           (record { called = refl; above = refl; frame = frame; low = c.requires.low; high = c.requires.high; short = c.requires.short });
+      greatest = λ told.
+          greatest_maybe (g.C.Dial.exchanged (dial_of mirror)) (g.C.Dial.exchanged c.exchange.new.self) _ (g.C.Dial.answered (dial_of mirror))
+          (mirror.greatest told) (c.in_err-self.ensures.failed told) refl ∙ sym c.in_err-self.ensures.unanswered;
     }
 
 -- ---- a number was answered
@@ -40,4 +43,8 @@ invariant_of-self-2 g c =
           calls_next (g.C.Dial.address (dial_of mirror)) (g.C.Dial.address c.exchange.new.self) (header_of mirror) one c.exchange.ensures.address
           (g.C.Dial.exchanged (dial_of mirror)) (g.C.Dial.exchanged c.exchange.new.self) (mirror.calls told) _ (c.in_ok-self.ensures.exchanged told)
           (record { called = refl; above = refl; frame = frame; low = c.requires.low; high = c.requires.high; short = c.requires.short });
+      greatest = λ told.
+          greatest_next (g.C.Dial.exchanged (dial_of mirror)) (g.C.Dial.exchanged c.exchange.new.self) _ (g.C.Dial.answered (dial_of mirror))
+          (mirror.greatest told) _ (c.in_ok-self.ensures.exchanged told) refl
+          (omega (arith, mirror.answered, c.if-number-count.false, c.in_ok-self.ensures.above)) ∙ sym c.in_ok-self.ensures.answered;
     }

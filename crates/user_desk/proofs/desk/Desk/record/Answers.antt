@@ -5,6 +5,7 @@ use Rattle.outside.specs.Faults.{Rose}
 use Rattle.cqe_base.specs.Formula.{formula_of}
 use Rattle.cqe_base.specs.History.{AnsweredQuery, History}
 use Rattle.log_journal.specs.Records.{Recorded, KeepsOrAdds}
+use Rattle.log_journal.specs.Walk.{records}
 use Rattle.log_journal.specs.Opening.{header_bytes}
 use Rattle.user_log.specs.Prepared.{prepared_entry}
 use Rattle.user_log.specs.UserLogs.{kept_schema, kept_world, kept_user, kept_history}
@@ -13,6 +14,7 @@ use Rattle.user_desk.specs.Lives.{shown}
 use Rattle.user_desk.specs.Standings.{is_sealed, standing_of}
 use Rattle.user_desk.specs.Stored.{stored_disk, opened_disk}
 use Rattle.user_desk.proofs.Asking.{failure_settles}
+use Rattle.user_desk.proofs.Bytes.{as_many}
 use Rattle.user_desk.proofs.Recording.{still_holds, record_of_answer, legal_back, sizes_back, IsGrowing, growing, kept_added, kept_flying, moment_holds}
 use Rattle.user_desk.proofs.Sizes.{size_added}
 use Rattle.user_desk.proofs.Since.{split_moments, since_added, since_flying, some_not_none}
@@ -96,6 +98,12 @@ invariant_of-self-in-Ok-append g c =
           (ap (λ d. g.D.Disk.reads d) (c.append.ensures.opened ∙ c.reserve.ensures.opened)) (ap (λ d. g.D.Disk.reads d) c.reserve.ensures.disk)
           (c.in-Ok-append.ensures.added told _ (g.met.D.Disk.read_is_image (stored_disk c.append.new.self) told))
           (desk.size told (ap (λ (o : Option AnsweredQuery). is_some o) c.requires.whole));
+      told = λ tells.
+          let many = as_many (kept_schema desk.log) (records (g.D.Disk.reads (stored_disk c.reserve.new.self))) (kept_history desk.log)
+          (grow.stands tells).are in
+          let below = c.in-Ok-append.ensures.told tells in
+          let more = ap length grown ∙ length-append (kept_history desk.log) (entry g at ∷ []) in
+          omega (arith, many, below, more);
       kept = kept_added grow _ _ _ _ _ _ _ (again.schema ∙ same.schema) (again.world ∙ same.world) (again.user ∙ same.user) grown
           c.append.ensures.journal c.in-Ok-append.ensures.whole c.in-Ok-append.ensures.added;
       since = since_added grow (λ i. g.D.Disk.image_since (stored_disk c.append.new.self) (g.D.Disk.moment (opened_disk c.append.new.self)) i) desk.since
@@ -128,6 +136,11 @@ invariant_of-self-in-Err g c =
     record {
       still = λ count none. absurd (some_not_none none);
       size = λ told whole. absurd cc;
+      told = λ tells.
+          let was = c.args.self.now.told tells in
+          let same = ap length c.in-Ok.ensures.unchanged in
+          let disk = ap g.D.Disk.told c.reserve.ensures.disk in
+          omega (arith, was, same, disk, c.append.ensures.still_told);
       kept = kept_flying (grows g at) _ _ _ _ _ _ _ _ same.schema same.world same.user c.in-Ok.ensures.unchanged
           (c.into_entry.ensures ∙ c.in-Ok.ensures.entry)
           c.append.ensures.journal c.in-Err.ensures.failed c.in-Err.ensures.either;

@@ -1,7 +1,8 @@
-use Rattle.std.proofs.Common.{◌≡◌, List, ℕ, false, ap, sym, ◌∙◌, subst}
+use Rattle.std.proofs.Common.{◌≡◌, ◌<◌, List, ℕ, false, length, ap, sym, ◌∙◌, subst, arith}
 use Rattle.std.specs.Prelude.{OnOk, OnErr}
 use Rattle.log_journal.specs.Journal.{disk_of, is_broken}
 use Rattle.log_journal.specs.Records.{Adds, KeepsOrAdds}
+use Rattle.log_journal.specs.Walk.{records}
 use Rattle.user_desk.specs.declared.store.Medium.{Medium}
 use Rattle.user_desk.specs.Mediums.{medium_disk, is_failed}
 use Rattle.user_desk.specs.Stored.{Stored, stored_disk, has_failed}
@@ -38,4 +39,19 @@ returns-clause-either g c told =
           → KeepsOrAdds (g.D.Disk.reads stored) (c.args.kind, c.args.text.now) i)) (sym w.result-is)
           (λ i here. subst (λ b. KeepsOrAdds b (c.args.kind, c.args.text.now) i) same
           (c.append.ensures.moments told unbroken i (g.met.D.Disk.counts_now _ _ i c.append.ensures.time.later here)))
+    ]
+
+pub returns-clause-told : goal.returns-clause-told
+returns-clause-told g c told =
+    let stored = stored_disk c.args.self.now in
+    let same : g.D.Disk.reads (disk_of c.in-Journal.journal) ≡ g.D.Disk.reads stored =
+    ap (λ (m : Medium g.row.D.Denot g.D.Disk). g.D.Disk.reads (medium_disk m)) (sym c.in-Journal.is)
+    ∙ ap (λ (s : Stored g.row.D.Denot). g.D.Disk.reads (stored_disk s)) c.self.view_is in
+    let unbroken : is_broken c.in-Journal.journal ≡ false =
+    ap (λ (m : Medium g.row.D.Denot g.D.Disk). is_failed m) (sym c.in-Journal.is)
+    ∙ ap (λ (s : Stored g.row.D.Denot). has_failed s) c.self.view_is ∙ c.requires.whole in
+    elim c.match-append.branch [
+      | in-Ok w ↦ subst (λ r. OnOk r (length (records (g.D.Disk.reads stored)) < g.D.Disk.told (disk_of c.append.new.self))) (sym w.result-is)
+          (omega (arith, w.in-Ok.ensures.may_be_told, c.append.ensures.number told unbroken, ap (λ b. length (records b)) same))
+      | in-Err w ↦ subst (λ r. OnOk r (length (records (g.D.Disk.reads stored)) < g.D.Disk.told (disk_of c.append.new.self))) (sym w.result-is) tt
     ]
