@@ -46,5 +46,5 @@ invariant_of-self-2 g c =
       greatest = λ told.
           greatest_next (g.C.Dial.exchanged (dial_of mirror)) (g.C.Dial.exchanged c.exchange.new.self) _ (g.C.Dial.answered (dial_of mirror))
           (mirror.greatest told) _ (c.in_ok-self.ensures.exchanged told) refl
-          (omega (arith, mirror.answered, c.if-number-count.false, c.in_ok-self.ensures.above)) ∙ sym c.in_ok-self.ensures.answered;
+          (omega (arith, mirror.answered, c.if-number-self.false, c.in_ok-self.ensures.above)) ∙ sym c.in_ok-self.ensures.answered;
     }
