@@ -45,6 +45,7 @@ use Rattle.cqe_top.specs.declared.end.CommandEnd.TheVariants as ends
 use Rattle.cqe_top.specs.declared.end.FileKind.TheVariants as file_kind
 use Rattle.cqe_top.specs.declared.end.FilesEnd.{FilesEnd}
 use Rattle.cqe_top.specs.declared.end.FilesEnd.TheVariants as files_end
+use Rattle.cqe_top.specs.declared.report.Report.{Report}
 use Rattle.cqe_top.specs.declared.report.Report.TheVariants as report
 use Rattle.cqe_top.specs.Audit.{NamesNobody, CanBeAudited, AuditsOverFiles, RunsAudit, FindsNobody, AuditSucceeds}
 use Rattle.cqe_top.specs.Batch.{AnswersOverFiles, RunsBatch, BatchSucceeds}
@@ -57,7 +58,7 @@ use Rattle.cqe_top.specs.Init.{Makes, RunsInit, InitSucceeds}
 use Rattle.cqe_top.specs.Migrate.{MovesJournals, RunsMigrate, MigrateSucceeds}
 use Rattle.cqe_top.specs.Promise.{OfReading}
 use Rattle.cqe_top.specs.Ready.{CanBeMade, CanBeMoved, CanBeOpened, CanBeCopied}
-use Rattle.cqe_top.specs.Reports.{answers_report, has_refusal, IsDoneUnlessMemory, FaultsHaveCauses}
+use Rattle.cqe_top.specs.Reports.{answers_report, copies_report, has_refusal, IsDoneUnlessMemory, FaultsHaveCauses}
 use Rattle.cqe_top.specs.Scene.{Scene, ShelfScene, IsUntouched, HasRisen, SameInput, SameOutput, SameLinks, CallsNobody, links_of}
 use Rattle.cqe_top.specs.Steps.{reading_over, reading_copied}
 use Rattle.cqe_top.specs.declared.copied.CopiedTask.{CopiedTask}
@@ -108,6 +109,23 @@ answers_done users refusals is_broken unrefused unbroken = by (has_refusal refus
     by true broken unrefused unbroken = absurd (unrefused refl)
     by false true unrefused unbroken = absurd (unbroken refl)
     by false false unrefused unbroken = refl
+
+-- so it is of a standby, or memory was wanting for a record
+pub copies_done : (users : Vec User Global) (refusals : Vec (Option DeskError) Global) (is_broken is_wanting : Bool)
+    → (has_refusal refusals.items ≡ true → ⊥) → (is_broken ≡ true → ⊥)
+    → (copies_report users refusals is_broken is_wanting ≡ report.Done) ⊎ (copies_report users refusals is_broken is_wanting ≡ report.Memory)
+copies_done users refusals is_broken is_wanting unrefused unbroken = by (has_refusal refusals.items) is_broken is_wanting unrefused unbroken
+  where
+    reported : Bool → Bool → Bool → Report
+    reported refused broken wanting =
+        if refused then report.Journals users refusals else if broken then report.DiskFault else if wanting then report.Memory else report.Done
+
+    by : (refused broken wanting : Bool) → (refused ≡ true → ⊥) → (broken ≡ true → ⊥)
+        → (reported refused broken wanting ≡ report.Done) ⊎ (reported refused broken wanting ≡ report.Memory)
+    by true broken wanting unrefused unbroken = absurd (unrefused refl)
+    by false true wanting unrefused unbroken = absurd (unbroken refl)
+    by false false true unrefused unbroken = inr refl
+    by false false false unrefused unbroken = inl refl
 
 -- ---- a case and a run
 

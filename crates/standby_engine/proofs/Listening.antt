@@ -11,6 +11,7 @@ use Rattle.desk_crew.specs.Shelved.{Journals}
 use Rattle.log_journal.specs.declared.header.Header.{Header}
 use Rattle.user_desk.specs.declared.standing.DeskError.{DeskError}
 use Rattle.standby_core.specs.Copies.{Copy}
+use Rattle.standby_core.specs.declared.serve.StandbyEnd.{StandbyEnd}
 use Rattle.standby_engine.specs.Standing.{ServesCopies, ServesNobody, EndsCopying}
 use Rattle.standby_engine.specs.declared.run.CopyEnd.{CopyEnd}
 use Rattle.standby_engine.specs.declared.run.CopyEnd.TheVariants.{Done, LinksFault, ShelfFault, Memory}
@@ -32,9 +33,10 @@ module _ {O : Type 0} where
 -- the connections of the door are those of the links
 module _ (header : Header) (journals : Journals) (users : List User) (given given' given0 given1 : ℕ) (back back' back0 back1 : List Visit)
     (none : given ≡ 0) (empty : back ≡ []) (gave : given1 ≡ given0 + given') (came : back1 ≡ back0 ++ back') where
-  copies_moved : (refusals : List (Option DeskError)) (last : List Copy) → ServesCopies header journals users given given' back back' refusals last
-      → ServesCopies header journals users given0 given1 back0 back1 refusals last
-  copies_moved refusals last is = record {
+  copies_moved : (refusals : List (Option DeskError)) (last : List Copy) (served_ends : List StandbyEnd)
+      → ServesCopies header journals users given given' back back' refusals last served_ends
+      → ServesCopies header journals users given0 given1 back0 back1 refusals last served_ends
+  copies_moved refusals last served_ends is = record {
     first = is.first;
     copies = is.copies;
     visits = is.visits;
@@ -48,8 +50,8 @@ module _ (header : Header) (journals : Journals) (users : List User) (given give
 
   pub door_served : (ended : CopyEnd) → EndsCopying header journals users given given' back back' ended
       → EndsCopying header journals users given0 given1 back0 back1 ended
-  door_served (Done refusals broken) is = (is.0, copies_moved refusals.items is.0 is.1, is.2)
-  door_served LinksFault (inl is) = inl (is.0, is.1, copies_moved is.0 is.1 is.2)
+  door_served (Done refusals broken wanting) is = (is.0, is.1, copies_moved refusals.items is.0 is.1 is.2, is.3, is.4)
+  door_served LinksFault (inl is) = inl (is.0, is.1, is.2, copies_moved is.0 is.1 is.2 is.3)
   door_served LinksFault (inr is) = inr (nobody_moved is)
   door_served ShelfFault is = nobody_moved is
   door_served Memory is = nobody_moved is
