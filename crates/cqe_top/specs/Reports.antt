@@ -61,8 +61,8 @@ answers_report users refusals is_broken =
     else if is_broken then DiskFault
     else Done
 
--- the report of a standby that came to its end: so it is, and behind both comes want of memory for a
--- record
+-- the report of a standby that came to its end: so it is, and behind both comes want of memory for
+-- a record
 abbrev pub copies_report : Vec User Global → Vec (Option DeskError) Global → Bool → Bool
     → Report
 copies_report users refusals is_broken is_wanting =
