@@ -306,7 +306,7 @@ module _ (s : Scene) (files : FileNames) (to : Text) where
 
 -- ---- an audit
 
-same_one : {one other : PolicyUser} → Some one ≡ Some other → one ≡ other
+pub same_one : {one other : PolicyUser} → Some one ≡ Some other → one ≡ other
 same_one both_are = cc
 
 neither : {P Q R : Type 0} → P ⊎ (Q × R) → (P → ⊥) → (Q → ⊥) → ⊥

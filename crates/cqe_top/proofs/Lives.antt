@@ -47,7 +47,7 @@ use Rattle.cqe_top.specs.Scene.{Scene, ShelfScene, Input, Output, LinksScene, sh
 use Rattle.cqe_top.specs.Serve.{ServeEnds, OfServe, ServesOverFiles}
 
 -- what files say, they say once
-said_once : (P : PolicyValue → FactSet → List ℕ → Type 0) (policy policy' : PolicyValue) (world world' : FactSet) (header header' : List ℕ)
+pub said_once : (P : PolicyValue → FactSet → List ℕ → Type 0) (policy policy' : PolicyValue) (world world' : FactSet) (header header' : List ℕ)
     → both policy' world' header' ≡ both policy world header → P policy' world' header' → P policy world header
 said_once P policy policy' world world' header header' same is =
     let p : policy' ≡ policy = cc in

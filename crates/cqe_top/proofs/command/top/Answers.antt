@@ -22,6 +22,15 @@ left_inside s read end does = by (has_standby read) does.always.shelf.inside
 
 pub returns : goal.returns
 returns g c = record {
+  laws = record {
+    two_batches = c.law_calls_join.ensures;
+    parts = c.law_calls_are_parts.ensures;
+    calls = c.law_any_calls_join.ensures;
+    batches = c.law_any_batches_join.ensures;
+    standbys = c.law_standbys_keep.ensures;
+    takeovers = c.law_takeovers_join.ensures;
+    dossiers = c.law_dossiers_are_found_sound.ensures;
+  };
   inside = left_inside _ _ _ c.run-end.ensures.command.2;
   promise = record {
     end = c.run-end.result;
