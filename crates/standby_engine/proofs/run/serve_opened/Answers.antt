@@ -115,7 +115,7 @@ put_together-all-requires-clause-room g c =
     let others = ap length c.take_apart-journals.ensures.others in
     let journals = ap length c.take_apart-journals.ensures.journals in
     let book = ap (λ (v : Vec _ Global). length v.items) c.new-book.ensures in
-    let same = sym (length-map c.serve_door.new.book.journals.items held_name) ∙ ap length c.serve_door.ensures.names
+    let same = sym (length-map c.serve_door-end.new.book.journals.items held_name) ∙ ap length c.serve_door-end.ensures.names
     ∙ length-map c.new-book.result.journals.items held_name in
     let closed = ap (λ (v : Vec _ Global). length v.items) c.close-journals.ensures.same in
     let room = c.in-Ok.ensures.room.2 in
@@ -128,7 +128,7 @@ put_together-all-requires-clause-count g c =
     let many = names_many c.in-Ok-open_journals.places.items in
     let journals = ap length c.take_apart-journals.ensures.journals in
     let book = ap (λ (v : Vec _ Global). length v.items) c.new-book.ensures in
-    let same = sym (length-map c.serve_door.new.book.journals.items held_name) ∙ ap length c.serve_door.ensures.names
+    let same = sym (length-map c.serve_door-end.new.book.journals.items held_name) ∙ ap length c.serve_door-end.ensures.names
     ∙ length-map c.new-book.result.journals.items held_name in
     let closed = ap (λ (v : Vec _ Global). length v.items) c.close-journals.ensures.same in
     omega (arith, names, many, journals, book, same, closed)
@@ -161,7 +161,7 @@ give_back-requires-clause-own g c =
     own_both origin known c.put_together-all.result.0.items c.take_apart-journals.result.2.items (map held_disk c.close-journals.result.items)
     (map string_bytes c.take_apart-journals.result.1.items) c.put_together-all.ensures.disks c.put_together-all.ensures.names
     (subst (AreOwn origin known) (sym c.take_apart-journals.ensures.others) apart.1)
-    (origins_of origin known c.close-journals.result.items ∙ closed ∙ c.serve_door.ensures.origins ∙ began ∙ apart.0
+    (origins_of origin known c.close-journals.result.items ∙ closed ∙ c.serve_door-end.ensures.origins ∙ began ∙ apart.0
     ∙ ap (map known) (sym c.take_apart-journals.ensures.names))
 
 -- ---- what is left
@@ -197,7 +197,7 @@ counted g c =
     (g.F.Shelf.disk_faults c.args.shelf.now)
     c.args.users.now c.in-Ok-open_journals.places.items c.in-Ok-open_journals.ensures.opened in
     subst (λ (v : Vec _ Global). AllCounted g.F.D.Disk.faults counts v.items) (sym c.close-journals.ensures.same)
-    (c.serve_door.ensures.counted counts (subst (AllCounted g.F.D.Disk.faults counts) (sym (began g c))
+    (c.serve_door-end.ensures.counted counts (subst (AllCounted g.F.D.Disk.faults counts) (sym (began g c))
     (first_counted c.args.directory.now (header_bytes c.args.header.now) g.F.Shelf.tells g.F.D.Disk (g.F.Shelf.disk c.args.shelf.now)
     (g.F.Shelf.disk_faults c.args.shelf.now)
     c.args.users.now c.in-Ok-open_journals.places.items c.in-Ok-open_journals.ensures.opened)))
@@ -240,7 +240,7 @@ lasts g c told =
     let own = header_bytes c.args.header.now in
     let disks = map held_disk (journals_in c.in-Ok-open_journals.places.items) in
     subst (λ (v : Vec _ Global). AllLast g.F.D.Disk own disks v.items) (sym c.close-journals.ensures.same)
-    (c.serve_door.ensures.lasts told own disks (subst (AllLast g.F.D.Disk own disks) (sym (began g c))
+    (c.serve_door-end.ensures.lasts told own disks (subst (AllLast g.F.D.Disk own disks) (sym (began g c))
     (first_lasts c.args.directory.now (header_bytes c.args.header.now) g.F.Shelf.tells g.F.D.Disk (g.F.Shelf.disk c.args.shelf.now)
     (g.F.Shelf.disk_faults c.args.shelf.now)
     told c.args.users.now c.in-Ok-open_journals.places.items c.in-Ok-open_journals.ensures.opened)))
@@ -259,9 +259,9 @@ returns-clause-serves g c shelf_told door_told =
     let journals = (journals_by g.F.D.Disk.reads g.F.D.Disk.image g.F.D.Disk.moment g.F.D.Disk.image_since c.args.directory.now
     (g.F.Shelf.disk c.args.shelf.now)
     (g.F.Shelf.disk c.give_back.new.shelf) (g.F.Shelf.disk_faults c.args.shelf.now) (g.F.Shelf.disk_faults c.give_back.new.shelf)) in
-    let served = c.serve_door.ensures.served door_told disk_told in
+    let served = c.serve_door-end.ensures.served door_told disk_told in
     let closed = c.close-journals.ensures.same in
-    let named = ap (λ (v : Vec _ Global). map held_name v.items) closed ∙ c.serve_door.ensures.names ∙ ap (map held_name) (began g c) in
+    let named = ap (λ (v : Vec _ Global). map held_name v.items) closed ∙ c.serve_door-end.ensures.names ∙ ap (map held_name) (began g c) in
     let of_places : AreCopiesOf own journals users (map place_refusal places) (map (copy_in reads) (journals_in places))
     (map (copy_in reads) c.close-journals.result.items) =
     all_served c.args.directory.now (header_bytes c.args.header.now) g.F.Shelf.tells g.F.D.Disk (g.F.Shelf.disk c.args.shelf.now)
@@ -270,18 +270,19 @@ returns-clause-serves g c shelf_told door_told =
     g.met.F.D.Disk.only_now (λ (held : Held _ _) whole. held.journal.counted whole disk_told)
     users places c.in-Ok-open_journals.ensures.opened c.close-journals.result.items (back g c) (lasts g c disk_told) named in
     let of_book : AreCopiesOf own journals users c.refusals_of-refusals.result.items (map (copy_in reads) c.new-book.result.journals.items)
-    (map (copy_in reads) c.serve_door.new.book.journals.items) =
+    (map (copy_in reads) c.serve_door-end.new.book.journals.items) =
     subst (λ rs. AreCopiesOf own journals users rs (map (copy_in reads) c.new-book.result.journals.items)
-    (map (copy_in reads) c.serve_door.new.book.journals.items)) (sym (refused g c))
+    (map (copy_in reads) c.serve_door-end.new.book.journals.items)) (sym (refused g c))
     (subst (λ (l : List (Held _ _)). AreCopiesOf own journals users (map place_refusal places) (map (copy_in reads) l)
-    (map (copy_in reads) c.serve_door.new.book.journals.items)) (sym (began g c))
+    (map (copy_in reads) c.serve_door-end.new.book.journals.items)) (sym (began g c))
     (subst (λ (v : Vec (Held _ _) Global). AreCopiesOf own journals users (map place_refusal places) (map (copy_in reads) (journals_in places))
     (map (copy_in reads) v.items)) closed of_places)) in
-    subst (EndsCopying c.args.header.now journals users (g.O.Door.given c.args.door.now) (g.O.Door.given c.serve_door.new.door)
-    (g.O.Door.back c.args.door.now) (g.O.Door.back c.serve_door.new.door)) (sym c.end_of.ensures)
-    (serves_at c.refusals_of-refusals.result c.put_together-all.result.1 c.serve_door.result.1 c.args.header.now journals users (g.O.Door.given c.args.door.now)
-    (g.O.Door.given c.serve_door.new.door) (g.O.Door.back c.args.door.now) (g.O.Door.back c.serve_door.new.door) c.serve_door.result.0
-    (map (copy_in reads) c.serve_door.new.book.journals.items) served.ends
+    subst (EndsCopying c.args.header.now journals users (g.O.Door.given c.args.door.now) (g.O.Door.given c.serve_door-end.new.door)
+    (g.O.Door.back c.args.door.now) (g.O.Door.back c.serve_door-end.new.door)) (sym c.end_of.ensures)
+    (serves_at c.refusals_of-refusals.result c.put_together-all.result.1 c.serve_door-end.result.1 c.args.header.now journals users
+    (g.O.Door.given c.args.door.now)
+    (g.O.Door.given c.serve_door-end.new.door) (g.O.Door.back c.args.door.now) (g.O.Door.back c.serve_door-end.new.door) c.serve_door-end.result.0
+    (map (copy_in reads) c.serve_door-end.new.book.journals.items) served.ends
     (record {
       first = map (copy_in reads) c.new-book.result.journals.items;
       copies = of_book;
@@ -291,7 +292,7 @@ returns-clause-serves g c shelf_told door_told =
       given_is = served.given_is;
     })
     (c.put_together-all.ensures.broken ∙ ap (λ (v : Vec (Held _ _) Global). has_broken v.items) closed
-    ∙ failed_same reads c.serve_door.new.book.journals.items) served.wanted)
+    ∙ failed_same reads c.serve_door-end.new.book.journals.items) served.wanted)
 
 pub returns-clause-journals : goal.returns-clause-journals
 returns-clause-journals g c shelf_told =
@@ -301,7 +302,7 @@ returns-clause-journals g c shelf_told =
     (g.F.Shelf.disk c.args.shelf.now)
     (g.F.Shelf.disk c.give_back.new.shelf) (g.F.Shelf.disk_faults c.args.shelf.now) (g.F.Shelf.disk_faults c.give_back.new.shelf)) in
     subst (LeavesCopies own journals c.args.users.now) (sym c.end_of.ensures)
-    (leaves_at c.refusals_of-refusals.result c.put_together-all.result.1 c.serve_door.result.1 own journals c.args.users.now c.serve_door.result.0
+    (leaves_at c.refusals_of-refusals.result c.put_together-all.result.1 c.serve_door-end.result.1 own journals c.args.users.now c.serve_door-end.result.0
     (subst (AreCopied own journals c.args.users.now) (sym (refused g c))
     (all_copied c.args.directory.now (header_bytes c.args.header.now) g.F.Shelf.tells g.F.D.Disk (g.F.Shelf.disk c.args.shelf.now)
     (g.F.Shelf.disk_faults c.args.shelf.now)
@@ -324,17 +325,18 @@ returns-clause-disk_cause g c broken =
     c.in-Ok-open_journals.ensures.opened
     c.close-journals.result.items (back g c) (counted g c)
     (sym c.put_together-all.ensures.broken
-    ∙ broken_at c.refusals_of-refusals.result c.put_together-all.result.1 c.serve_door.result.1 c.serve_door.result.0 (subst IsBroken c.end_of.ensures broken)))
+    ∙ broken_at c.refusals_of-refusals.result c.put_together-all.result.1 c.serve_door-end.result.1 c.serve_door-end.result.0
+    (subst IsBroken c.end_of.ensures broken)))
 
 pub returns-clause-ended : goal.returns-clause-ended
 returns-clause-ended g c door_told done =
-    ended_at c.refusals_of-refusals.result c.put_together-all.result.1 c.serve_door.result.1 c.serve_door.result.0 _ _
-    (c.serve_door.ensures.none_left door_told) (c.serve_door.ensures.reached door_told) (subst IsServed c.end_of.ensures done)
+    ended_at c.refusals_of-refusals.result c.put_together-all.result.1 c.serve_door-end.result.1 c.serve_door-end.result.0 _ _
+    (c.serve_door-end.ensures.none_left door_told) (c.serve_door-end.ensures.reached door_told) (subst IsServed c.end_of.ensures done)
 
 pub returns-clause-failed : goal.returns-clause-failed
 returns-clause-failed g c is =
-    c.serve_door.ensures.failed
-    (failed_at c.refusals_of-refusals.result c.put_together-all.result.1 c.serve_door.result.1 c.serve_door.result.0 (sym c.end_of.ensures ∙ is))
+    c.serve_door-end.ensures.failed
+    (failed_at c.refusals_of-refusals.result c.put_together-all.result.1 c.serve_door-end.result.1 c.serve_door-end.result.0 (sym c.end_of.ensures ∙ is))
 
 pub returns-clause-shelf_later : goal.returns-clause-shelf_later
 returns-clause-shelf_later g c =
