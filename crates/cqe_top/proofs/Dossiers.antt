@@ -163,7 +163,7 @@ module _ (files : FileNames) (user : Text) (policy : PolicyValue) (world : FactS
         of_check = (subst (λ r. Does s r promise.end) has.read promise.does).command
 
         can : SayOn s.shelf (two_files files.policy files.facts) (CanBeChecked s.input.left user)
-        can = (policy, world, header, has.said, (one, named, subst IsOk (sym input_shown) tt))
+        can = (policy, world, header, has.said, (one, named, subst IsOk (sym input_shown) refl))
 
         by : IsDoneUnlessMemory promise.end → (status ≡ 13) ⊎ ((status ≡ 0) × IsFound)
         by (inl done) = inr (promise.of_status ∙ ap status_of done, found_at promise.end of_check.ends done)

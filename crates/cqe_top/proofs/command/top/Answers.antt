@@ -22,15 +22,6 @@ left_inside s read end does = by (has_standby read) does.always.shelf.inside
 
 pub returns : goal.returns
 returns g c = record {
-  laws = record {
-    two_batches = c.law_calls_join.ensures;
-    parts = c.law_calls_are_parts.ensures;
-    calls = c.law_any_calls_join.ensures;
-    batches = c.law_any_batches_join.ensures;
-    standbys = c.law_standbys_keep.ensures;
-    takeovers = c.law_takeovers_join.ensures;
-    dossiers = c.law_dossiers_are_found_sound.ensures;
-  };
   inside = left_inside _ _ _ c.run-end.ensures.command.2;
   promise = record {
     end = c.run-end.result;
@@ -43,5 +34,14 @@ returns g c = record {
         (output_of g.K.Sink c.args.sink.now c.run-end.new.sink) (links_of g.L.Links c.args.links.now c.run-end.new.links)) read c.run-end.result)
         (sym c.run-end.ensures.command.1) c.run-end.ensures.command.2;
     complaints_faults = c.complain.ensures.later;
+  };
+  laws = record {
+    two_batches = c.law_calls_join.ensures;
+    parts = c.law_calls_are_parts.ensures;
+    calls = c.law_any_calls_join.ensures;
+    batches = c.law_any_batches_join.ensures;
+    standbys = c.law_standbys_keep.ensures;
+    takeovers = c.law_takeovers_join.ensures;
+    dossiers = c.law_dossiers_are_found_sound.ensures;
   };
 }
