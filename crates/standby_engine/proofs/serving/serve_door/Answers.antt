@@ -56,8 +56,8 @@ loop-preserved g c =
             write_failed = λ is. seen_failed _ _ whole.1 (served.write_cause is);
           } in
           one_served g.O.Door.given g.O.Door.back c.args.header.now (copies_in g.D.Disk.reads c.args.book.now) (copies_in g.D.Disk.reads c.loop.book)
-          left c.args.door.now c.loop.door c.done.new.self came c.serve_standby-end.result c.loop.wanting c.is_wanting.result (before.served told disk) visit
-          c.is_wanting.ensures
+          left c.args.door.now c.loop.door c.done.new.self came c.serve_standby-end.result c.loop.wanting c.is_wanting-wanting.result (before.served told disk) visit
+          c.is_wanting-wanting.ensures
           (c.done.ensures.given told ∙ is_given told) (c.done.ensures.back told ∙ ap (λ l. l ++ came ∷ []) (c.next.ensures.back told));
       count = λ told. omega (arith, before.count told, c.done.ensures.given told, is_given told);
       left = λ told. omega (
