@@ -15,8 +15,8 @@ use Rattle.user_desk.specs.declared.standing.Standing.{Standing}
 use Rattle.user_desk.specs.declared.standing.Standing.TheVariants.{Open, Closed, Sealed}
 use Rattle.audit_text.specs.Said.{AuditSaid}
 use Rattle.audit_print.specs.Audits.{Audits}
-use Rattle.audit_engine.specs.Printed.{IsPrinted, end_of}
-use Rattle.audit_engine.specs.Ends.{IsAuditOf, EndsAudit}
+use Rattle.audit_engine.specs.Printed.{IsPrinted, EndsBy, end_of}
+use Rattle.audit_engine.specs.Ends.{IsAuditOf, GivesStanding, EndsAudit, JudgesJournal}
 use Rattle.audit_engine.specs.declared.end.AuditEnd.{AuditEnd}
 use Rattle.audit_engine.specs.declared.end.AuditEnd.TheVariants as ends
 
@@ -87,6 +87,40 @@ module _ (schema : DatabaseSchema) (world : FactSet) (header : Header) (name : T
       by (inr none) =
           record { entries = []; opening_is = inr (none, refl); standing_is = (why_is, rose [] why why_is); audits = any_entries entries [] why said audits }
 
+  -- the bytes give him the standing of the desk
+  pub gives : (told : Type 0) → told → (entries : History) (standing : Standing)
+      → IsStanding schema world user told (header_bytes header) bytes entries before now standing
+      → GivesStanding schema world (header_bytes header) name user bytes before now standing
+  gives told is entries Open stands = record { entries = entries; opening_is = inl (stands.1 is); standing_is = (stands.0, stands.1 is) }
+  gives told is entries (Closed admission) stands =
+      record { entries = entries; opening_is = inl (stands.3 is); standing_is = (stands.0, stands.1, stands.3 is) }
+  gives told is entries (Sealed why) stands = by (decided schema world user (header_bytes header) bytes)
+    where
+      why_is : IsSealedBy schema world user (Unit {0}) (header_bytes header) bytes before now why
+      why_is = sealed_by told is why stands.1
+
+      by : ((opened : History) × Opens schema world user (header_bytes header) opened bytes)
+          ⊎ ((opened : History) → Opens schema world user (header_bytes header) opened bytes → ⊥)
+          → GivesStanding schema world (header_bytes header) name user bytes before now (Sealed why)
+      by (inl (opened, opens)) = record { entries = opened; opening_is = inl opens; standing_is = (why_is, rose opened why why_is) }
+      by (inr none) = record { entries = []; opening_is = inr (none, refl); standing_is = (why_is, rose [] why why_is) }
+
+  -- so the end of an audit judges the journal
+  pub judges_so : (told : Type 0) → told → (entries : History) (end : AuditEnd) (standing : Standing)
+      → IsStanding schema world user told (header_bytes header) bytes entries before now standing → EndsBy standing end
+      → JudgesJournal schema world (header_bytes header) name user bytes before now end
+  judges_so told is entries ends.Done Open stands same = (Open, refl, gives told is entries Open stands)
+  judges_so told is entries ends.Done (Closed admission) stands same = (Closed admission, refl, gives told is entries (Closed admission) stands)
+  judges_so told is entries ends.Done (Sealed why) stands same = absurd (cc)
+  judges_so told is entries (ends.Refused why) Open stands same = absurd (cc)
+  judges_so told is entries (ends.Refused why) (Closed admission) stands same = absurd (cc)
+  judges_so told is entries (ends.Refused why) (Sealed why') stands same =
+      let one : why' ≡ why = cc in
+      subst (λ w. GivesStanding schema world (header_bytes header) name user bytes before now (Sealed w)) one (gives told is entries (Sealed why') stands)
+  judges_so told is entries ends.WriteFault standing stands same = tt
+  judges_so told is entries ends.ShelfFault standing stands same = tt
+  judges_so told is entries ends.Memory standing stands same = tt
+
   module _ (told : Type 0) (is : told) (entries : History) (json : Bool) (old new : List ℕ) where
     done : (standing : Standing) → IsStanding schema world user told (header_bytes header) bytes entries before now standing
         → IsPrinted schema name user standing entries json ends.Done old new
@@ -124,3 +158,9 @@ pub done_served : (standing : Standing) → end_of standing ≡ ends.Done → is
 done_served Open is = refl
 done_served (Closed admission) is = refl
 done_served (Sealed why) is = absurd cc
+
+-- the end of an audit that was written is that of the standing
+pub ends_by : (standing : Standing) → EndsBy standing (end_of standing)
+ends_by Open = refl
+ends_by (Closed admission) = refl
+ends_by (Sealed why) = refl

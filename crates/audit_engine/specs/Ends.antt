@@ -34,6 +34,22 @@ module _ (schema : DatabaseSchema) (world : FactSet) (header : List ℕ) (name :
       IsSealedBy schema world user (Unit {0}) header bytes before now why
       × (Opens schema world user header entries bytes → Rose before now)
 
+  -- the bytes of his journal give the user this standing, with the legal history that they stand
+  -- for, the empty one where they open no desk
+  pub record GivesStanding (standing : Standing) : Type 0 where
+    pub entries : History
+    pub opening_is : OpensWith schema world user header bytes entries
+    pub standing_is : HasStanding entries standing
+
+  -- what each end says of the journal, whatever the output tells
+  abbrev pub JudgesJournal : AuditEnd → Type 0
+  JudgesJournal Done =
+      (standing : Standing) × (is_sealed standing ≡ false) × GivesStanding standing
+  JudgesJournal (Refused why) = GivesStanding (Sealed why)
+  JudgesJournal WriteFault = Unit {0}
+  JudgesJournal ShelfFault = Unit {0}
+  JudgesJournal Memory = Unit {0}
+
   -- this is said of the user: the audit of his standing and of the legal history that the bytes of
   -- his journal stand for, the empty one where they open no desk
   pub record IsAuditOf (standing : Standing) (said : AuditSaid) : Type 0 where

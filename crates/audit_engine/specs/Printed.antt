@@ -18,6 +18,15 @@ end_of Open = Done
 end_of (Closed admission) = Done
 end_of (Sealed why) = Refused why
 
+-- so an audit of a user with this standing may end: as one that was written, by a fault of the
+-- output, or for want of memory
+abbrev pub EndsBy : Standing → AuditEnd → Type 0
+EndsBy standing Done = Done ≡ end_of standing
+EndsBy standing (Refused why) = Refused why ≡ end_of standing
+EndsBy standing WriteFault = Unit {0}
+EndsBy standing ShelfFault = ⊥
+EndsBy standing Memory = Unit {0}
+
 module _ (schema : DatabaseSchema) (name : Text) (user : UserProfile) (standing : Standing)
     (entries : History) where
   -- the audit was appended

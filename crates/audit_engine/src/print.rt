@@ -7,8 +7,8 @@ ghost use Rattle.cqe_base.specs.Limits.{KeepsLimits};
 ghost use Rattle.log_journal.specs.Opening.{header_bytes};
 ghost use Rattle.user_desk.specs.Desks.{desk_schema, desk_user, desk_standing, desk_history};
 ghost use Rattle.user_desk.specs.Standings.{is_sealed};
-ghost use Rattle.audit_engine.specs.Printed.{IsPrinted};
-ghost use Rattle.audit_engine.specs.Ends.{EndsAudit};
+ghost use Rattle.audit_engine.specs.Printed.{IsPrinted, EndsBy};
+ghost use Rattle.audit_engine.specs.Ends.{EndsAudit, JudgesJournal};
 ghost use Rattle.audit_engine.specs.declared.end.AuditEnd.{AuditEnd};
 
 use crate::end::{AuditEnd, end_of};
@@ -36,6 +36,9 @@ pub(crate) fn audit_disk<'w, D: Disk, K: Sink>(
         (header_bytes registry.now.header.now) (string_bytes user.now.name) (profile_of user.now)
         (D.reads disk) (D.faults disk) (D.faults result.0) json result.1 (K.written sink.old)
         (K.written sink.new) }
+    ensures judged { D.tells → JudgesJournal registry.now.schema.now registry.now.world.now
+        (header_bytes registry.now.header.now) (string_bytes user.now.name) (profile_of user.now)
+        (D.reads disk) (D.faults disk) (D.faults result.0) result.1 }
     ensures reads { D.reads result.0 ≡ D.reads disk }
     ensures images { (c : List ℕ) → D.image result.0 c → D.image disk c }
     ensures moments { (c : List ℕ) → D.image_since result.0 (D.moment disk) c → D.image disk c }
@@ -83,6 +86,7 @@ fn print_desk<D: Disk, K: Sink>(
         → IsPrinted schema.now (string_bytes user.now.name) (profile_of user.now)
         (desk_standing desk.now) (desk_history desk.now) json result (K.written sink.old)
         (K.written sink.new) }
+    ensures ends_by { EndsBy (desk_standing desk.now) result }
     ensures served { result ≡ AuditEnd.Done → is_sealed (desk_standing desk.now) ≡ false }
     ensures silent { result ≡ AuditEnd.Memory → sink.new ≡ sink.old }
     ensures later { K.faults sink.old ≤ K.faults sink.new }

@@ -8,7 +8,7 @@ ghost use Rattle.cqe_base.specs.Limits.{KeepsLimits};
 ghost use Rattle.log_journal.specs.Names.{journal_name};
 ghost use Rattle.log_journal.specs.Opening.{header_bytes};
 ghost use Rattle.outside.specs.Shelf.{NoneOut, NoneFell, SameBytes, NoNewImages, NoNewMoments};
-ghost use Rattle.audit_engine.specs.Ends.{EndsAudit};
+ghost use Rattle.audit_engine.specs.Ends.{EndsAudit, JudgesJournal};
 ghost use Rattle.audit_engine.specs.declared.end.AuditEnd.{AuditEnd};
 
 use crate::end::AuditEnd;
@@ -42,6 +42,16 @@ pub fn run_audit<'w, F: Shelf, K: Sink>(
         (F.disk_faults shelf.new
         (journal_name registry.now.directory.now (string_bytes user.now.name)))
         json result (K.written sink.old) (K.written sink.new) }
+    ensures judged { F.tells → JudgesJournal registry.now.schema.now registry.now.world.now
+        (header_bytes registry.now.header.now) (string_bytes user.now.name) (profile_of user.now)
+        (bytes_on F.D.reads
+        (F.disk shelf.old
+        (journal_name registry.now.directory.now (string_bytes user.now.name))))
+        (F.disk_faults shelf.old
+        (journal_name registry.now.directory.now (string_bytes user.now.name)))
+        (F.disk_faults shelf.new
+        (journal_name registry.now.directory.now (string_bytes user.now.name)))
+        result }
     ensures silent_fault { result ≡ AuditEnd.ShelfFault → sink.new ≡ sink.old }
     ensures silent_memory { result ≡ AuditEnd.Memory → sink.new ≡ sink.old }
     ensures disks { SameOthers
@@ -95,6 +105,10 @@ fn audit_journal<'w, F: Shelf, K: Sink>(
         (bytes_on F.D.reads (F.disk shelf.old journal.now)) (F.disk_faults shelf.old journal.now)
         (F.disk_faults shelf.new journal.now)
         json result (K.written sink.old) (K.written sink.new) }
+    ensures judged { F.tells → JudgesJournal registry.now.schema.now registry.now.world.now
+        (header_bytes registry.now.header.now) (string_bytes user.now.name) (profile_of user.now)
+        (bytes_on F.D.reads (F.disk shelf.old journal.now)) (F.disk_faults shelf.old journal.now)
+        (F.disk_faults shelf.new journal.now) result }
     ensures silent_fault { result ≡ AuditEnd.ShelfFault → sink.new ≡ sink.old }
     ensures silent_memory { result ≡ AuditEnd.Memory → sink.new ≡ sink.old }
     ensures disks { SameOthers journal.now (F.disk shelf.old) (F.disk shelf.new) }

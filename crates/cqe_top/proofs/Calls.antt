@@ -37,7 +37,7 @@ use Rattle.cqe_top.specs.Scene.{Scene, input_of, output_of, links_of}
 use Rattle.cqe_top.proofs.Lives.{calls_are_parts, IsLeftOpened, batch_left}
 
 -- a history that goes on from one that goes on
-goes_further : (first next last : History) → GoesOn first next → GoesOn next last → GoesOn first last
+pub goes_further : (first next last : History) → GoesOn first next → GoesOn next last → GoesOn first last
 goes_further first next last (more, one) (further, two) = (more ++ further, two ∙ ap (λ h. h ++ further) one ∙ append_assoc first more further)
 
 module _ (policy : PolicyValue) (world : FactSet) (header : List ℕ) (user : PolicyUser) where

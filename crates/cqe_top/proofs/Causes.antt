@@ -38,7 +38,7 @@ use Rattle.cqe_top.specs.declared.report.Report.{Report}
 use Rattle.cqe_top.specs.declared.report.Report.TheVariants as report
 use Rattle.cqe_top.specs.Copied.{counted_with}
 use Rattle.cqe_top.specs.Promise.{OfReading, Does, Always}
-use Rattle.cqe_top.specs.Reports.{report_of, answers_report, has_refusal, FaultsHaveCauses}
+use Rattle.cqe_top.specs.Reports.{report_of, answers_report, copies_report, has_refusal, FaultsHaveCauses}
 use Rattle.cqe_top.specs.Scene.{Scene, HasRisen}
 use Rattle.cqe_top.specs.Steps.{IsShelfFault}
 
@@ -101,6 +101,20 @@ module _ (s : Scene) where
   answers_cause users refusals false true is disk = subst (λ b. CauseOf (if b then report.Journals users refusals else report.DiskFault)) (sym is) (disk refl)
   answers_cause users refusals false false is disk = subst (λ b. CauseOf (if b then report.Journals users refusals else report.Done)) (sym is) tt
 
+  -- and frames that were answered to the end
+  copies_cause : (users : Vec User Global) (refusals : Vec (Option DeskError) Global) (is_refused is_broken is_wanting : Bool)
+      → has_refusal refusals.items ≡ is_refused → (is_broken ≡ true → SomeRose s.shelf.disk_faults s.shelf.disk_faults')
+      → CauseOf (copies_report users refusals is_broken is_wanting)
+  copies_cause users refusals true is_broken is_wanting is disk =
+      subst (λ b. CauseOf (if b then report.Journals users refusals else if is_broken then report.DiskFault
+      else if is_wanting then report.Memory else report.Done)) (sym is) tt
+  copies_cause users refusals false true is_wanting is disk =
+      subst (λ b. CauseOf (if b then report.Journals users refusals else report.DiskFault)) (sym is) (disk refl)
+  copies_cause users refusals false false true is disk =
+      subst (λ b. CauseOf (if b then report.Journals users refusals else report.Memory)) (sym is) tt
+  copies_cause users refusals false false false is disk =
+      subst (λ b. CauseOf (if b then report.Journals users refusals else report.Done)) (sym is) tt
+
   pub batch_cause : (users : Vec User Global) (end : BatchEnd) → (end ≡ batch_end.ReadFault → HasRisen s.input.faults)
       → (end ≡ batch_end.WriteFault → HasRisen s.output.faults)
       → (end ≡ batch_end.ShelfFault → HasRisen s.shelf.faults) → (batch.IsBroken end → SomeRose s.shelf.disk_faults s.shelf.disk_faults')
@@ -156,8 +170,8 @@ module _ (s : Scene) where
   pub standby_cause : (users : Vec User Global) (end : CopyEnd) → (end ≡ copy_end.LinksFault → HasRisen s.links.faults)
       → (end ≡ copy_end.ShelfFault → HasRisen s.shelf.faults)
       → (standing.IsBroken end → SomeRose s.shelf.disk_faults s.shelf.disk_faults') → FaultsHaveCauses s (ends.Standby users end)
-  standby_cause users (copy_end.Done refusals is_broken) links shelf disk =
-      has_cause _ (answers_cause users refusals (has_refusal refusals.items) is_broken refl disk)
+  standby_cause users (copy_end.Done refusals is_broken is_wanting) links shelf disk =
+      has_cause _ (copies_cause users refusals (has_refusal refusals.items) is_broken is_wanting refl disk)
   standby_cause users copy_end.LinksFault links shelf disk = has_cause _ (links refl)
   standby_cause users copy_end.ShelfFault links shelf disk = has_cause _ (shelf refl)
   standby_cause users copy_end.Memory links shelf disk = has_cause _ tt

@@ -45,6 +45,7 @@ use Rattle.cqe_top.specs.declared.end.CommandEnd.TheVariants as ends
 use Rattle.cqe_top.specs.declared.end.FileKind.TheVariants as file_kind
 use Rattle.cqe_top.specs.declared.end.FilesEnd.{FilesEnd}
 use Rattle.cqe_top.specs.declared.end.FilesEnd.TheVariants as files_end
+use Rattle.cqe_top.specs.declared.report.Report.{Report}
 use Rattle.cqe_top.specs.declared.report.Report.TheVariants as report
 use Rattle.cqe_top.specs.Audit.{NamesNobody, CanBeAudited, AuditsOverFiles, RunsAudit, FindsNobody, AuditSucceeds}
 use Rattle.cqe_top.specs.Batch.{AnswersOverFiles, RunsBatch, BatchSucceeds}
@@ -57,7 +58,7 @@ use Rattle.cqe_top.specs.Init.{Makes, RunsInit, InitSucceeds}
 use Rattle.cqe_top.specs.Migrate.{MovesJournals, RunsMigrate, MigrateSucceeds}
 use Rattle.cqe_top.specs.Promise.{OfReading}
 use Rattle.cqe_top.specs.Ready.{CanBeMade, CanBeMoved, CanBeOpened, CanBeCopied}
-use Rattle.cqe_top.specs.Reports.{answers_report, has_refusal, IsDoneUnlessMemory, FaultsHaveCauses}
+use Rattle.cqe_top.specs.Reports.{answers_report, copies_report, has_refusal, IsDoneUnlessMemory, FaultsHaveCauses}
 use Rattle.cqe_top.specs.Scene.{Scene, ShelfScene, IsUntouched, HasRisen, SameInput, SameOutput, SameLinks, CallsNobody, links_of}
 use Rattle.cqe_top.specs.Steps.{reading_over, reading_copied}
 use Rattle.cqe_top.specs.declared.copied.CopiedTask.{CopiedTask}
@@ -108,6 +109,23 @@ answers_done users refusals is_broken unrefused unbroken = by (has_refusal refus
     by true broken unrefused unbroken = absurd (unrefused refl)
     by false true unrefused unbroken = absurd (unbroken refl)
     by false false unrefused unbroken = refl
+
+-- so it is of a standby, or memory was wanting for a record
+pub copies_done : (users : Vec User Global) (refusals : Vec (Option DeskError) Global) (is_broken is_wanting : Bool)
+    → (has_refusal refusals.items ≡ true → ⊥) → (is_broken ≡ true → ⊥)
+    → (copies_report users refusals is_broken is_wanting ≡ report.Done) ⊎ (copies_report users refusals is_broken is_wanting ≡ report.Memory)
+copies_done users refusals is_broken is_wanting unrefused unbroken = by (has_refusal refusals.items) is_broken is_wanting unrefused unbroken
+  where
+    reported : Bool → Bool → Bool → Report
+    reported refused broken wanting =
+        if refused then report.Journals users refusals else if broken then report.DiskFault else if wanting then report.Memory else report.Done
+
+    by : (refused broken wanting : Bool) → (refused ≡ true → ⊥) → (broken ≡ true → ⊥)
+        → (reported refused broken wanting ≡ report.Done) ⊎ (reported refused broken wanting ≡ report.Memory)
+    by true broken wanting unrefused unbroken = absurd (unrefused refl)
+    by false true wanting unrefused unbroken = absurd (unbroken refl)
+    by false false true unrefused unbroken = inr refl
+    by false false false unrefused unbroken = inl refl
 
 -- ---- a case and a run
 
@@ -288,7 +306,7 @@ module _ (s : Scene) (files : FileNames) (to : Text) where
 
 -- ---- an audit
 
-same_one : {one other : PolicyUser} → Some one ≡ Some other → one ≡ other
+pub same_one : {one other : PolicyUser} → Some one ≡ Some other → one ≡ other
 same_one both_are = cc
 
 neither : {P Q R : Type 0} → P ⊎ (Q × R) → (P → ⊥) → (Q → ⊥) → ⊥
@@ -299,26 +317,26 @@ module _ (s : Scene) (files : FileNames) (user : Text) (json : Bool) where
   pub audit_succeeds : (name : Bor (List ℕ)) (end : AuditEnd) → RunsAudit s.shelf s.output files user json name.now end
       → FaultsHaveCauses s (ends.Audit name end)
       → AuditSucceeds s.shelf s.output files user json (ends.Audit name end)
-  audit_succeeds name audit_end.Done ran cause told out_told says shelf write = inl refl
-  audit_succeeds name (audit_end.Refused why) ran cause told out_told says shelf write =
+  audit_succeeds name audit_end.Done ran cause told says shelf write = inl refl
+  audit_succeeds name (audit_end.Refused why) ran cause told says shelf write =
       by (agree (AuditsOverFiles s.shelf s.output files user json (audit_end.Refused why)) (CanBeAudited (journals_of s.shelf files) user)
       s.shelf files (ran.over_files told) says)
     where
       by : SayOn s.shelf files (λ policy world header. AuditsOverFiles s.shelf s.output files user json (audit_end.Refused why) policy world header
           × CanBeAudited (journals_of s.shelf files) user policy world header) → IsDoneUnlessMemory (ends.Audit name (audit_end.Refused why))
-      by (policy, world, header, said, ((one, found, ended), (other, found', ready))) =
+      by (policy, world, header, said, ((one, found, judged, ended), (other, found', ready))) =
           let journals = journals_of s.shelf files in
           let same : other ≡ one = same_one (sym found' ∙ found) in
-          absurd (neither (ended out_told).1.opening_is
-          (λ opens. subst (λ (u : PolicyUser). Rose (journals.before u.name) (journals.now u.name) → ⊥) same ready.1 ((ended out_told).1.standing_is.1 opens))
+          absurd (neither judged.opening_is
+          (λ opens. subst (λ (u : PolicyUser). Rose (journals.before u.name) (journals.now u.name) → ⊥) same ready.1 (judged.standing_is.1 opens))
           (λ none. none ready.0.0 (subst (λ (u : PolicyUser). Opens policy.schema world u.profile header ready.0.0 (journals.bytes u.name)) same ready.0.1)))
-  audit_succeeds name audit_end.WriteFault ran cause told out_told says shelf write = absurd (write (cause.write refl))
-  audit_succeeds name audit_end.ShelfFault ran cause told out_told says shelf write = absurd (shelf (cause.shelf refl))
-  audit_succeeds name audit_end.Memory ran cause told out_told says shelf write = inr refl
+  audit_succeeds name audit_end.WriteFault ran cause told says shelf write = absurd (write (cause.write refl))
+  audit_succeeds name audit_end.ShelfFault ran cause told says shelf write = absurd (shelf (cause.shelf refl))
+  audit_succeeds name audit_end.Memory ran cause told says shelf write = inr refl
 
   -- nor is anybody audited who isn't there
   pub nobody_succeeds : FindsNobody s.shelf s.output files user → AuditSucceeds s.shelf s.output files user json ends.Nobody
-  nobody_succeeds ran told out_told says shelf write =
+  nobody_succeeds ran told says shelf write =
       by (agree (NamesNobody user) (CanBeAudited (journals_of s.shelf files) user) s.shelf files (ran.over_files told) says)
     where
       by : SayOn s.shelf files (λ policy world header. NamesNobody user policy world header × CanBeAudited (journals_of s.shelf files) user policy world header)
@@ -331,25 +349,25 @@ module _ (s : Scene) (files : FileNames) (user : Text) where
   pub dossier_succeeds : (name : Bor (List ℕ)) (end : DossierEnd) → RunsDossier s.shelf s.output files user name.now end
       → FaultsHaveCauses s (ends.Dossier name end)
       → DossierSucceeds s.shelf s.output files user (ends.Dossier name end)
-  dossier_succeeds name dossier_end.Done ran cause told out_told says shelf write = inl refl
-  dossier_succeeds name (dossier_end.Refused why) ran cause told out_told says shelf write =
+  dossier_succeeds name dossier_end.Done ran cause told says shelf write = inl refl
+  dossier_succeeds name (dossier_end.Refused why) ran cause told says shelf write =
       by (agree (ShowsOverFiles s.shelf s.output files user (dossier_end.Refused why)) (CanBeAudited (journals_of s.shelf files) user)
       s.shelf files (ran.over_files told) says)
     where
       by : SayOn s.shelf files (λ policy world header. ShowsOverFiles s.shelf s.output files user (dossier_end.Refused why) policy world header
           × CanBeAudited (journals_of s.shelf files) user policy world header) → IsDoneUnlessMemory (ends.Dossier name (dossier_end.Refused why))
-      by (policy, world, header, said, ((one, found, ended, accepted), (other, found', ready))) =
+      by (policy, world, header, said, ((one, found, judged, ended, accepted), (other, found', ready))) =
           let journals = journals_of s.shelf files in
           let same : other ≡ one = same_one (sym found' ∙ found) in
-          absurd (neither (ended out_told).1.opening_is
-          (λ opens. subst (λ (u : PolicyUser). Rose (journals.before u.name) (journals.now u.name) → ⊥) same ready.1 ((ended out_told).1.standing_is.1 opens))
+          absurd (neither judged.opening_is
+          (λ opens. subst (λ (u : PolicyUser). Rose (journals.before u.name) (journals.now u.name) → ⊥) same ready.1 (judged.standing_is.1 opens))
           (λ none. none ready.0.0 (subst (λ (u : PolicyUser). Opens policy.schema world u.profile header ready.0.0 (journals.bytes u.name)) same ready.0.1)))
-  dossier_succeeds name dossier_end.WriteFault ran cause told out_told says shelf write = absurd (write (cause.write refl))
-  dossier_succeeds name dossier_end.ShelfFault ran cause told out_told says shelf write = absurd (shelf (cause.shelf refl))
-  dossier_succeeds name dossier_end.Memory ran cause told out_told says shelf write = inr refl
+  dossier_succeeds name dossier_end.WriteFault ran cause told says shelf write = absurd (write (cause.write refl))
+  dossier_succeeds name dossier_end.ShelfFault ran cause told says shelf write = absurd (shelf (cause.shelf refl))
+  dossier_succeeds name dossier_end.Memory ran cause told says shelf write = inr refl
 
   pub no_dossier : FindsNobody s.shelf s.output files user → DossierSucceeds s.shelf s.output files user ends.Nobody
-  no_dossier ran told out_told says shelf write =
+  no_dossier ran told says shelf write =
       by (agree (NamesNobody user) (CanBeAudited (journals_of s.shelf files) user) s.shelf files (ran.over_files told) says)
     where
       by : SayOn s.shelf files (λ policy world header. NamesNobody user policy world header × CanBeAudited (journals_of s.shelf files) user policy world header)
@@ -360,24 +378,24 @@ module _ (s : Scene) (files : FileNames) (user : Text) where
 
   pub check_succeeds : (end : CheckEnd) → RunsCheck s.shelf s.input s.output files user end → FaultsHaveCauses s (ends.Check end)
       → CheckSucceeds s.shelf s.input s.output files user (ends.Check end)
-  check_succeeds check_end.Done ran cause told in_told out_told says shelf read write = inl refl
-  check_succeeds (check_end.Refused why) ran cause told in_told out_told says shelf read write =
+  check_succeeds check_end.Done ran cause told in_told says shelf read write = inl refl
+  check_succeeds (check_end.Refused why) ran cause told in_told says shelf read write =
       by (agree (ChecksOverFiles s.shelf s.input s.output files user (check_end.Refused why)) (CanBeChecked s.input.left user)
       s.shelf files (ran.over_files told) says)
     where
       by : SayOn s.shelf files (λ policy world header. ChecksOverFiles s.shelf s.input s.output files user (check_end.Refused why) policy world header
           × CanBeChecked s.input.left user policy world header) → IsDoneUnlessMemory (ends.Check (check_end.Refused why))
-      by (policy, world, header, said, ((one, found, ended), (other, found', ready))) =
+      by (policy, world, header, said, ((one, found, judged, ended), (other, found', ready))) =
           let same : other ≡ one = same_one (sym found' ∙ found) in
           let good = subst (λ (u : PolicyUser). IsOk (checked_bytes policy.schema world u.name u.profile s.input.left)) same ready in
-          let clash : false ≡ true = subst IsOk (ended in_told out_told).0 good in
+          let clash : false ≡ true = subst IsOk (judged in_told).0 good in
           absurd cc
-  check_succeeds check_end.ReadFault ran cause told in_told out_told says shelf read write = absurd (read (cause.read refl))
-  check_succeeds check_end.WriteFault ran cause told in_told out_told says shelf read write = absurd (write (cause.write refl))
-  check_succeeds check_end.Memory ran cause told in_told out_told says shelf read write = inr refl
+  check_succeeds check_end.ReadFault ran cause told in_told says shelf read write = absurd (read (cause.read refl))
+  check_succeeds check_end.WriteFault ran cause told in_told says shelf read write = absurd (write (cause.write refl))
+  check_succeeds check_end.Memory ran cause told in_told says shelf read write = inr refl
 
   pub no_check : FindsNobody s.shelf s.output files user → CheckSucceeds s.shelf s.input s.output files user ends.Nobody
-  no_check ran told in_told out_told says shelf read write =
+  no_check ran told in_told says shelf read write =
       by (agree (NamesNobody user) (CanBeChecked s.input.left user) s.shelf files (ran.over_files told) says)
     where
       by : SayOn s.shelf files (λ policy world header. NamesNobody user policy world header × CanBeChecked s.input.left user policy world header)
@@ -437,13 +455,13 @@ unread s files (task.Batch workers) end is cause input output links nobody = rec
 }
 unread s files (task.OfUser name (user_task.Audit json)) end is cause input output links nobody = record {
   ends = (is, output);
-  succeeds = λ told out_told says shelf write. read_succeeds s files (CanBeAudited (journals_of s.shelf files) name.now) end (is.refused told) cause says shelf;
+  succeeds = λ told says shelf write. read_succeeds s files (CanBeAudited (journals_of s.shelf files) name.now) end (is.refused told) cause says shelf;
   reads_nothing = input;
   listens_nowhere = links;
 }
 unread s files (task.OfUser name user_task.Dossier) end is cause input output links nobody = record {
   ends = (is, output);
-  succeeds = λ told out_told says shelf write. read_succeeds s files (CanBeAudited (journals_of s.shelf files) name.now) end (is.refused told) cause says shelf;
+  succeeds = λ told says shelf write. read_succeeds s files (CanBeAudited (journals_of s.shelf files) name.now) end (is.refused told) cause says shelf;
   reads_nothing = input;
   listens_nowhere = links;
 }
@@ -452,7 +470,7 @@ unread s files (task.OfUser name user_task.Check) end is cause input output link
     let unread_two = unread_of s files end is in
     record {
       ends = (unread_two, input, output);
-      succeeds = λ told in_told out_told says shelf read write.
+      succeeds = λ told in_told says shelf read write.
           read_succeeds s two (CanBeChecked s.input.left name.now) end (unread_two.refused told) cause says shelf;
       listens_nowhere = links;
     }
@@ -529,14 +547,14 @@ nothing_begun s same nobody (Some (runs_batch files workers)) = record {
   listens_nowhere = same.links;
 }
 nothing_begun s same nobody (Some (runs_audit files user json)) =
-    record { ends = (same.shelf, same.output); succeeds = λ told out_told says shelf write. inr refl; reads_nothing = same.input; listens_nowhere = same.links }
+    record { ends = (same.shelf, same.output); succeeds = λ told says shelf write. inr refl; reads_nothing = same.input; listens_nowhere = same.links }
 nothing_begun s same nobody (Some (runs_dossier files user)) =
-    record { ends = (same.shelf, same.output); succeeds = λ told out_told says shelf write. inr refl; reads_nothing = same.input; listens_nowhere = same.links }
+    record { ends = (same.shelf, same.output); succeeds = λ told says shelf write. inr refl; reads_nothing = same.input; listens_nowhere = same.links }
 nothing_begun s same nobody (Some (runs_check policy facts user)) =
     record {
       ends =
           (same.shelf, same.input, same.output);
-      succeeds = λ told in_told out_told says shelf read write. inr refl;
+      succeeds = λ told in_told says shelf read write. inr refl;
       listens_nowhere = same.links;
     }
 nothing_begun s same nobody (Some (runs_selfrun seed users asks)) = record { ends = same; succeeds = λ write. inr refl }

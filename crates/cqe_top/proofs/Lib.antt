@@ -12,3 +12,5 @@ mod Copying
 mod Dialling
 mod Lives
 mod Calls
+mod Dossiers
+mod Takeovers

@@ -47,7 +47,7 @@ use Rattle.cqe_top.specs.Scene.{Scene, ShelfScene, Input, Output, LinksScene, sh
 use Rattle.cqe_top.specs.Serve.{ServeEnds, OfServe, ServesOverFiles}
 
 -- what files say, they say once
-said_once : (P : PolicyValue → FactSet → List ℕ → Type 0) (policy policy' : PolicyValue) (world world' : FactSet) (header header' : List ℕ)
+pub said_once : (P : PolicyValue → FactSet → List ℕ → Type 0) (policy policy' : PolicyValue) (world world' : FactSet) (header header' : List ℕ)
     → both policy' world' header' ≡ both policy world header → P policy' world' header' → P policy world header
 said_once P policy policy' world world' header header' same is =
     let p : policy' ≡ policy = cc in
@@ -344,8 +344,8 @@ module _ {F D : Type 0} (Shelf : ShelfGhosts F D) (Disk : DiskGhosts D) (old new
 
     of_copied_serve : (marks : Text → ℕ) (address : Text) (workers limit : ℕ) (e : CommandEnd)
         → CopiedServeEnds (with_told (with_failed (scene_of shelf input output links) (failed_exchanges links)) marks) files address workers limit e → Parts
-    of_copied_serve marks address workers limit (end.Serve users engine_end) runs = of_serve with_exchanges marks address workers limit
-    (end.Serve users engine_end) runs
+    of_copied_serve marks address workers limit (end.Serve users engine_end) runs =
+        of_serve with_exchanges marks address workers limit (end.Serve users engine_end) runs
     of_copied_serve marks address workers limit (end.Files why) runs = inl (kept_disks runs.0.disks.0)
     of_copied_serve marks address workers limit end.Memory runs = inl (kept_disks (same_disks runs.0))
     of_copied_serve marks address workers limit end.Usage runs = absurd runs

@@ -24,7 +24,7 @@ use Rattle.cqe_top.specs.Ready.{CanBeCopied}
 use Rattle.cqe_top.specs.Reports.{has_refusal, FaultsHaveCauses, IsDoneUnlessMemory}
 use Rattle.cqe_top.specs.Scene.{Scene}
 use Rattle.cqe_top.specs.Standby.{CopiesOverFiles, RunsStandby, StandbySucceeds}
-use Rattle.cqe_top.proofs.Good.{agree, answers_done}
+use Rattle.cqe_top.proofs.Good.{agree, copies_done}
 
 -- a disk that shows no reason to be refused isn't refused without a rise of its count
 not_refused_at : (header bytes : List ℕ) (count count' : ℕ) (why : OpenError) → ((why : OpenError) → Refuses header bytes why → ⊥)
@@ -69,17 +69,17 @@ module _ (s : Scene) (files : FileNames) (address : List ℕ) (limit : ℕ) wher
   pub standby_succeeds : (users : Vec User Global) (end : CopyEnd) → RunsStandby s.shelf s.links files address limit users end
       → FaultsHaveCauses s (ends.Standby users end)
       → StandbySucceeds s.shelf s.links files address limit (ends.Standby users end)
-  standby_succeeds users (copy_end.Done refusals is_broken) ran cause told links_told says shelf links =
-      by (agree (CopiesOverFiles s.shelf s.links files address limit users (copy_end.Done refusals is_broken))
+  standby_succeeds users (copy_end.Done refusals is_broken is_wanting) ran cause told links_told says shelf links =
+      by (agree (CopiesOverFiles s.shelf s.links files address limit users (copy_end.Done refusals is_broken is_wanting))
       (CanBeCopied (journals_of s.shelf files)) s.shelf files (ran.over_files told) says)
     where
       by : SayOn s.shelf files (λ policy world header.
-          CopiesOverFiles s.shelf s.links files address limit users (copy_end.Done refusals is_broken) policy world header
-          × CanBeCopied (journals_of s.shelf files) policy world header) → IsDoneUnlessMemory (ends.Standby users (copy_end.Done refusals is_broken))
+          CopiesOverFiles s.shelf s.links files address limit users (copy_end.Done refusals is_broken is_wanting) policy world header
+          × CanBeCopied (journals_of s.shelf files) policy world header) → IsDoneUnlessMemory (ends.Standby users (copy_end.Done refusals is_broken is_wanting))
       by (policy, world, header, say, (over, can)) =
-          inl (answers_done users refusals is_broken
+          copies_done users refusals is_broken is_wanting
           (none_refused header (journals_of s.shelf files) users.items refusals.items over.journals.0 ready)
-          (λ broken. none_failed header (journals_of s.shelf files) users.items ready (over.journals.1 broken)))
+          (λ broken. none_failed header (journals_of s.shelf files) users.items ready (over.journals.1 broken))
         where
           ready : AllByRecursion (CanCopy header (journals_of s.shelf files)) (map policy_user_of users.items)
           ready = subst (AllByRecursion (CanCopy header (journals_of s.shelf files))) (sym over.of_policy) can

@@ -4,7 +4,7 @@ use Rattle.std.specs.Prelude.{◌≡◌, ℕ, Bool, List, find, bytes_eq, Option
 use Rattle.outside.specs.Disk.{Only}
 use Rattle.outside.specs.Shelf.{SameOthers, SameBytes, NoNewImages, NoNewMoments}
 use Rattle.outside.specs.Shelf.{bytes_on, image_on}
-use Rattle.audit_engine.specs.Ends.{EndsAudit, IsSilent}
+use Rattle.audit_engine.specs.Ends.{EndsAudit, JudgesJournal, IsSilent}
 use Rattle.audit_engine.specs.declared.end.AuditEnd.{AuditEnd}
 use Rattle.audit_engine.specs.declared.end.AuditEnd.TheVariants as audit_end
 use Rattle.cqe_base.specs.Facts.{FactSet}
@@ -46,12 +46,16 @@ module _ (shelf : ShelfScene) (output : Output) (files : FileNames) (user : Text
 
 module _ (shelf : ShelfScene) (output : Output) (files : FileNames) (user : Text) (json : Bool)
   where
-    -- the policy has a user of the name, and his audit ended so
+    -- The policy has a user of the name, and his audit ended so. What it says of his journal it
+    -- says whatever the output tells.
     abbrev pub AuditsOverFiles : AuditEnd → PolicyValue → FactSet → List ℕ → Type 0
     AuditsOverFiles end policy world header =
+        let journals = journals_of shelf files in
         (one : PolicyUser) × (user_named user policy.users ≡ Some one)
-        × (output.tells → let journals = journals_of shelf files in
-        EndsAudit policy.schema world header one.name one.profile (journals.bytes one.name)
+        × JudgesJournal policy.schema world header one.name one.profile (journals.bytes one.name)
+        (journals.before one.name) (journals.now one.name) end
+        × (output.tells
+        → EndsAudit policy.schema world header one.name one.profile (journals.bytes one.name)
         (journals.before one.name) (journals.now one.name) json end output.written output.written')
 
     -- It ran over files that were read. It looks at his journal alone: the other disks are
@@ -89,7 +93,7 @@ module _ (shelf : ShelfScene) (output : Output) (files : FileNames) (user : Text
     -- opened is audited unless memory is wanting
     abbrev pub AuditSucceeds : CommandEnd → Type 0
     AuditSucceeds end =
-        shelf.tells → output.tells → SayOn shelf files (CanBeAudited (journals_of shelf files) user)
+        shelf.tells → SayOn shelf files (CanBeAudited (journals_of shelf files) user)
         → (HasRisen shelf.faults → ⊥) → (HasRisen output.faults → ⊥) → IsDoneUnlessMemory end
 
 -- `audit` of the user of this name, over the files of these names; it has no input

@@ -5,7 +5,7 @@ use Rattle.std.specs.Prelude.{◌≡◌, ℕ, List, [], Some, IsOk}
 use Rattle.cqe_base.specs.Facts.{FactSet}
 use Rattle.cqe_base.specs.Schema.{Text}
 use Rattle.command_words.specs.Readings.{FileNames}
-use Rattle.dossier_engine.specs.Checks.{EndsCheck, IsSilentCheck, checked_bytes}
+use Rattle.dossier_engine.specs.Checks.{EndsCheck, JudgesInput, IsSilentCheck, checked_bytes}
 use Rattle.dossier_engine.specs.declared.end.CheckEnd.{CheckEnd}
 use Rattle.policy_files.specs.Policies.{PolicyUser, PolicyValue}
 use Rattle.cqe_top.specs.declared.end.CommandEnd.{CommandEnd}
@@ -29,10 +29,13 @@ CanBeChecked bytes name policy world header =
 module _ (shelf : ShelfScene) (input : Input) (output : Output) (files : FileNames) (user : Text)
   where
     -- The policy has a user of the name, and the check of his dossier ended so. With `Done` he is
-    -- admissible, and the history that the input shows is sound and hides soundly.
+    -- admissible, and the history that the input shows is sound and hides soundly. What it says of
+    -- the input it says whatever the output tells.
     abbrev pub ChecksOverFiles : CheckEnd → PolicyValue → FactSet → List ℕ → Type 0
     ChecksOverFiles end policy world header =
         (one : PolicyUser) × (user_named user policy.users ≡ Some one)
+        × (input.tells
+        → JudgesInput policy.schema world one.name one.profile end input.left input.left')
         × (input.tells → output.tells
         → EndsCheck policy.schema world one.name one.profile end input.left input.left'
         output.written output.written')
@@ -57,7 +60,7 @@ module _ (shelf : ShelfScene) (input : Input) (output : Output) (files : FileNam
     -- where no fault comes, a dossier that isn't refused is accepted unless memory is wanting
     abbrev pub CheckSucceeds : CommandEnd → Type 0
     CheckSucceeds end =
-        shelf.tells → input.tells → output.tells
+        shelf.tells → input.tells
         → SayOn shelf files (CanBeChecked input.left user)
         → (HasRisen shelf.faults → ⊥) → (HasRisen input.faults → ⊥)
         → (HasRisen output.faults → ⊥) → IsDoneUnlessMemory end

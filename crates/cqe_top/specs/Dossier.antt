@@ -8,7 +8,7 @@ use Rattle.cqe_base.specs.Facts.{FactSet}
 use Rattle.cqe_base.specs.Schema.{Text}
 use Rattle.command_words.specs.Readings.{FileNames}
 use Rattle.dossier_engine.specs.Checks.{checked_bytes}
-use Rattle.dossier_engine.specs.Ends.{EndsDossier, IsDossierOf, IsSilent}
+use Rattle.dossier_engine.specs.Ends.{EndsDossier, JudgesDossier, IsDossierOf, IsSilent}
 use Rattle.dossier_engine.specs.declared.end.DossierEnd.{DossierEnd}
 use Rattle.dossier_engine.specs.declared.end.DossierEnd.TheVariants as dossier_end
 use Rattle.log_journal.specs.Names.{journal_name}
@@ -35,13 +35,17 @@ module _ (shelf : ShelfScene) (files : FileNames) where
       → checked_bytes policy.schema world one.name one.profile text ≡ Ok is.entries
 
 module _ (shelf : ShelfScene) (output : Output) (files : FileNames) (user : Text) where
-  -- The policy has a user of the name, and the writing of his dossier ended so. Each text that is
-  -- his dossier as one who is served is accepted, where it isn't too long.
+  -- The policy has a user of the name, and the writing of his dossier ended so. What it says of his
+  -- journal it says whatever the output tells. Each text that is his dossier as one who is served
+  -- is accepted, where it isn't too long.
   abbrev pub ShowsOverFiles : DossierEnd → PolicyValue → FactSet → List ℕ → Type 0
   ShowsOverFiles end policy world header =
+      let journals = journals_of shelf files in
       (one : PolicyUser) × (user_named user policy.users ≡ Some one)
-      × (output.tells → let journals = journals_of shelf files in
-      EndsDossier policy.schema world header one.name one.profile (journals.bytes one.name)
+      × JudgesDossier policy.schema world header one.name one.profile (journals.bytes one.name)
+      (journals.before one.name) (journals.now one.name) end
+      × (output.tells
+      → EndsDossier policy.schema world header one.name one.profile (journals.bytes one.name)
       (journals.before one.name) (journals.now one.name) end output.written output.written')
       × ServedIsAccepted shelf files policy world header one
 
@@ -80,7 +84,7 @@ module _ (shelf : ShelfScene) (output : Output) (files : FileNames) (user : Text
   -- journal can be opened is written unless memory is wanting
   abbrev pub DossierSucceeds : CommandEnd → Type 0
   DossierSucceeds end =
-      shelf.tells → output.tells → SayOn shelf files (CanBeAudited (journals_of shelf files) user)
+      shelf.tells → SayOn shelf files (CanBeAudited (journals_of shelf files) user)
       → (HasRisen shelf.faults → ⊥) → (HasRisen output.faults → ⊥) → IsDoneUnlessMemory end
 
 -- `dossier` of the user of this name, over the files of these names; it has no input

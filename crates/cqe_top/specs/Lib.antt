@@ -17,4 +17,8 @@ pub mod Standby
 pub mod Promise
 pub mod Lives
 pub mod Calls
+pub mod Around
+pub mod Dossiers
+pub mod Takeovers
+pub mod Laws
 pub mod Steps

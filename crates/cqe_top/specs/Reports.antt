@@ -61,6 +61,16 @@ answers_report users refusals is_broken =
     else if is_broken then DiskFault
     else Done
 
+-- the report of a standby that came to its end: so it is, and behind both comes want of memory for
+-- a record
+abbrev pub copies_report : Vec User Global → Vec (Option DeskError) Global → Bool → Bool
+    → Report
+copies_report users refusals is_broken is_wanting =
+    if has_refusal refusals.items then Journals users refusals
+    else if is_broken then DiskFault
+    else if is_wanting then Memory
+    else Done
+
 -- the report of an end
 abbrev pub report_of : CommandEnd → Report
 report_of command_end.Usage = Usage
@@ -101,8 +111,8 @@ report_of (command_end.Serve users (serve_end.Done refusals broken)) =
 report_of (command_end.Serve users serve_end.LinksFault) = LinksFault
 report_of (command_end.Serve users serve_end.ShelfFault) = ShelfFault
 report_of (command_end.Serve users serve_end.Memory) = Memory
-report_of (command_end.Standby users (copy_end.Done refusals broken)) =
-    answers_report users refusals broken
+report_of (command_end.Standby users (copy_end.Done refusals broken wanting)) =
+    copies_report users refusals broken wanting
 report_of (command_end.Standby users copy_end.LinksFault) = LinksFault
 report_of (command_end.Standby users copy_end.ShelfFault) = ShelfFault
 report_of (command_end.Standby users copy_end.Memory) = Memory

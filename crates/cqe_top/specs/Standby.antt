@@ -51,6 +51,7 @@ module _ (shelf : ShelfScene) (links : LinksScene) (files : FileNames) (address 
     pub left : links.tells → links.left ≡ links.at_hand → links.left' ≡ links.at_hand'
     pub left_all : links.tells → links.left ≡ links.at_hand
         → links.given' + links.left' ≡ links.given + links.left
+    pub few_ended : links.ended' ≤ links.ended + 1
     pub limited : links.tells → links.given' ≤ links.given + limit
 
   -- the ends that it may have

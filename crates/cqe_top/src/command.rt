@@ -3,12 +3,17 @@
 ghost use Rattle.std.specs.Prelude.{◌≡◌, Option, map, string_bytes};
 ghost use Rattle.command_words.specs.Readings.{Reading, reading_of};
 ghost use Rattle.outside.specs.Shelf.{NoneOut};
+ghost use Rattle.cqe_top.specs.Laws.{CallsHold};
 ghost use Rattle.cqe_top.specs.Promise.{Promise, Does};
 ghost use Rattle.cqe_top.specs.Scene.{scene_of, shelf_of, input_of, output_of, links_of};
 
 use crate::complaint::complain;
 use crate::copied::run_copied;
 use crate::end::CommandEnd;
+use crate::laws::{
+    law_any_batches_join, law_any_calls_join, law_calls_are_parts, law_calls_join,
+    law_dossiers_are_found_sound, law_standbys_keep, law_takeovers_join,
+};
 use crate::over_files::run_over_files;
 use crate::part::{Part, part_of};
 use crate::report::{report_of, status_of};
@@ -75,7 +80,17 @@ where
         (input_of S.Source source.old source.new) (output_of K.Sink sink.old sink.new)
         (links_of L.Links links.old links.new))
         (output_of E.Sink complaints.old complaints.new) result }
+
+    // What holds of several calls, by what this one and each other promises.
+    ensures laws { CallsHold F.Shelf F.D.Disk S.Source K.Sink E.Sink L.Links }
 {
+    law_calls_join::<F, S, K, E, L>();
+    law_calls_are_parts::<F, S, K, E, L>();
+    law_any_calls_join::<F, S, K, E, L>();
+    law_any_batches_join::<F>();
+    law_standbys_keep::<F, S, K, E, L>();
+    law_takeovers_join::<F, S, K, E, L>();
+    law_dossiers_are_found_sound::<F, S, K, E, L>();
     let end = run(rt, alloc, words, shelf, source, sink, links, gate);
     let report = report_of(end);
     complain(complaints, &report);

@@ -3,7 +3,8 @@
 //! `top` reads the words, runs their command over a shelf, a source, a sink and links, writes what
 //! went wrong to the complaints, and answers the status. Its contract is one record, `Promise`:
 //! what the end of each command means of the bytes that were read and written, where a fault may be
-//! told, that all that is right is done, and what the complaints are.
+//! told, that all that is right is done, and what the complaints are. A second one, `CallsHold`,
+//! says what follows of several calls (`specs/Laws.antt`).
 //!
 //! Read `specs/Scene.antt` and `specs/Promise.antt`, and then the file of a command, as
 //! `specs/Batch.antt`;

@@ -1,6 +1,7 @@
 //! What is told of an end.
 ghost use Rattle.std.specs.Prelude.{◌≡◌};
-ghost use Rattle.cqe_top.specs.Reports.{status_of, report_of, answers_report, has_refusal};
+ghost use Rattle.cqe_top.specs.Reports.{status_of, report_of, answers_report, copies_report};
+ghost use Rattle.cqe_top.specs.Reports.{has_refusal};
 ghost use Rattle.cqe_top.specs.declared.end.CommandEnd.TheVariants as ends;
 
 use crate::end::{CommandEnd, FilesEnd};
@@ -202,14 +203,16 @@ fn of_standby<'w>(users: Vec<User>, end: CopyEnd) -> Report<'w>
     ensures { result ≡ report_of (ends.Standby users end) }
 {
     match end {
-        CopyEnd::Done(refusals, is_broken) => of_answers(users, refusals, is_broken),
+        CopyEnd::Done(refusals, is_broken, is_wanting) => {
+            of_copies(users, refusals, is_broken, is_wanting)
+        }
         CopyEnd::LinksFault => Report::LinksFault,
         CopyEnd::ShelfFault => Report::ShelfFault,
         CopyEnd::Memory => Report::Memory,
     }
 }
 
-/// What is told of a batch, a serving or a standby that came to its end.
+/// What is told of a batch or a serving that came to its end.
 fn of_answers<'w>(users: Vec<User>, refusals: Vec<Option<DeskError>>, is_broken: bool) -> Report<'w>
     ensures { result ≡ answers_report users refusals is_broken }
 {
@@ -217,6 +220,26 @@ fn of_answers<'w>(users: Vec<User>, refusals: Vec<Option<DeskError>>, is_broken:
         Report::Journals(users, refusals)
     } else if is_broken {
         Report::DiskFault
+    } else {
+        Report::Done
+    }
+}
+
+/// What is told of a standby that came to its end.
+fn of_copies<'w>(
+    users: Vec<User>,
+    refusals: Vec<Option<DeskError>>,
+    is_broken: bool,
+    is_wanting: bool,
+) -> Report<'w>
+    ensures { result ≡ copies_report users refusals is_broken is_wanting }
+{
+    if has_refusal(refusals.as_slice()) {
+        Report::Journals(users, refusals)
+    } else if is_broken {
+        Report::DiskFault
+    } else if is_wanting {
+        Report::Memory
     } else {
         Report::Done
     }

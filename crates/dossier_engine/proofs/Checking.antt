@@ -11,8 +11,8 @@ use Rattle.dossier.specs.Checked.{checked}
 use Rattle.dossier.specs.Promised.{counted, IsCheckOf, IsAccepted}
 use Rattle.dossier.specs.declared.error.DossierError.{DossierError}
 use Rattle.dossier.specs.declared.error.DossierError.TheVariants as errors
-use Rattle.dossier_engine.specs.Checks.{refused_end, by_line, checked_bytes, AcceptsBytes, EndsCheck}
-use Rattle.dossier_engine.specs.Said.{EndsText, IsSaid}
+use Rattle.dossier_engine.specs.Checks.{refused_end, by_line, checked_bytes, AcceptsBytes, EndsCheck, IsSilentCheck, JudgesInput}
+use Rattle.dossier_engine.specs.Said.{EndsText, IsSaid, JudgesText}
 use Rattle.dossier_engine.specs.Input.{IsRead}
 use Rattle.dossier_engine.specs.declared.end.CheckEnd.{CheckEnd}
 use Rattle.dossier_engine.specs.declared.end.CheckEnd.TheVariants as ends
@@ -56,7 +56,38 @@ module _ (schema : DatabaseSchema) (world : FactSet) (name : Text) (user : UserP
   ends_bytes left left' few is read ends.WriteFault old new (count, accepted, part) = (count, accepts left count few is accepted, read, part)
   ends_bytes left left' few is read ends.Memory old new ended = ended
 
+  -- and it judges these
+  pub judges_bytes : (left left' : List ℕ) → length left ≤ 67108864 → IsUtf8 left → IsRead left left' → (end : CheckEnd)
+      → JudgesText schema world name user left end → JudgesInput schema world name user end left left'
+  judges_bytes left left' few is read ends.Done (count, accepted) = (count, accepts left count few is accepted, read)
+  judges_bytes left left' few is read (ends.Refused (Line why)) refused = (as_text left few is ∙ ap by_line refused, read)
+  judges_bytes left left' few is read (ends.Refused TooLong) judged = absurd judged
+  judges_bytes left left' few is read (ends.Refused NotUtf8) judged = absurd judged
+  judges_bytes left left' few is read ends.ReadFault judged = tt
+  judges_bytes left left' few is read ends.WriteFault (count, accepted) = (count, accepts left count few is accepted, read)
+  judges_bytes left left' few is read ends.Memory judged = tt
+
   -- ---- a text
+
+  -- that was accepted, and of which that was said or not
+  pub accepted_so : (text : Text) (count : ℕ) → IsAccepted schema world name user text count → (end : CheckEnd) → (IsSilentCheck end → ⊥)
+      → JudgesText schema world name user text end
+  accepted_so text count accepted ends.Done said = (count, accepted)
+  accepted_so text count accepted (ends.Refused why) said = absurd (said tt)
+  accepted_so text count accepted ends.ReadFault said = tt
+  accepted_so text count accepted ends.WriteFault said = (count, accepted)
+  accepted_so text count accepted ends.Memory said = tt
+
+  -- that was refused, or for which memory was wanting, whatever the output tells
+  pub judged_so : (text : Text) (why : DossierError) → IsCheckOf schema world name user text (Err why)
+      → JudgesText schema world name user text (refused_end why)
+  judged_so text (errors.Form line) is = counted_refusal (checked schema world name user text) (errors.Form line) (is (λ e. cc))
+  judged_so text (errors.Text line) is = counted_refusal (checked schema world name user text) (errors.Text line) (is (λ e. cc))
+  judged_so text (errors.Verdict line) is = counted_refusal (checked schema world name user text) (errors.Verdict line) (is (λ e. cc))
+  judged_so text (errors.Mark line) is = counted_refusal (checked schema world name user text) (errors.Mark line) (is (λ e. cc))
+  judged_so text (errors.Admission line) is = counted_refusal (checked schema world name user text) (errors.Admission line) (is (λ e. cc))
+  judged_so text (errors.Unsafe line) is = counted_refusal (checked schema world name user text) (errors.Unsafe line) (is (λ e. cc))
+  judged_so text errors.Memory is = tt
 
   -- that was accepted
   pub said_so : (text : Text) (count : ℕ) → IsAccepted schema world name user text count → (end : CheckEnd) (old new : List ℕ) → IsSaid count end old new

@@ -18,7 +18,7 @@ use Rattle.user_desk.specs.declared.standing.Standing.TheVariants.{Open, Closed,
 use Rattle.audit_print.specs.declared.printing.AuditError.{AuditError}
 use Rattle.audit_print.specs.declared.printing.AuditError.TheVariants as audit_errors
 use Rattle.dossier.specs.Written.{head_text}
-use Rattle.dossier_engine.specs.Shown.{IsTextOf, IsReplayText, IsShown, IsRefusalShown, end_of}
+use Rattle.dossier_engine.specs.Shown.{IsTextOf, IsReplayText, IsShown, IsRefusalShown, IsReplayed, JudgesRecords, JudgesRefusal, end_of}
 use Rattle.dossier_engine.specs.declared.end.DossierEnd.{DossierEnd}
 use Rattle.dossier_engine.specs.declared.end.DossierEnd.TheVariants as ends
 
@@ -54,6 +54,31 @@ shown_so schema world name user all (Sealed why) shows (Ok done) old new whole p
 shown_so schema world name user all standing shows (Err audit_errors.WriteFault) old new whole part nothing =
     let some = part refl in (standing, some.0, shows some.0 some.1, some.2)
 shown_so schema world name user all standing shows (Err audit_errors.Memory) old new whole part nothing = nothing refl
+
+-- and its end judges the records that give him this standing
+pub judged_so : (schema : DatabaseSchema) (world : FactSet) (name : Text) (user : UserProfile) (all : List Recorded) (standing : Standing)
+    → IsReplayed schema world name user all standing → (written : Result (Unit {0}) AuditError)
+    → JudgesRecords schema world name user all (end_of (good_end standing) written)
+judged_so schema world name user all Open replayed (Ok done) = (Open, refl, replayed)
+judged_so schema world name user all (Closed admission) replayed (Ok done) = (Closed admission, refl, replayed)
+judged_so schema world name user all (Sealed why) replayed (Ok done) = replayed
+judged_so schema world name user all standing replayed (Err audit_errors.WriteFault) = tt
+judged_so schema world name user all standing replayed (Err audit_errors.Memory) = tt
+
+-- so do the records of one who isn't served, by no entries
+pub line_judged : (schema : DatabaseSchema) (world : FactSet) (name : Text) (user : UserProfile) (all : List Recorded) (standing : Standing)
+    → IsReplay schema world user all [] standing → (written : Result (Unit {0}) AuditError)
+    → JudgesRecords schema world name user all (end_of (good_end standing) written)
+line_judged schema world name user all standing replay =
+    judged_so schema world name user all standing
+    (record { entries = []; replay = replay; legal = none_legal schema world user; sizes = none_sized schema user })
+
+-- the end of a journal that isn't opened judges why
+pub refusal_judged : (why : OpenError) → why ≢ open_errors.Memory → (written : Result (Unit {0}) AuditError)
+    → JudgesRefusal why (end_of (ends.Refused (Journal why)) written)
+refusal_judged why some (Ok done) = (some, refl)
+refusal_judged why some (Err audit_errors.WriteFault) = tt
+refusal_judged why some (Err audit_errors.Memory) = tt
 
 -- so was the line of one who isn't served
 pub line_so : (schema : DatabaseSchema) (world : FactSet) (name : Text) (user : UserProfile) (all : List Recorded) (standing : Standing) (line : Text)

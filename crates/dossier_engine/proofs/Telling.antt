@@ -17,10 +17,11 @@ use Rattle.user_desk.specs.declared.standing.Standing.TheVariants.{Open, Closed,
 use Rattle.user_desk.proofs.Bytes.{records_are}
 use Rattle.user_desk.proofs.Keeping.{standing_sealed_by}
 use Rattle.user_desk.proofs.Refusing.{standing_from}
-use Rattle.audit_engine.proofs.Telling.{rose, sealed_by}
+use Rattle.audit_engine.proofs.Telling.{rose, sealed_by, gives}
+use Rattle.audit_engine.specs.Ends.{GivesStanding}
 use Rattle.dossier.specs.Written.{head_text}
-use Rattle.dossier_engine.specs.Ends.{IsDossierOf, EndsDossier}
-use Rattle.dossier_engine.specs.Shown.{IsTextOf, IsReplayText, IsShown, IsRefusalShown}
+use Rattle.dossier_engine.specs.Ends.{IsDossierOf, EndsDossier, JudgesDossier}
+use Rattle.dossier_engine.specs.Shown.{IsTextOf, IsReplayText, IsReplayed, IsShown, IsRefusalShown, JudgesRecords, JudgesRefusal}
 use Rattle.dossier_engine.specs.declared.end.DossierEnd.{DossierEnd}
 use Rattle.dossier_engine.specs.declared.end.DossierEnd.TheVariants as ends
 
@@ -74,6 +75,23 @@ module _ (schema : DatabaseSchema) (world : FactSet) (header : Header) (name : T
             record { entries = shown.entries; opening_is = inl (stands.3 is); standing_is = (stands.0, stands.1, stands.3 is); text_is = text_is }
         by (Sealed why) stands text_is = sealed_says shown.entries why text stands text_is
 
+    -- the records give him the standing that the bytes give
+    replays : (standing : Standing) → IsReplayed schema world name user all standing
+        → GivesStanding schema world (header_bytes header) name user bytes before now standing
+    replays standing replayed =
+        gives schema world header name user bytes before now decided unrefused told is replayed.entries standing
+        (standing_from schema world user told (header_bytes header) bytes all replayed.entries before now standing journal replayed.legal replayed.sizes
+        replayed.replay)
+
+    -- so the end of the writing judges the journal
+    pub judges_so : (end : DossierEnd) → JudgesRecords schema world name user all end
+        → JudgesDossier schema world (header_bytes header) name user bytes before now end
+    judges_so ends.Done (standing, unsealed, replayed) = (standing, unsealed, replays standing replayed)
+    judges_so (ends.Refused why) replayed = replays (Sealed why) replayed
+    judges_so ends.WriteFault judged = tt
+    judges_so ends.ShelfFault judged = tt
+    judges_so ends.Memory judged = tt
+
     -- so ends the writing of its records
     pub ends_so : (end : DossierEnd) (old new : List ℕ) → IsShown schema world name user all end old new
         → EndsDossier schema world (header_bytes header) name user bytes before now end old new
@@ -84,6 +102,17 @@ module _ (schema : DatabaseSchema) (world : FactSet) (header : Header) (name : T
     ends_so ends.Memory old new shown = shown
 
   -- ---- a journal that wasn't
+
+  pub refused_judges : (why : OpenError) → IsRefused told (header_bytes header) bytes before now why → (end : DossierEnd) → JudgesRefusal why end
+      → JudgesDossier schema world (header_bytes header) name user bytes before now end
+  refused_judges why refused ends.Done judged = absurd judged
+  refused_judges why refused (ends.Refused other) (some, same) =
+      let stands = standing_sealed_by schema world user told (header_bytes header) bytes [] before now why refl refused some in
+      subst (λ w. GivesStanding schema world (header_bytes header) name user bytes before now (Sealed w)) (sym same)
+      (gives schema world header name user bytes before now decided unrefused told is [] (Sealed (Journal why)) stands)
+  refused_judges why refused ends.WriteFault judged = tt
+  refused_judges why refused ends.ShelfFault judged = tt
+  refused_judges why refused ends.Memory judged = tt
 
   pub refused_so : (why : OpenError) → IsRefused told (header_bytes header) bytes before now why → (end : DossierEnd) (old new : List ℕ)
       → IsRefusalShown name user why end old new → EndsDossier schema world (header_bytes header) name user bytes before now end old new

@@ -46,6 +46,15 @@ module _ (schema : DatabaseSchema) (world : FactSet) (name : Text) (user : UserP
     pub accepted : IsAccepted schema world name user bytes count
     pub shown : checked_bytes bytes ≡ Ok accepted.entries
 
+  -- what each end says of the input, whatever the output tells
+  abbrev pub JudgesInput : CheckEnd → (left left' : List ℕ) → Type 0
+  JudgesInput Done left left' = (count : ℕ) × AcceptsBytes left count × IsRead left left'
+  JudgesInput (Refused why) left left' = (checked_bytes left ≡ Err why) × IsRead left left'
+  JudgesInput ReadFault left left' = Unit {0}
+  JudgesInput WriteFault left left' =
+      (count : ℕ) × AcceptsBytes left count × IsRead left left'
+  JudgesInput Memory left left' = Unit {0}
+
   -- what each end says of the input and of the output before and after
   abbrev pub EndsCheck : CheckEnd → (left left' old new : List ℕ) → Type 0
   EndsCheck Done left left' old new =

@@ -9,7 +9,7 @@ use Rattle.user_desk.specs.Standings.{is_sealed}
 use Rattle.user_desk.specs.declared.standing.Standing.{Standing}
 use Rattle.user_desk.specs.declared.standing.Standing.TheVariants.{Sealed}
 use Rattle.desk_crew.specs.Openings.{OpensWith}
-use Rattle.audit_engine.specs.Ends.{HasStanding}
+use Rattle.audit_engine.specs.Ends.{HasStanding, GivesStanding}
 use Rattle.dossier_engine.specs.Shown.{IsTextOf}
 use Rattle.dossier_engine.specs.declared.end.DossierEnd.{DossierEnd}
 use Rattle.dossier_engine.specs.declared.end.DossierEnd.TheVariants.{Done, Refused, WriteFault}
@@ -25,6 +25,16 @@ module _ (schema : DatabaseSchema) (world : FactSet) (header : List ℕ) (name :
     pub opening_is : OpensWith schema world user header bytes entries
     pub standing_is : HasStanding schema world header name user bytes before now entries standing
     pub text_is : IsTextOf schema name user (records bytes) standing text
+
+  -- what each end says of the journal, whatever the output tells
+  abbrev pub JudgesDossier : DossierEnd → Type 0
+  JudgesDossier Done = (standing : Standing) × (is_sealed standing ≡ false)
+      × GivesStanding schema world header name user bytes before now standing
+  JudgesDossier (Refused why) =
+      GivesStanding schema world header name user bytes before now (Sealed why)
+  JudgesDossier WriteFault = Unit {0}
+  JudgesDossier ShelfFault = Unit {0}
+  JudgesDossier Memory = Unit {0}
 
   -- all of it was appended
   abbrev pub AppendsDossier : Standing → List ℕ → List ℕ → Type 0

@@ -28,6 +28,16 @@ module _ (schema : DatabaseSchema) (world : FactSet) (name : Text) (user : UserP
       × AppendsPart old new (sound_text count)
   EndsText text Memory old new = new ≡ old
 
+  -- what each end says of a text that was read, whatever the output tells
+  abbrev pub JudgesText : Text → CheckEnd → Type 0
+  JudgesText text Done = (count : ℕ) × IsAccepted schema world name user text count
+  JudgesText text (Refused (Line why)) = checked schema world name user text ≡ Err why
+  JudgesText text (Refused TooLong) = ⊥
+  JudgesText text (Refused NotUtf8) = ⊥
+  JudgesText text ReadFault = Unit {0}
+  JudgesText text WriteFault = (count : ℕ) × IsAccepted schema world name user text count
+  JudgesText text Memory = Unit {0}
+
 -- that a dossier of so many items is accepted was said, and the call ended so
 abbrev pub IsSaid : ℕ → CheckEnd → (old new : List ℕ) → Type 0
 IsSaid count Done old new = new ≡ old ++ sound_text count

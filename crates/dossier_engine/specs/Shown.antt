@@ -45,6 +45,22 @@ module _ (schema : DatabaseSchema) (world : FactSet) (name : Text) (user : UserP
     pub sizes : KeepsSizes schema user entries
     pub text_is : IsTextOf schema name user all standing text
 
+  -- the records give him this standing
+  pub record IsReplayed (standing : Standing) : Type 0 where
+    pub entries : History
+    pub replay : IsReplay schema world user all entries standing
+    pub legal : IsLegal schema world user entries
+    pub sizes : KeepsSizes schema user entries
+
+  -- what each end says of the records, whatever the output tells
+  abbrev pub JudgesRecords : DossierEnd → Type 0
+  JudgesRecords Done =
+      (standing : Standing) × (is_sealed standing ≡ false) × IsReplayed standing
+  JudgesRecords (Refused why) = IsReplayed (Sealed why)
+  JudgesRecords WriteFault = Unit {0}
+  JudgesRecords ShelfFault = Unit {0}
+  JudgesRecords Memory = Unit {0}
+
   -- it was appended
   abbrev pub AppendsText : Standing → List ℕ → List ℕ → Type 0
   AppendsText standing old new = (text : Text) × IsReplayText standing text × (new ≡ old ++ text)
@@ -59,6 +75,15 @@ module _ (schema : DatabaseSchema) (world : FactSet) (name : Text) (user : UserP
       × AppendsPart old new text
   IsShown ShelfFault old new = ⊥
   IsShown Memory old new = new ≡ old
+
+-- a journal that isn't opened for this reason was shown, and the call ended so, whatever the output
+-- tells
+abbrev pub JudgesRefusal : OpenError → DossierEnd → Type 0
+JudgesRefusal why Done = ⊥
+JudgesRefusal why (Refused other) = (why ≢ open_errors.Memory) × (other ≡ Journal why)
+JudgesRefusal why WriteFault = Unit {0}
+JudgesRefusal why ShelfFault = Unit {0}
+JudgesRefusal why Memory = Unit {0}
 
 -- a journal that isn't opened for this reason was shown so, and the call ended so
 abbrev pub IsRefusalShown : Text → UserProfile → OpenError → DossierEnd → List ℕ → List ℕ → Type 0

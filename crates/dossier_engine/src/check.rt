@@ -4,8 +4,8 @@ ghost use Rattle.outside.specs.Faults.{Rose};
 ghost use Rattle.line_protocol.specs.Rests.{IsRest};
 ghost use Rattle.cqe_base.specs.History.{profile_of};
 ghost use Rattle.cqe_base.specs.Limits.{KeepsLimits};
-ghost use Rattle.dossier_engine.specs.Checks.{EndsCheck, IsSilentCheck};
-ghost use Rattle.dossier_engine.specs.Said.{EndsText, IsSaid};
+ghost use Rattle.dossier_engine.specs.Checks.{EndsCheck, IsSilentCheck, JudgesInput};
+ghost use Rattle.dossier_engine.specs.Said.{EndsText, IsSaid, JudgesText};
 ghost use Rattle.dossier_engine.specs.declared.end.CheckEnd.{CheckEnd};
 
 use crate::end::{CheckEnd, CheckRefusal, refused_end};
@@ -33,6 +33,8 @@ pub fn run_check<S: Source, K: Sink>(
     ensures ends { S.tells → K.tells → EndsCheck schema.now world.now (string_bytes user.now.name)
         (profile_of user.now) result (S.left source.old) (S.left source.new)
         (K.written sink.old) (K.written sink.new) }
+    ensures judged { S.tells → JudgesInput schema.now world.now (string_bytes user.now.name)
+        (profile_of user.now) result (S.left source.old) (S.left source.new) }
     ensures silent { IsSilentCheck result → sink.new ≡ sink.old }
     ensures left { S.tells → IsRest (S.left source.old) (S.left source.new) }
     ensures held { S.held source.new ≡ S.held source.old }
@@ -68,6 +70,8 @@ fn check_text<K: Sink>(
     requires bytes { length text.now ≤ 67108864 }
     ensures ends { K.tells → EndsText schema.now world.now (string_bytes user.now.name)
         (profile_of user.now) text.now result (K.written sink.old) (K.written sink.new) }
+    ensures judged { JudgesText schema.now world.now (string_bytes user.now.name)
+        (profile_of user.now) text.now result }
     ensures silent { IsSilentCheck result → sink.new ≡ sink.old }
     ensures sink_later { K.faults sink.old ≤ K.faults sink.new }
     ensures no_read { result ≡ CheckEnd.ReadFault → ⊥ }

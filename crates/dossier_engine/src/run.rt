@@ -8,7 +8,7 @@ ghost use Rattle.cqe_base.specs.Limits.{KeepsLimits};
 ghost use Rattle.log_journal.specs.Names.{journal_name};
 ghost use Rattle.log_journal.specs.Opening.{header_bytes};
 ghost use Rattle.outside.specs.Shelf.{NoneOut, NoneFell, SameBytes, NoNewImages, NoNewMoments};
-ghost use Rattle.dossier_engine.specs.Ends.{EndsDossier};
+ghost use Rattle.dossier_engine.specs.Ends.{EndsDossier, JudgesDossier};
 ghost use Rattle.dossier_engine.specs.declared.end.DossierEnd.{DossierEnd};
 
 use crate::end::DossierEnd;
@@ -41,6 +41,16 @@ pub fn run_dossier<'w, F: Shelf, K: Sink>(
         (F.disk_faults shelf.new
         (journal_name registry.now.directory.now (string_bytes user.now.name)))
         result (K.written sink.old) (K.written sink.new) }
+    ensures judged { F.tells → JudgesDossier registry.now.schema.now registry.now.world.now
+        (header_bytes registry.now.header.now) (string_bytes user.now.name) (profile_of user.now)
+        (bytes_on F.D.reads
+        (F.disk shelf.old
+        (journal_name registry.now.directory.now (string_bytes user.now.name))))
+        (F.disk_faults shelf.old
+        (journal_name registry.now.directory.now (string_bytes user.now.name)))
+        (F.disk_faults shelf.new
+        (journal_name registry.now.directory.now (string_bytes user.now.name)))
+        result }
     ensures silent_fault { result ≡ DossierEnd.ShelfFault → sink.new ≡ sink.old }
     ensures silent_memory { result ≡ DossierEnd.Memory → sink.new ≡ sink.old }
     ensures disks { SameOthers
@@ -93,6 +103,10 @@ fn dossier_of_journal<'w, F: Shelf, K: Sink>(
         (bytes_on F.D.reads (F.disk shelf.old journal.now)) (F.disk_faults shelf.old journal.now)
         (F.disk_faults shelf.new journal.now)
         result (K.written sink.old) (K.written sink.new) }
+    ensures judged { F.tells → JudgesDossier registry.now.schema.now registry.now.world.now
+        (header_bytes registry.now.header.now) (string_bytes user.now.name) (profile_of user.now)
+        (bytes_on F.D.reads (F.disk shelf.old journal.now)) (F.disk_faults shelf.old journal.now)
+        (F.disk_faults shelf.new journal.now) result }
     ensures silent_fault { result ≡ DossierEnd.ShelfFault → sink.new ≡ sink.old }
     ensures silent_memory { result ≡ DossierEnd.Memory → sink.new ≡ sink.old }
     ensures disks { SameOthers journal.now (F.disk shelf.old) (F.disk shelf.new) }

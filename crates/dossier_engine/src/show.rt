@@ -5,8 +5,9 @@ ghost use Rattle.outside.specs.Faults.{Rose};
 ghost use Rattle.cqe_base.specs.History.{profile_of};
 ghost use Rattle.cqe_base.specs.Limits.{KeepsLimits};
 ghost use Rattle.log_journal.specs.Opening.{header_bytes, recorded, IsRecord};
-ghost use Rattle.dossier_engine.specs.Shown.{IsShown, IsRefusalShown};
-ghost use Rattle.dossier_engine.specs.Ends.{EndsDossier};
+ghost use Rattle.dossier_engine.specs.Shown.{IsShown, IsRefusalShown, JudgesRecords};
+ghost use Rattle.dossier_engine.specs.Shown.{JudgesRefusal};
+ghost use Rattle.dossier_engine.specs.Ends.{EndsDossier, JudgesDossier};
 ghost use Rattle.dossier_engine.specs.declared.end.DossierEnd.{DossierEnd};
 
 use crate::end::{DossierEnd, end_of};
@@ -32,6 +33,9 @@ pub(crate) fn show_disk<'w, D: Disk, K: Sink>(
         (header_bytes registry.now.header.now) (string_bytes user.now.name) (profile_of user.now)
         (D.reads disk) (D.faults disk) (D.faults result.0) result.1 (K.written sink.old)
         (K.written sink.new) }
+    ensures judged { D.tells → JudgesDossier registry.now.schema.now registry.now.world.now
+        (header_bytes registry.now.header.now) (string_bytes user.now.name) (profile_of user.now)
+        (D.reads disk) (D.faults disk) (D.faults result.0) result.1 }
     ensures reads { D.reads result.0 ≡ D.reads disk }
     ensures images { (c : List ℕ) → D.image result.0 c → D.image disk c }
     ensures moments { (c : List ℕ) → D.image_since result.0 (D.moment disk) c → D.image disk c }
@@ -70,6 +74,8 @@ fn show_records<'w, K: Sink>(
     ensures shown { K.tells → IsShown registry.now.schema.now registry.now.world.now
         (string_bytes user.now.name) (profile_of user.now) (map recorded records.now) result
         (K.written sink.old) (K.written sink.new) }
+    ensures judged { JudgesRecords registry.now.schema.now registry.now.world.now
+        (string_bytes user.now.name) (profile_of user.now) (map recorded records.now) result }
     ensures silent { result ≡ DossierEnd.Memory → sink.new ≡ sink.old }
     ensures later { K.faults sink.old ≤ K.faults sink.new }
     ensures cause { result ≡ DossierEnd.WriteFault → Rose (K.faults sink.old) (K.faults sink.new) }
@@ -105,6 +111,7 @@ fn show_records<'w, K: Sink>(
 fn show_refused<K: Sink>(alloc: Global, user: &User, why: OpenError, sink: &mut K) -> DossierEnd
     ensures shown { K.tells → IsRefusalShown (string_bytes user.now.name) (profile_of user.now)
         why result (K.written sink.old) (K.written sink.new) }
+    ensures judged { JudgesRefusal why result }
     ensures undone { result ≢ DossierEnd.Done }
     ensures silent { result ≡ DossierEnd.Memory → sink.new ≡ sink.old }
     ensures later { K.faults sink.old ≤ K.faults sink.new }

@@ -1,32 +1,41 @@
 -- Connections that are served one after the other.
-use Rattle.std.proofs.Common.{◌≡◌, ℕ, ◌+◌, ◌==◌, Bool, true, false, List, [], ◌∷◌, ◌++◌, refl, sym, ap, subst, ◌∙◌, arith}
+use Rattle.std.proofs.Common.{◌≡◌, ℕ, ◌+◌, ◌==◌, ◌||◌, Bool, true, false, List, [], ◌∷◌, ◌++◌, refl, sym, ap, subst, ◌∙◌, arith}
 use Rattle.std.proofs.Common.{append_assoc, append-nil, length-append}
+use Rattle.std.proofs.Math.Bool.{or-false}
 use Rattle.std.proofs.lemmas.Bool.{eqb-true}
+use Rattle.std.proofs.lemmas.List.Folds.{list_any-append}
+use Rattle.std.specs.List.{list_any}
 use Rattle.outside.specs.Faults.{Rose}
 use Rattle.outside.specs.Visits.{Visit}
 use Rattle.log_journal.specs.declared.header.Header.{Header}
 use Rattle.standby_core.specs.Copies.{Copy}
 use Rattle.standby_core.specs.Exchanges.{Serves, IsAnswered}
 use Rattle.standby_core.specs.declared.serve.StandbyEnd.{StandbyEnd}
-use Rattle.standby_engine.specs.Served.{IsServedVisit, nobody, further, IsDoorServed}
+use Rattle.standby_engine.specs.Served.{IsServedVisit, nobody, further, IsDoorServed, is_wanting}
 use Rattle.standby_engine.proofs.Listening.{rose_some}
 
 module _ {O : Type 0} (given : O → ℕ) (back : O → List Visit) (header : Header) where
-  pub none_served : (copies : List Copy) (door : O) → IsDoorServed given back header copies copies door door
+  pub none_served : (copies : List Copy) (door : O) → IsDoorServed given back header copies copies door door false
   none_served copies door = record {
     visits = [];
+    ends = [];
     served = nobody;
+    wanted = refl;
     back_is = sym (append-nil (back door));
     given_is = omega arith;
   }
 
   -- one more connection
-  pub one_served : (first before after : List Copy) (old mid new : O) (visit : Visit) → IsDoorServed given back header first before old mid
-      → IsServedVisit header before after visit → given new ≡ given mid + 1 → back new ≡ back mid ++ visit ∷ []
-      → IsDoorServed given back header first after old new
-  one_served first before after old mid new visit so_far served counted is_back = record {
+  pub one_served : (first before after : List Copy) (old mid new : O) (visit : Visit) (end : StandbyEnd) (so_wanting wanting : Bool)
+      → IsDoorServed given back header first before old mid so_wanting
+      → IsServedVisit header before after visit end → wanting ≡ is_wanting end → given new ≡ given mid + 1 → back new ≡ back mid ++ visit ∷ []
+      → IsDoorServed given back header first after old new (so_wanting || wanting)
+  one_served first before after old mid new visit end so_wanting wanting so_far served wanted counted is_back = record {
     visits = so_far.visits ++ visit ∷ [];
-    served = further before after so_far.visits visit so_far.served served;
+    ends = so_far.ends ++ end ∷ [];
+    served = further before after so_far.visits so_far.ends visit end so_far.served served;
+    wanted = (λ i. so_far.wanted i || wanted i) ∙ ap (λ b. list_any is_wanting so_far.ends || b) (sym (or-false (is_wanting end)))
+        ∙ sym (list_any-append is_wanting so_far.ends (end ∷ []));
     back_is = is_back ∙ ap (λ l. l ++ visit ∷ []) so_far.back_is ∙ append_assoc (back old) so_far.visits (visit ∷ []);
     given_is = omega (arith, counted, so_far.given_is, length-append so_far.visits (visit ∷ []));
   }

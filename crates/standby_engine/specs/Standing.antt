@@ -15,7 +15,8 @@ use Rattle.user_desk.specs.declared.standing.DeskError.{DeskError}
 use Rattle.user_desk.specs.declared.standing.DeskError.TheVariants.{Journal}
 use Rattle.standby_core.specs.Copies.{Copy}
 use Rattle.standby_core.specs.Lasting.{HasCopied}
-use Rattle.standby_engine.specs.Served.{AreServed}
+use Rattle.standby_core.specs.declared.serve.StandbyEnd.{StandbyEnd}
+use Rattle.standby_engine.specs.Served.{AreServed, is_wanting}
 use Rattle.standby_engine.specs.declared.run.CopyEnd.{CopyEnd}
 use Rattle.standby_engine.specs.declared.run.CopyEnd.TheVariants.{Done, LinksFault}
 use Rattle.standby_engine.specs.declared.serving.DoorEnd.{DoorEnd}
@@ -87,14 +88,14 @@ AreCopiesOf header journals (user ∷ users) (Some why ∷ refusals) first last 
 AreCopiesOf header journals users refusals first last = ⊥
 
 -- The connections that were given in a call were served one after the other by the copies of these
--- users' journals, and these copies were left.
+-- users' journals, with these ends, and these copies were left.
 pub record ServesCopies (header : Header) (journals : Journals) (users : List User)
     (given given' : ℕ) (back back' : List Visit) (refusals : List (Option DeskError))
-    (last : List Copy) : Type 0 where
+    (last : List Copy) (ends : List StandbyEnd) : Type 0 where
   pub first : List Copy
   pub copies : AreCopiesOf (header_bytes header) journals users refusals first last
   pub visits : List Visit
-  pub served : AreServed header first last visits
+  pub served : AreServed header first last visits ends
   pub back_is : back' ≡ back ++ visits
   pub given_is : given' ≡ given + length visits
 
@@ -103,16 +104,17 @@ abbrev pub ServesNobody : ℕ → ℕ → List Visit → List Visit → Type 0
 ServesNobody given given' back back' = (given' ≡ given) × (back' ≡ back)
 
 -- What a standby did with the connections, by its end: it served each by the copies, and says
--- whether an append to one of them failed; where it didn't come to serve, none was given.
+-- whether an append to one of them failed, and whether memory was wanting for a record; where it
+-- didn't come to serve, none was given.
 abbrev pub EndsCopying : Header → Journals → List User → ℕ → ℕ → List Visit → List Visit → CopyEnd
     → Type 0
-EndsCopying header journals users given given' back back' (Done refusals broken) =
-    (last : List Copy)
-    × ServesCopies header journals users given given' back back' refusals.items last
-    × (broken ≡ list_any (λ copy. copy.failed) last)
+EndsCopying header journals users given given' back back' (Done refusals broken wanting) =
+    (last : List Copy) × (ends : List StandbyEnd)
+    × ServesCopies header journals users given given' back back' refusals.items last ends
+    × (broken ≡ list_any (λ copy. copy.failed) last) × (wanting ≡ list_any is_wanting ends)
 EndsCopying header journals users given given' back back' LinksFault =
-    ((refusals : List (Option DeskError)) × (last : List Copy)
-    × ServesCopies header journals users given given' back back' refusals last)
+    ((refusals : List (Option DeskError)) × (last : List Copy) × (ends : List StandbyEnd)
+    × ServesCopies header journals users given given' back back' refusals last ends)
     ⊎ ServesNobody given given' back back'
 EndsCopying header journals users given given' back back' end =
     ServesNobody given given' back back'
@@ -120,7 +122,7 @@ EndsCopying header journals users given given' back back' end =
 -- What a standby leaves of the journals: each is copied; where it didn't come to serve, all are as
 -- they were. It says that an append failed only where a count rose.
 abbrev pub LeavesCopies : List ℕ → Journals → List User → CopyEnd → Type 0
-LeavesCopies header journals users (Done refusals broken) =
+LeavesCopies header journals users (Done refusals broken wanting) =
     AreCopied header journals users refusals.items
     × (broken ≡ true → SomeFailed journals users)
 LeavesCopies header journals users LinksFault =
@@ -130,17 +132,17 @@ LeavesCopies header journals users end = KeepsJournals journals
 
 -- the standby served
 abbrev pub IsServed : CopyEnd → Type 0
-IsServed (Done refusals broken) = Unit {0}
+IsServed (Done refusals broken wanting) = Unit {0}
 IsServed end = ⊥
 
 -- the standby served, and an append to a copy failed
 abbrev pub IsBroken : CopyEnd → Type 0
-IsBroken (Done refusals broken) = broken ≡ true
+IsBroken (Done refusals broken wanting) = broken ≡ true
 IsBroken end = ⊥
 
 -- the end of a standby whose door came to this one: where the door didn't fail it has the refusals,
--- and whether an append failed
-abbrev pub copy_end : DoorEnd → Vec (Option DeskError) Global → Bool → CopyEnd
-copy_end Ended refusals broken = Done refusals broken
-copy_end Limit refusals broken = Done refusals broken
-copy_end Failed refusals broken = LinksFault
+-- whether an append failed, and whether memory was wanting for a record
+abbrev pub copy_end : DoorEnd → Vec (Option DeskError) Global → Bool → Bool → CopyEnd
+copy_end Ended refusals broken wanting = Done refusals broken wanting
+copy_end Limit refusals broken wanting = Done refusals broken wanting
+copy_end Failed refusals broken wanting = LinksFault

@@ -31,8 +31,8 @@ use user_desk::DeskError;
 pub enum CopyEnd {
     /// The links ended, or the greatest number of connections was reached. Of each user, in order,
     /// there is the refusal of his journal, if it was refused; and it says whether a record wasn't
-    /// taken since the disk of one failed.
-    Done(Vec<Option<DeskError>>, bool),
+    /// taken since the disk of one failed, and whether one wasn't since memory was wanting.
+    Done(Vec<Option<DeskError>>, bool, bool),
     /// The links failed: they didn't listen, or the door failed.
     LinksFault,
     /// The shelf failed. No connection was served.
@@ -102,6 +102,7 @@ pub fn run_standby<R: Wait, F: Shelf, L: Links>(
     ensures other_counts { SameBeside (registered_journals directory.now users.now)
         (F.disk_faults shelf.old) (F.disk_faults shelf.new) }
     ensures out { L.out links.new ≡ L.out links.old }
+    ensures few_ended { L.ended links.new ≤ L.ended links.old + 1 }
 
     // It calls nobody by a dial.
     ensures dialling { L.dialling links.new ≡ L.dialling links.old }
@@ -189,20 +190,20 @@ fn serve_opened<R: Wait, F: Shelf, O: Door>(
     let refusals = refusals_of(rooms.refusals, places.as_slice());
     let (journals, names, others) = take_apart(places, rooms.journals, rooms.names, rooms.given);
     let mut book = StandbyBook::new(journals);
-    let end = serve_door(rt, &mut book, header, door, limit);
+    let (end, wanting) = serve_door(rt, &mut book, header, door, limit);
     let journals = book.close();
     let (all, broken) = put_together(journals, names, others);
     give_back(shelf, all);
-    end_of(end, refusals, broken)
+    end_of(end, refusals, broken, wanting)
 }
 
 // The end of a standby whose door came to this one.
-fn end_of(end: DoorEnd, refusals: Vec<Option<DeskError>>, broken: bool) -> CopyEnd
-    ensures { result ≡ copy_end end refusals broken }
+fn end_of(end: DoorEnd, refusals: Vec<Option<DeskError>>, broken: bool, wanting: bool) -> CopyEnd
+    ensures { result ≡ copy_end end refusals broken wanting }
 {
     match end {
-        DoorEnd::Ended => CopyEnd::Done(refusals, broken),
-        DoorEnd::Limit => CopyEnd::Done(refusals, broken),
+        DoorEnd::Ended => CopyEnd::Done(refusals, broken, wanting),
+        DoorEnd::Limit => CopyEnd::Done(refusals, broken, wanting),
         DoorEnd::Failed => CopyEnd::LinksFault,
     }
 }

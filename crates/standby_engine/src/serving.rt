@@ -4,12 +4,12 @@ ghost use Rattle.outside.specs.Faults.{Rose};
 ghost use Rattle.standby_core.specs.Books.{copies_in, held_in};
 ghost use Rattle.standby_core.specs.Copies.{held_name, held_origin};
 ghost use Rattle.standby_core.specs.Lasting.{AllLast, AllCounted};
-ghost use Rattle.standby_engine.specs.Served.{IsDoorServed};
+ghost use Rattle.standby_engine.specs.Served.{IsDoorServed, is_wanting};
 ghost use Rattle.standby_engine.specs.declared.serving.DoorEnd.{DoorEnd};
 
 use log_journal::Header;
 use outside::{Disk, Door, Failed};
-use standby_core::{StandbyBook, serve_standby};
+use standby_core::{StandbyBook, StandbyEnd, TakeError, serve_standby};
 use std::sync::Wait;
 
 /// How the serving of a door ended.
@@ -24,24 +24,24 @@ pub(crate) enum DoorEnd {
 }
 
 /// Takes one connection of a door after the other, until no further one comes or so many were
-/// taken.
+/// taken. Says how it ended, and whether a record wasn't taken since memory was wanting.
 pub(crate) fn serve_door<R: Wait, D: Disk, O: Door>(
     rt: &R,
     book: &mut StandbyBook<D>,
     header: &Header,
     door: &mut O,
     limit: u64,
-) -> DoorEnd
+) -> (DoorEnd, bool)
     ensures served { O.tells → D.tells → IsDoorServed O.given O.back header.now
-        (copies_in D.reads book.old) (copies_in D.reads book.new) door.old door.new }
+        (copies_in D.reads book.old) (copies_in D.reads book.new) door.old door.new result.1 }
     ensures limited { O.tells → O.given door.new ≤ O.given door.old + limit }
-    ensures reached { O.tells → result ≡ DoorEnd.Limit
+    ensures reached { O.tells → result.0 ≡ DoorEnd.Limit
         → O.given door.new ≡ O.given door.old + limit }
-    ensures ended { result ≡ DoorEnd.Ended → Rose (O.ends door.old) (O.ends door.new) }
-    ensures none_left { O.tells → result ≡ DoorEnd.Ended → O.left door.new ≡ 0 }
+    ensures ended { result.0 ≡ DoorEnd.Ended → Rose (O.ends door.old) (O.ends door.new) }
+    ensures none_left { O.tells → result.0 ≡ DoorEnd.Ended → O.left door.new ≡ 0 }
     ensures left { O.tells → O.left door.old + O.given door.old
         ≡ O.left door.new + O.given door.new }
-    ensures failed { result ≡ DoorEnd.Failed → Rose (O.faults door.old) (O.faults door.new) }
+    ensures failed { result.0 ≡ DoorEnd.Failed → Rose (O.faults door.old) (O.faults door.new) }
     ensures lasts { D.tells → (own : List ℕ) (disks : List D)
         → AllLast D.Disk own disks (held_in book.old)
         → AllLast D.Disk own disks (held_in book.new) }
@@ -52,16 +52,28 @@ pub(crate) fn serve_door<R: Wait, D: Disk, O: Door>(
     ensures counted { (counts : List ℕ) → AllCounted D.faults counts (held_in book.old)
         → AllCounted D.faults counts (held_in book.new) }
 {
+    let mut wanting = false;
     for _ in 0..limit {
         match door.next() {
             Ok(Some((source, sink))) => {
                 let (mut source, mut sink) = (source, sink);
-                let _end = serve_standby(rt, book, header, &mut source, &mut sink);
+                let end = serve_standby(rt, book, header, &mut source, &mut sink);
+                wanting |= is_wanting(end);
                 door.done(source, sink);
             }
-            Ok(None) => return DoorEnd::Ended,
-            Err(Failed) => return DoorEnd::Failed,
+            Ok(None) => return (DoorEnd::Ended, wanting),
+            Err(Failed) => return (DoorEnd::Failed, wanting),
         }
     }
-    DoorEnd::Limit
+    (DoorEnd::Limit, wanting)
+}
+
+// Whether a connection ended since memory was wanting for a record of it.
+fn is_wanting(end: StandbyEnd) -> bool
+    ensures { result ≡ is_wanting end }
+{
+    match end {
+        StandbyEnd::Take(TakeError::Memory) => true,
+        _ => false,
+    }
 }

@@ -4,7 +4,7 @@ use Rattle.cqe_base.specs.History.{profile_of}
 use Rattle.log_journal.specs.Opening.{header_bytes}
 use Rattle.user_desk.specs.Desks.{desk_standing, desk_history}
 use Rattle.user_desk.specs.Causes.{IsStanding}
-use Rattle.audit_engine.proofs.Telling.{ends_so}
+use Rattle.audit_engine.proofs.Telling.{ends_so, judges_so}
 use Rattle.audit_engine.proofs.print.audit_disk.Goals as goal
 
 pub returns-in-Ok-open_desk-clause-ends : goal.returns-in-Ok-open_desk-clause-ends
@@ -20,6 +20,18 @@ returns-in-Ok-open_desk-clause-ends g c = λ told sink_told.
     (g.D.Disk.reads c.args.disk) (desk_history desk)
     (g.D.Disk.faults c.args.disk) (g.D.Disk.faults d) (desk_standing desk)) (sym c.close.ensures) c.in-Ok-open_desk.ensures.standing)
     (c.print_desk-end.ensures.printed sink_told)
+
+pub returns-in-Ok-open_desk-clause-judged : goal.returns-in-Ok-open_desk-clause-judged
+returns-in-Ok-open_desk-clause-judged g c = λ told.
+    let registry = c.args.registry.now in
+    let desk = c.in-Ok-open_desk.desk in
+    judges_so registry.schema.now registry.world.now registry.header.now (string_bytes c.args.user.now.name) (profile_of c.args.user.now)
+    (g.D.Disk.reads c.args.disk) (g.D.Disk.faults c.args.disk) (g.D.Disk.faults c.close.result)
+    c.law_openings.ensures.decided c.law_openings.ensures.unrefused g.D.Disk.tells told (desk_history desk) c.print_desk-end.result (desk_standing desk)
+    (subst (λ d. IsStanding registry.schema.now registry.world.now (profile_of c.args.user.now) g.D.Disk.tells (header_bytes registry.header.now)
+    (g.D.Disk.reads c.args.disk) (desk_history desk)
+    (g.D.Disk.faults c.args.disk) (g.D.Disk.faults d) (desk_standing desk)) (sym c.close.ensures) c.in-Ok-open_desk.ensures.standing)
+    c.print_desk-end.ensures.ends_by
 
 pub returns-in-Ok-open_desk-clause-moments : goal.returns-in-Ok-open_desk-clause-moments
 returns-in-Ok-open_desk-clause-moments g c c' here =

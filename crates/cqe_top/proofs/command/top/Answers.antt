@@ -35,4 +35,13 @@ returns g c = record {
         (sym c.run-end.ensures.command.1) c.run-end.ensures.command.2;
     complaints_faults = c.complain.ensures.later;
   };
+  laws = record {
+    two_batches = c.law_calls_join.ensures;
+    parts = c.law_calls_are_parts.ensures;
+    calls = c.law_any_calls_join.ensures;
+    batches = c.law_any_batches_join.ensures;
+    standbys = c.law_standbys_keep.ensures;
+    takeovers = c.law_takeovers_join.ensures;
+    dossiers = c.law_dossiers_are_found_sound.ensures;
+  };
 }

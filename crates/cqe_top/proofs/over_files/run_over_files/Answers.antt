@@ -1,8 +1,8 @@
 use Rattle.std.proofs.Common.{◌≡◌, ◌<◌, refl, sym, ap, subst, ◌∙◌, map, length, string_bytes}
 use Rattle.std.specs.Prelude.{position, Some}
 use Rattle.outside.proofs.Rises.{rose_since}
-use Rattle.audit_engine.specs.Ends.{EndsAudit}
-use Rattle.dossier_engine.specs.Ends.{EndsDossier}
+use Rattle.audit_engine.specs.Ends.{EndsAudit, JudgesJournal}
+use Rattle.dossier_engine.specs.Ends.{EndsDossier, JudgesDossier}
 use Rattle.cqe_base.specs.History.{profile_of}
 use Rattle.cqe_base.specs.Limits.{KeepsLimits}
 use Rattle.cqe_base.specs.Schema.{has_duplicate}
@@ -255,6 +255,12 @@ returns-in-Audit-clause-command g c =
         (
           policy_user_of user,
           one_named name inputs.policy.users.items c.in-Some.place user user found c.index-user.ensures within,
+          subst (λ (journals : Journals).
+              JudgesJournal inputs.policy.schema inputs.world (header_bytes inputs.header) (string_bytes user.name) (profile_of user)
+              (journals.bytes (string_bytes user.name))
+              (journals.before (string_bytes user.name)) (journals.now (string_bytes user.name)) c.run_audit.result)
+              (same_journals g.F.Shelf g.F.D.Disk c.args.shelf.now c.read_files.new.shelf c.run_audit.new.shelf read.disks read.counts files)
+              (ran.judged told),
           λ out_told. subst (λ (journals : Journals).
               EndsAudit inputs.policy.schema inputs.world (header_bytes inputs.header) (string_bytes user.name) (profile_of user)
               (journals.bytes (string_bytes user.name))
@@ -327,6 +333,12 @@ returns-in-Dossier-clause-command g c =
         (
           policy_user_of user,
           one_named name inputs.policy.users.items c.in-Some.place user user found c.index-user.ensures within,
+          subst (λ (journals : Journals).
+              JudgesDossier inputs.policy.schema inputs.world (header_bytes inputs.header) (string_bytes user.name) (profile_of user)
+              (journals.bytes (string_bytes user.name))
+              (journals.before (string_bytes user.name)) (journals.now (string_bytes user.name)) c.run_dossier.result)
+              (same_journals g.F.Shelf g.F.D.Disk c.args.shelf.now c.read_files.new.shelf c.run_dossier.new.shelf read.disks read.counts files)
+              (ran.judged told),
           λ out_told. subst (λ (journals : Journals).
               EndsDossier inputs.policy.schema inputs.world (header_bytes inputs.header) (string_bytes user.name) (profile_of user)
               (journals.bytes (string_bytes user.name))
@@ -398,7 +410,12 @@ returns-in-OfUser-clause-command g c =
         inputs.world,
         header_bytes inputs.header,
         read.read told,
-        (policy_user_of user, one_named name inputs.policy.users.items c.in-Some.place user user found c.index-user.ensures within, ran.ends),
+        (
+          policy_user_of user,
+          one_named name inputs.policy.users.items c.in-Some.place user user found c.index-user.ensures within,
+          ran.judged,
+          ran.ends,
+        ),
       );
       looks = read.both;
       disks = (read.disks, read.counts);
@@ -602,6 +619,7 @@ returns-clause-command g c =
       ends = ran.ended;
       left = ran.left;
       left_all = ran.left_all;
+      few_ended = ran.few_ended;
       limited = ran.limited;
     } in
     let does : OfStandby scene files copying.address.now copying.sessions (ends.Standby inputs.policy.users c.run_standby-end.result) = record {

@@ -4,8 +4,8 @@ use Rattle.cqe_base.specs.History.{profile_of, answered_query_of}
 use Rattle.log_journal.specs.Opening.{recorded}
 use Rattle.user_desk.specs.declared.standing.Standing.TheVariants.{Open, Closed, Sealed}
 use Rattle.dossier.specs.Written.{head_text}
-use Rattle.dossier_engine.specs.Shown.{IsShown}
-use Rattle.dossier_engine.proofs.Showing.{shown_so, line_so, wanted, failed, no_shelf}
+use Rattle.dossier_engine.specs.Shown.{IsShown, JudgesRecords}
+use Rattle.dossier_engine.proofs.Showing.{shown_so, line_so, judged_so, line_judged, wanted, failed, no_shelf}
 use Rattle.dossier_engine.proofs.show.show_records.Goals as goal
 
 -- ---- the requirements of the writer
@@ -42,6 +42,18 @@ returns-in-Open-clause-shown g c = λ told.
     c.write_dossier-written.result old new (c.write_dossier-written.ensures.whole told) (c.write_dossier-written.ensures.part told)
     (λ is. ap g.K.Sink.written (c.write_dossier-written.ensures.nothing is)))
 
+pub returns-in-Open-clause-judged : goal.returns-in-Open-clause-judged
+returns-in-Open-clause-judged g c =
+    let registry = c.args.registry.now in
+    let name = string_bytes c.args.user.now.name in
+    let user = profile_of c.args.user.now in
+    let all = map recorded c.args.records.now in
+    let replayed = rw c.in-Open.is at c.in-Ok.ensures in
+    subst (JudgesRecords registry.schema.now registry.world.now name user all) (sym c.end_of.ensures)
+    (judged_so registry.schema.now registry.world.now name user all Open
+    (record { entries = map answered_query_of c.in-Open._items.items; replay = replayed.0; legal = replayed.1; sizes = replayed.2 })
+    c.write_dossier-written.result)
+
 pub returns-in-Open-clause-silent : goal.returns-in-Open-clause-silent
 returns-in-Open-clause-silent g c = λ is.
     c.write_dossier-written.ensures.nothing (wanted Open c.write_dossier-written.result (sym c.end_of.ensures ∙ is))
@@ -69,6 +81,16 @@ returns-in-Closed-clause-shown g c = λ told.
     (line_so schema world name user all (Closed c.in-Closed._admission) (head_text name user (codes "closed")) refl
     (rw c.in-Closed.is at c.in-Ok.ensures) c.write_unserved-written.result old new (wrote.whole told) (wrote.part told)
     (λ is. ap g.K.Sink.written (wrote.nothing is)))
+
+pub returns-in-Closed-clause-judged : goal.returns-in-Closed-clause-judged
+returns-in-Closed-clause-judged g c =
+    let registry = c.args.registry.now in
+    let name = string_bytes c.args.user.now.name in
+    let user = profile_of c.args.user.now in
+    let all = map recorded c.args.records.now in
+    subst (JudgesRecords registry.schema.now registry.world.now name user all) (sym c.end_of-in-Closed.ensures)
+    (line_judged registry.schema.now registry.world.now name user all (Closed c.in-Closed._admission) (rw c.in-Closed.is at c.in-Ok.ensures)
+    c.write_unserved-written.result)
 
 pub returns-in-Closed-clause-silent : goal.returns-in-Closed-clause-silent
 returns-in-Closed-clause-silent g c = λ is.
@@ -100,6 +122,16 @@ returns-in-Sealed-clause-shown g c = λ told.
     (line_so schema world name user all (Sealed c.in-Sealed.why) (head_text name user (codes "sealed")) refl
     (rw c.in-Sealed.is at c.in-Ok.ensures) c.write_unserved-written-in-Sealed.result old new (wrote.whole told) (wrote.part told)
     (λ is. ap g.K.Sink.written (wrote.nothing is)))
+
+pub returns-in-Sealed-clause-judged : goal.returns-in-Sealed-clause-judged
+returns-in-Sealed-clause-judged g c =
+    let registry = c.args.registry.now in
+    let name = string_bytes c.args.user.now.name in
+    let user = profile_of c.args.user.now in
+    let all = map recorded c.args.records.now in
+    subst (JudgesRecords registry.schema.now registry.world.now name user all) (sym c.end_of-in-Sealed.ensures)
+    (line_judged registry.schema.now registry.world.now name user all (Sealed c.in-Sealed.why) (rw c.in-Sealed.is at c.in-Ok.ensures)
+    c.write_unserved-written-in-Sealed.result)
 
 pub returns-in-Sealed-clause-silent : goal.returns-in-Sealed-clause-silent
 returns-in-Sealed-clause-silent g c = λ is.

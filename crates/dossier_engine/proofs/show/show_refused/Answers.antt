@@ -3,8 +3,8 @@ use Rattle.cqe_base.specs.History.{profile_of}
 use Rattle.log_journal.specs.declared.header.OpenError.TheVariants as open_errors
 use Rattle.user_desk.specs.declared.standing.DeskError.TheVariants.{Journal}
 use Rattle.user_desk.specs.declared.standing.Standing.TheVariants.{Sealed}
-use Rattle.dossier_engine.specs.Shown.{IsRefusalShown}
-use Rattle.dossier_engine.proofs.Showing.{line_shown, wanted, failed, no_shelf, never_done}
+use Rattle.dossier_engine.specs.Shown.{IsRefusalShown, JudgesRefusal}
+use Rattle.dossier_engine.proofs.Showing.{line_shown, refusal_judged, wanted, failed, no_shelf, never_done}
 use Rattle.dossier_engine.proofs.show.show_refused.Goals as goal
 
 pub returns-clause-shown : goal.returns-clause-shown
@@ -17,6 +17,11 @@ returns-clause-shown g c = λ told.
     subst (λ end. IsRefusalShown name user c.args.why end old new) (sym c.end_of.ensures)
     (line_shown name user c.args.why other c.write_unserved-written.result old new (c.write_unserved-written.ensures.whole told)
     (c.write_unserved-written.ensures.part told) (λ is. ap g.K.Sink.written (c.write_unserved-written.ensures.nothing is)))
+
+pub returns-clause-judged : goal.returns-clause-judged
+returns-clause-judged g c =
+    let other : c.args.why ≢ open_errors.Memory = λ is. true≢false (sym (rw is at c.eq.ensures) ∙ c.if-eq.false) in
+    subst (JudgesRefusal c.args.why) (sym c.end_of.ensures) (refusal_judged c.args.why other c.write_unserved-written.result)
 
 pub returns-clause-undone : goal.returns-clause-undone
 returns-clause-undone g c = λ is. never_done (Journal c.args.why) c.write_unserved-written.result (sym c.end_of.ensures ∙ is)

@@ -2,7 +2,7 @@ use Rattle.std.proofs.Common.{◌≡◌, inr, ◌+◌, ◌++◌, [], refl, sym, 
 use Rattle.outside.proofs.Rises.{rose_since}
 use Rattle.desk_crew.specs.Shelved.{journals_on}
 use Rattle.desk_crew.proofs.Lasting.{keeps_same}
-use Rattle.standby_engine.proofs.Listening.{only_of, sum_only, door_served, ended_of, rose_some, not_longer}
+use Rattle.standby_engine.proofs.Listening.{only_of, sum_only, door_served, ended_of, rose_some, not_longer, one_at_most}
 use Rattle.standby_engine.proofs.run.run_standby.Goals as goal
 
 -- ---- where nobody listens, all is kept
@@ -32,6 +32,12 @@ returns-in-Err-Failed-clause-limited g c links_told = let same = c.listen.ensure
 
 pub returns-in-Err-Failed-clause-counts : goal.returns-in-Err-Failed-clause-counts
 returns-in-Err-Failed-clause-counts g c = λ name. omega arith
+
+pub returns-in-Err-Failed-clause-few_ended : goal.returns-in-Err-Failed-clause-few_ended
+returns-in-Err-Failed-clause-few_ended g c = let same = c.listen.ensures.ended in omega (arith, same)
+
+pub returns-in-Err-Memory-clause-few_ended : goal.returns-in-Err-Memory-clause-few_ended
+returns-in-Err-Memory-clause-few_ended g c = let same = c.listen.ensures.ended in omega (arith, same)
 
 pub returns-in-Err-Memory-clause-left_all : goal.returns-in-Err-Memory-clause-left_all
 returns-in-Err-Memory-clause-left_all g c links_told all = λ i. c.listen.ensures.given links_told i + c.listen.ensures.left links_told i
@@ -136,6 +142,13 @@ returns-clause-out g c =
     let heard = c.in-Ok.ensures.out in
     let taken = c.take_back.ensures.out in
     omega (arith, heard, taken)
+
+pub returns-clause-few_ended : goal.returns-clause-few_ended
+returns-clause-few_ended g c =
+    let heard = c.in-Ok.ensures.ended in
+    let taken = c.take_back.ensures.ended in
+    let one = one_at_most (g.L.D.Door.ends c.serve_opened-end.new.door) in
+    omega (arith, heard, taken, one)
 
 pub returns-clause-dialling : goal.returns-clause-dialling
 returns-clause-dialling g c = c.take_back.ensures.dialling ∙ c.in-Ok.ensures.dialling

@@ -279,9 +279,10 @@ returns-clause-serves g c shelf_told door_told =
     (map (copy_in reads) v.items)) closed of_places)) in
     subst (EndsCopying c.args.header.now journals users (g.O.Door.given c.args.door.now) (g.O.Door.given c.serve_door-end.new.door)
     (g.O.Door.back c.args.door.now) (g.O.Door.back c.serve_door-end.new.door)) (sym c.end_of.ensures)
-    (serves_at c.refusals_of-refusals.result c.put_together-all.result.1 c.args.header.now journals users (g.O.Door.given c.args.door.now)
-    (g.O.Door.given c.serve_door-end.new.door) (g.O.Door.back c.args.door.now) (g.O.Door.back c.serve_door-end.new.door) c.serve_door-end.result
-    (map (copy_in reads) c.serve_door-end.new.book.journals.items)
+    (serves_at c.refusals_of-refusals.result c.put_together-all.result.1 c.serve_door-end.result.1 c.args.header.now journals users
+    (g.O.Door.given c.args.door.now)
+    (g.O.Door.given c.serve_door-end.new.door) (g.O.Door.back c.args.door.now) (g.O.Door.back c.serve_door-end.new.door) c.serve_door-end.result.0
+    (map (copy_in reads) c.serve_door-end.new.book.journals.items) served.ends
     (record {
       first = map (copy_in reads) c.new-book.result.journals.items;
       copies = of_book;
@@ -291,7 +292,7 @@ returns-clause-serves g c shelf_told door_told =
       given_is = served.given_is;
     })
     (c.put_together-all.ensures.broken ∙ ap (λ (v : Vec (Held _ _) Global). has_broken v.items) closed
-    ∙ failed_same reads c.serve_door-end.new.book.journals.items))
+    ∙ failed_same reads c.serve_door-end.new.book.journals.items) served.wanted)
 
 pub returns-clause-journals : goal.returns-clause-journals
 returns-clause-journals g c shelf_told =
@@ -301,7 +302,7 @@ returns-clause-journals g c shelf_told =
     (g.F.Shelf.disk c.args.shelf.now)
     (g.F.Shelf.disk c.give_back.new.shelf) (g.F.Shelf.disk_faults c.args.shelf.now) (g.F.Shelf.disk_faults c.give_back.new.shelf)) in
     subst (LeavesCopies own journals c.args.users.now) (sym c.end_of.ensures)
-    (leaves_at c.refusals_of-refusals.result c.put_together-all.result.1 own journals c.args.users.now c.serve_door-end.result
+    (leaves_at c.refusals_of-refusals.result c.put_together-all.result.1 c.serve_door-end.result.1 own journals c.args.users.now c.serve_door-end.result.0
     (subst (AreCopied own journals c.args.users.now) (sym (refused g c))
     (all_copied c.args.directory.now (header_bytes c.args.header.now) g.F.Shelf.tells g.F.D.Disk (g.F.Shelf.disk c.args.shelf.now)
     (g.F.Shelf.disk_faults c.args.shelf.now)
@@ -324,17 +325,18 @@ returns-clause-disk_cause g c broken =
     c.in-Ok-open_journals.ensures.opened
     c.close-journals.result.items (back g c) (counted g c)
     (sym c.put_together-all.ensures.broken
-    ∙ broken_at c.refusals_of-refusals.result c.put_together-all.result.1 c.serve_door-end.result (subst IsBroken c.end_of.ensures broken)))
+    ∙ broken_at c.refusals_of-refusals.result c.put_together-all.result.1 c.serve_door-end.result.1 c.serve_door-end.result.0
+    (subst IsBroken c.end_of.ensures broken)))
 
 pub returns-clause-ended : goal.returns-clause-ended
 returns-clause-ended g c door_told done =
-    ended_at c.refusals_of-refusals.result c.put_together-all.result.1 c.serve_door-end.result _ _ (c.serve_door-end.ensures.none_left door_told)
-    (c.serve_door-end.ensures.reached door_told) (subst IsServed c.end_of.ensures done)
+    ended_at c.refusals_of-refusals.result c.put_together-all.result.1 c.serve_door-end.result.1 c.serve_door-end.result.0 _ _
+    (c.serve_door-end.ensures.none_left door_told) (c.serve_door-end.ensures.reached door_told) (subst IsServed c.end_of.ensures done)
 
 pub returns-clause-failed : goal.returns-clause-failed
 returns-clause-failed g c is =
     c.serve_door-end.ensures.failed
-    (failed_at c.refusals_of-refusals.result c.put_together-all.result.1 c.serve_door-end.result (sym c.end_of.ensures ∙ is))
+    (failed_at c.refusals_of-refusals.result c.put_together-all.result.1 c.serve_door-end.result.1 c.serve_door-end.result.0 (sym c.end_of.ensures ∙ is))
 
 pub returns-clause-shelf_later : goal.returns-clause-shelf_later
 returns-clause-shelf_later g c =

@@ -49,15 +49,16 @@ loop-preserved g c =
           (untaken ends.0 ∙ sym served.held) (unwritten ends.1) (served.serves ends.0 disk ends.1) in
           let came = visit_of (g.O.Src.Source.held c.serve_standby-end.new.source) (g.O.Snk.Sink.written c.serve_standby-end.new.sink)
           (g.O.Src.Source.faults c.serve_standby-end.new.source) (g.O.Snk.Sink.faults c.serve_standby-end.new.sink) in
-          let visit : IsServedVisit c.args.header.now (copies_in g.D.Disk.reads c.loop.book) left came = record {
-            end = c.serve_standby-end.result;
+          let visit : IsServedVisit c.args.header.now (copies_in g.D.Disk.reads c.loop.book) left came c.serve_standby-end.result = record {
             served = all.0;
             answered = all.1;
             read_failed = λ is. seen_failed _ _ whole.0 (served.read_cause is);
             write_failed = λ is. seen_failed _ _ whole.1 (served.write_cause is);
           } in
           one_served g.O.Door.given g.O.Door.back c.args.header.now (copies_in g.D.Disk.reads c.args.book.now) (copies_in g.D.Disk.reads c.loop.book)
-          left c.args.door.now c.loop.door c.done.new.self came (before.served told disk) visit
+          left c.args.door.now c.loop.door c.done.new.self came c.serve_standby-end.result c.loop.wanting
+          c.is_wanting-wanting.result (before.served told disk) visit
+          c.is_wanting-wanting.ensures
           (c.done.ensures.given told ∙ is_given told) (c.done.ensures.back told ∙ ap (λ l. l ++ came ∷ []) (c.next.ensures.back told));
       count = λ told. omega (arith, before.count told, c.done.ensures.given told, is_given told);
       left = λ told. omega (

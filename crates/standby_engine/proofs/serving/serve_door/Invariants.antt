@@ -9,7 +9,7 @@ use Rattle.standby_engine.proofs.serving.serve_door.Given as goal
 abbrev pub invariant-loop : goal.invariant-loop
 invariant-loop g l = record {
   served : g.O.Door.tells → g.D.Disk.tells
-      → IsDoorServed g.O.Door.given g.O.Door.back l.header (copies_in g.D.Disk.reads l.fn.book) (copies_in g.D.Disk.reads l.book) l.fn.door l.door;
+      → IsDoorServed g.O.Door.given g.O.Door.back l.header (copies_in g.D.Disk.reads l.fn.book) (copies_in g.D.Disk.reads l.book) l.fn.door l.door l.wanting;
   count : g.O.Door.tells → g.O.Door.given l.door ≡ g.O.Door.given l.fn.door + l.counter;
   left : g.O.Door.tells → g.O.Door.left l.fn.door + g.O.Door.given l.fn.door ≡ g.O.Door.left l.door + g.O.Door.given l.door;
   lasts : g.D.Disk.tells → (own : List ℕ) (disks : List _) → AllLast g.D.Disk own disks (held_in l.fn.book) → AllLast g.D.Disk own disks (held_in l.book);
