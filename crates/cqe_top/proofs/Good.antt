@@ -501,7 +501,7 @@ pub unread_copied : (s : Scene) (files : FileNames) (task : CopiedTask) (standby
     → FaultsHaveCauses s (ends.Files end) → SameInput s.input → SameOutput s.output → KeepsDoors s.links
     → CallsNobody s.links → OfReading s (Some (reading_copied files task standby)) (ends.Files end)
 unread_copied s files (copied.Batch workers) standby end is cause input output links nobody = record {
-  told = λ name. 0;
+  told = s.shelf.told';
   ends = (is, input, output);
   succeeds = λ told in_told out_told script says shelf read write.
       read_succeeds s files (CanBeOpened (journals_of s.shelf files)) end (is.refused told) cause says shelf;
@@ -509,7 +509,7 @@ unread_copied s files (copied.Batch workers) standby end is cause input output l
   calls = nobody.exchanged;
 }
 unread_copied s files (copied.Serve listening) standby end is cause input output links nobody = record {
-  told = λ name. 0;
+  told = s.shelf.told';
   ends = (is, links);
   succeeds = λ told links_told says shelf links. read_succeeds s files (CanBeOpened (journals_of s.shelf files)) end (is.refused told) cause says shelf;
   reads_nothing = input;
@@ -570,7 +570,7 @@ nothing_begun s same nobody (Some (runs_serve files address workers sessions)) =
 nothing_begun s same nobody (Some (runs_migrate files to)) =
     record { ends = same.shelf; succeeds = λ told says shelf. inr refl; reads_nothing = same.input; writes_nothing = same.output; listens_nowhere = same.links }
 nothing_begun s same nobody (Some (runs_copied_batch files workers standby)) = record {
-  told = λ name. 0;
+  told = s.shelf.told';
   ends = (same.shelf, same.input, same.output);
   succeeds = λ told in_told out_told script says shelf read write. inr refl;
   listens_nowhere = inl same.links;
@@ -578,7 +578,7 @@ nothing_begun s same nobody (Some (runs_copied_batch files workers standby)) = r
 }
 nothing_begun s same nobody (Some (runs_copied_serve files address workers sessions standby)) =
     record {
-      told = λ name. 0;
+      told = s.shelf.told';
       ends =
           (same.shelf, same.links);
       succeeds = λ told links_told says shelf links. inr refl;
