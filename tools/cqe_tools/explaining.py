@@ -22,7 +22,8 @@ STATUSES = {
     6: "Standard input couldn't be read (cqe: read fault); nothing was answered.",
     7: "Standard output couldn't be written (cqe: write fault); a beginning of the replies was.",
     8: "The policy file or the facts file isn't there (cqe: missing NAME).",
-    9: "A file or the directory of the journals couldn't be opened (cqe: shelf fault).",
+    9: "A file or the directory of the journals couldn't be opened, or another process works on a journal (cqe: shelf "
+    "fault).",
     10: "A user's journal was refused (cqe: journal NAME CAUSE), or isn't empty where one would be moved to; batch and "
     "serve served the others, and standby copied them.",
     11: "A write or a sync of a journal failed, or a standby didn't answer for a record (cqe: disk fault).",

@@ -54,8 +54,8 @@ def shelf(said, context):
     if found:
         return Finding(said, f"{meaning} {found[0][0]}", None, found[0][1], tuple(why for why, _ in found[1:10]))
     return Finding(said, meaning, None, "look at --journals: the directory has to be there (mkdir DIR), and the "
-                   "program's account must read and write in it; a journal is a regular file; and see how many files "
-                   "may be open (ulimit -n)")
+                   "program's account must read and write in it; a journal is a regular file, on which no other "
+                   "process works; and see how many files may be open (ulimit -n)")
 
 
 def file_fault(what, name):
