@@ -2,6 +2,7 @@
 use cqe_base::schema::Schema;
 use cqe_base::sentence::Sentence;
 use std::alloc::{AllocError, Global};
+use std::process::Abort;
 use std::test::Fail;
 
 /// The domain of the persons.
@@ -24,18 +25,40 @@ fn domain(alloc: Global, name: &str, size: u32) -> Result<(String, Vec<String>),
 
 /// The schema of so many persons, so many drugs, and who takes which.
 pub fn schema(alloc: Global, persons: u32, drugs: u32) -> Result<Schema, Fail> {
-    let mut domains = Vec::new(alloc);
-    domains.push(domain(alloc, "person", persons)?)?;
-    domains.push(domain(alloc, "drug", drugs)?)?;
-    let mut columns = Vec::new(alloc);
-    columns.push(String::from_str(alloc, "person")?)?;
-    columns.push(String::from_str(alloc, "drug")?)?;
-    let mut relations = Vec::new(alloc);
-    relations.push((String::from_str(alloc, "takes")?, columns))?;
+    let domains = domains(alloc, persons, drugs)?;
+    let relations = relations(alloc)?;
     Ok(Schema::new(alloc, domains, relations)?)
 }
 
+fn domains(
+    alloc: Global,
+    persons: u32,
+    drugs: u32,
+) -> Result<Vec<(String, Vec<String>)>, AllocError> {
+    let mut domains = Vec::new(alloc);
+    domains.push(domain(alloc, "person", persons)?)?;
+    domains.push(domain(alloc, "drug", drugs)?)?;
+    Ok(domains)
+}
+
+fn relations(alloc: Global) -> Result<Vec<(String, Vec<String>)>, AllocError> {
+    let columns = columns(alloc)?;
+    let mut relations = Vec::new(alloc);
+    relations.push((String::from_str(alloc, "takes")?, columns))?;
+    Ok(relations)
+}
+
+fn columns(alloc: Global) -> Result<Vec<String>, AllocError> {
+    let mut columns = Vec::new(alloc);
+    columns.push(String::from_str(alloc, "person")?)?;
+    columns.push(String::from_str(alloc, "drug")?)?;
+    Ok(columns)
+}
+
 /// A sentence in a box.
-pub fn boxed(alloc: Global, sentence: Sentence) -> Result<Box<Sentence>, AllocError> {
-    Ok(Box::new(alloc, sentence)?)
+pub fn boxed(rt: &impl Abort, alloc: Global, sentence: Sentence) -> Box<Sentence> {
+    match Box::new(alloc, sentence) {
+        Ok(boxed) => boxed,
+        Err(_) => panic!(rt; "no memory for a sentence"),
+    }
 }

@@ -1,5 +1,5 @@
 //! Probes of the hospital's rule, with verdicts, worlds and costs that were worked out by hand.
-ghost use Rattle.std.specs.Prelude.{◌≡◌, ◌≤◌, true, nat_le, IfOk, IsTrue};
+ghost use Rattle.std.specs.Prelude.{◌≡◌, ◌≤◌, true, nat_le, IsTrue};
 ghost use Rattle.std.specs.List.{list_all};
 ghost use Rattle.cqe_base.specs.Formula.{formula_of, nodes, is_sentence_of};
 ghost use Rattle.cqe_base.specs.Entailment.{are_sentences_of};
@@ -14,6 +14,7 @@ use cqe_base::schema::Schema;
 use cqe_base::sentence::{Constant, Sentence, Term, Terms, nodes};
 use cqe_base::user::{Method, User};
 use cqe_base::well_formed::is_sentence_of;
+use cqe_base::world::{Fact, World};
 use entailment::{Certified, GroundSentence, Probe, Verdict, View, certify, confirm, test};
 use std::alloc::{AllocError, Global};
 use std::process::Abort;
@@ -43,34 +44,53 @@ fn declaration(
 
 /// Two persons, `drug(person)` and `hiv(person)`.
 fn hospital(alloc: Global) -> Result<Schema, Fail> {
-    let mut domains = Vec::new(alloc);
-    domains.push(declaration(alloc, "person", &["ann", "bob"])?)?;
-    let mut relations = Vec::new(alloc);
-    relations.push(declaration(alloc, "drug", &["person"])?)?;
-    relations.push(declaration(alloc, "hiv", &["person"])?)?;
+    let domains = domains(alloc)?;
+    let relations = relations(alloc)?;
     Ok(Schema::new(alloc, domains, relations)?)
 }
 
-fn atom(alloc: Global, relation: u32, term: Term) -> Result<Sentence, AllocError> {
-    let terms = Vec::from_array(alloc, [term])?;
-    Ok(Sentence::Atom(relation, Terms::from_vec(terms)))
+fn domains(alloc: Global) -> Result<Vec<(String, Vec<String>)>, Fail> {
+    let mut domains = Vec::new(alloc);
+    domains.push(declaration(alloc, "person", &["ann", "bob"])?)?;
+    Ok(domains)
+}
+
+fn relations(alloc: Global) -> Result<Vec<(String, Vec<String>)>, Fail> {
+    let mut relations = Vec::new(alloc);
+    relations.push(declaration(alloc, "drug", &["person"])?)?;
+    relations.push(declaration(alloc, "hiv", &["person"])?)?;
+    Ok(relations)
+}
+
+fn atom(rt: &impl Abort, alloc: Global, relation: u32, term: Term) -> Sentence {
+    match Vec::from_array(alloc, [term]) {
+        Ok(terms) => Sentence::Atom(relation, Terms::from_vec(terms)),
+        Err(_) => panic!(rt; "no memory for an atom"),
+    }
+}
+
+fn boxed(rt: &impl Abort, alloc: Global, sentence: Sentence) -> Box<Sentence> {
+    match Box::new(alloc, sentence) {
+        Ok(boxed) => boxed,
+        Err(_) => panic!(rt; "no memory for a sentence"),
+    }
 }
 
 /// A relation of a person.
-fn of(alloc: Global, relation: u32, person: u32) -> Result<Sentence, AllocError> {
+fn of(rt: &impl Abort, alloc: Global, relation: u32, person: u32) -> Sentence {
     let constant = Constant {
         domain: 0,
         index: person,
     };
-    atom(alloc, relation, Term::Constant(constant))
+    atom(rt, alloc, relation, Term::Constant(constant))
 }
 
 /// Each person who takes the drug is infected.
-fn rule(alloc: Global) -> Result<Sentence, AllocError> {
-    let drug = Box::new(alloc, atom(alloc, DRUG, Term::Place(0))?)?;
-    let hiv = Box::new(alloc, atom(alloc, HIV, Term::Place(0))?)?;
-    let body = Box::new(alloc, Sentence::Implies(drug, hiv))?;
-    Ok(Sentence::Forall(0, body))
+fn rule(rt: &impl Abort, alloc: Global) -> Sentence {
+    let drug = boxed(rt, alloc, atom(rt, alloc, DRUG, Term::Place(0)));
+    let hiv = boxed(rt, alloc, atom(rt, alloc, HIV, Term::Place(0)));
+    let body = boxed(rt, alloc, Sentence::Implies(drug, hiv));
+    Sentence::Forall(0, body)
 }
 
 /// Whether it is a sentence of the schema with few nodes.
@@ -87,12 +107,14 @@ fn ground_sentence(
     alloc: Global,
     schema: &Schema,
     sentence: Sentence,
-) -> Result<GroundSentence, AllocError>
-    ensures { IfOk result (IsGroundOver schema.now) }
+) -> GroundSentence
+    ensures { IsGroundOver schema.now result }
 {
     assert!(rt; fits(schema, &sentence));
-    let made = GroundSentence::new(alloc, schema, sentence)?;
-    Ok(made)
+    match GroundSentence::new(alloc, schema, sentence) {
+        Ok(made) => made,
+        Err(_) => panic!(rt; "no memory for a sentence"),
+    }
 }
 
 /// Whether there is no premise, or one that fits.
@@ -112,12 +134,12 @@ fn premise_fits(schema: &Schema, premise: Option<(&GroundSentence, bool)>) -> bo
 
 /// The view of a user who knows the rule.
 #[tactic(auto, unfolding(cqe_base::specs::History::known))]
-fn rule_view<'s>(rt: &impl Abort, alloc: Global, schema: &'s Schema) -> Result<View<'s>, Fail>
-    ensures schema { IfOk result (λ view. schema_of view ≡ schema.now) }
-    ensures few { IfOk result (λ view. log_nodes (schema_of view) (log_of view) ≤ 10000) }
+fn rule_view<'s>(rt: &impl Abort, alloc: Global, schema: &'s Schema) -> View<'s>
+    ensures schema { schema_of result ≡ schema.now }
+    ensures few { log_nodes (schema_of result) (log_of result) ≤ 10000 }
 {
     let user = User {
-        name: String::from_str(alloc, "eve")?,
+        name: text(rt, alloc, "eve"),
         method: Method::Lying,
         know: Vec::new(alloc),
         secrets: Vec::new(alloc),
@@ -125,11 +147,16 @@ fn rule_view<'s>(rt: &impl Abort, alloc: Global, schema: &'s Schema) -> Result<V
         budget: 10,
         token: None,
     };
-    let mut view = View::new(alloc, schema, &user)?;
-    let rule = rule(alloc)?;
+    let Ok(view) = View::new(alloc, schema, &user) else {
+        panic!(rt; "no memory for a view");
+    };
+    let mut view = view;
+    let rule = rule(rt, alloc);
     assert!(rt; fits(schema, &rule));
-    view.add(alloc, &rule, true)?;
-    Ok(view)
+    let Ok(()) = view.add(alloc, &rule, true) else {
+        panic!(rt; "no memory for a rule");
+    };
+    view
 }
 
 /// What a probe of the view finds, in words; the facts of a world by their relations and persons.
@@ -140,7 +167,7 @@ fn found(
     view: &mut View<'_>,
     probe: &Probe<'_>,
     budget: u64,
-) -> Result<String, Fail>
+) -> String
     requires schema { schema_of view.old ≡ schema.now }
     requires size { log_nodes (schema_of view.old) (log_of view.old) ≤ 30000 }
     requires grounded_premise { IsGroundPremise schema.now probe.now.premise }
@@ -152,23 +179,40 @@ fn found(
     assert!(rt; fits(schema, &goal.sentence));
     assert!(rt; premise_fits(schema, probe.premise));
     assert!(rt; budget <= 4_000_000);
-    let verdict = test(alloc, view, probe, budget)?;
-    Ok(words(alloc, &verdict)?)
+    match test(alloc, view, probe, budget) {
+        Ok(verdict) => words(rt, alloc, &verdict),
+        Err(_) => panic!(rt; "no memory for a probe"),
+    }
 }
 
 /// A verdict in words.
-fn words(alloc: Global, verdict: &Verdict) -> Result<String, AllocError> {
+fn words(rt: &impl Abort, alloc: Global, verdict: &Verdict) -> String {
     match verdict {
-        Verdict::Follows => String::from_str(alloc, "follows"),
-        Verdict::Spent => String::from_str(alloc, "spent"),
-        Verdict::Open(world) => {
-            let mut text = String::from_str(alloc, "open")?;
-            for fact in world.facts() {
-                let [person, ..] = fact.columns;
-                write!(text, " {}-{person}", fact.relation)?;
-            }
-            Ok(text)
-        }
+        Verdict::Follows => text(rt, alloc, "follows"),
+        Verdict::Spent => text(rt, alloc, "spent"),
+        Verdict::Open(world) => open_words(rt, alloc, world),
+    }
+}
+
+fn text(rt: &impl Abort, alloc: Global, word: &str) -> String {
+    match String::from_str(alloc, word) {
+        Ok(text) => text,
+        Err(_) => panic!(rt; "no memory for a word"),
+    }
+}
+
+fn open_words(rt: &impl Abort, alloc: Global, world: &World) -> String {
+    let mut text = text(rt, alloc, "open");
+    for fact in world.facts() {
+        push_fact(rt, &mut text, fact);
+    }
+    text
+}
+
+fn push_fact(rt: &impl Abort, text: &mut String, fact: &Fact) {
+    let [person, ..] = fact.columns;
+    if write!(text, " {}-{person}", fact.relation).is_err() {
+        panic!(rt; "no memory for a fact");
     }
 }
 
@@ -206,11 +250,10 @@ fn ground_of(
     schema: &Schema,
     relation: u32,
     person: u32,
-) -> Result<GroundSentence, AllocError>
-    ensures { IfOk result (IsGroundOver schema.now) }
+) -> GroundSentence
+    ensures { IsGroundOver schema.now result }
 {
-    let sentence = of(alloc, relation, person)?;
-    ground_sentence(rt, alloc, schema, sentence)
+    ground_sentence(rt, alloc, schema, of(rt, alloc, relation, person))
 }
 
 /// What a probe without a further premise finds.
@@ -221,7 +264,7 @@ fn found_alone(
     view: &mut View<'_>,
     goal: (&GroundSentence, bool),
     budget: u64,
-) -> Result<String, Fail>
+) -> String
     requires schema { schema_of view.old ≡ schema.now }
     requires size { log_nodes (schema_of view.old) (log_of view.old) ≤ 30000 }
     requires grounded { IsGroundOver schema.now goal.0.now }
@@ -244,7 +287,7 @@ fn found_behind(
     premise: (&GroundSentence, bool),
     goal: (&GroundSentence, bool),
     budget: u64,
-) -> Result<String, Fail>
+) -> String
     requires schema { schema_of view.old ≡ schema.now }
     requires size { log_nodes (schema_of view.old) (log_of view.old) ≤ 30000 }
     requires grounded_premise { IsGroundOver schema.now premise.0.now }
@@ -266,13 +309,13 @@ fn found_with(
     premise: (u32, u32, bool),
     goal: (&GroundSentence, bool),
     budget: u64,
-) -> Result<String, Fail>
+) -> String
     requires schema { schema_of view.old ≡ schema.now }
     requires size { log_nodes (schema_of view.old) (log_of view.old) ≤ 30000 }
     requires grounded { IsGroundOver schema.now goal.0.now }
 {
     let (relation, person, is_true) = premise;
-    let further = ground_of(rt, alloc, schema, relation, person)?;
+    let further = ground_of(rt, alloc, schema, relation, person);
     found_behind(rt, alloc, schema, view, (&further, is_true), goal, budget)
 }
 
@@ -284,10 +327,10 @@ fn found_in(
     goal: (&GroundSentence, bool),
     premise: Option<(u32, u32, bool)>,
     budget: u64,
-) -> Result<String, Fail>
+) -> String
     requires { IsGroundOver schema.now goal.0.now }
 {
-    let mut view = rule_view(rt, alloc, schema)?;
+    let mut view = rule_view(rt, alloc, schema);
     match premise {
         Some(premise) => found_with(rt, alloc, schema, &mut view, premise, goal, budget),
         None => found_alone(rt, alloc, schema, &mut view, goal, budget),
@@ -295,10 +338,15 @@ fn found_in(
 }
 
 /// What a case finds, with its goal ground.
-fn found_for(rt: &impl Abort, alloc: Global, schema: &Schema, case: &Case) -> Result<String, Fail> {
+fn found_for(rt: &impl Abort, alloc: Global, schema: &Schema, case: &Case) -> String {
     let (premise, (relation, person, yes), budget, _) = *case;
-    let goal = ground_of(rt, alloc, schema, relation, person)?;
+    let goal = ground_of(rt, alloc, schema, relation, person);
     found_in(rt, alloc, schema, (&goal, yes), premise, budget)
+}
+
+fn check_case(rt: &impl Abort, alloc: Global, schema: &Schema, number: usize, case: &Case) {
+    let found = found_for(rt, alloc, schema, case);
+    assert_eq!(rt; found.as_str(), case.3, "case {number}");
 }
 
 #[test]
@@ -306,57 +354,57 @@ fn worked_probes(rt: HostRuntime) -> Result<(), Fail> {
     let alloc = rt.alloc();
     let schema = hospital(alloc)?;
     for (number, case) in CASES.iter().enumerate() {
-        let found = found_for(&rt, alloc, &schema, case)?;
-        assert_eq!(rt; found.as_str(), case.3, "case {number}");
+        check_case(&rt, alloc, &schema, number, case);
     }
     Ok(())
 }
 
-/// What is found before and behind a sentence is learnt.
-fn found_twice(
+/// What is found of a goal.
+fn is_found(
+    rt: &impl Abort,
+    alloc: Global,
+    schema: &Schema,
+    view: &mut View<'_>,
+    goal: (&GroundSentence, bool),
+    expected: &str,
+)
+    requires schema { schema_of view.old ≡ schema.now }
+    requires size { log_nodes (schema_of view.old) (log_of view.old) ≤ 30000 }
+    requires grounded { IsGroundOver schema.now goal.0.now }
+    ensures schema { schema_of view.new ≡ schema_of view.old }
+    ensures log { log_of view.new ≡ log_of view.old }
+{
+    let found = found_alone(rt, alloc, schema, view, goal, 100);
+    assert_eq!(rt; found.as_str(), expected);
+}
+
+/// A goal is open before a sentence is learnt, and follows behind it.
+fn opens_then_follows(
     rt: &impl Abort,
     alloc: Global,
     schema: &Schema,
     view: &mut View<'_>,
     learnt: &Sentence,
     goal: (&GroundSentence, bool),
-) -> Result<(String, String), Fail>
+)
     requires schema { schema_of view.old ≡ schema.now }
     requires size { log_nodes (schema_of view.old) (log_of view.old) ≤ 10000 }
     requires grounded { IsGroundOver schema.now goal.0.now }
 {
-    let before = found_alone(rt, alloc, schema, view, goal, 100)?;
+    is_found(rt, alloc, schema, view, goal, "open 0-1 1-1");
     assert!(rt; fits(schema, learnt));
-    view.add(alloc, learnt, false)?;
-    let behind = found_alone(rt, alloc, schema, view, goal, 100)?;
-    Ok((before, behind))
-}
-
-/// A goal is open before something is learnt, and follows behind it.
-fn opens_then_follows(
-    rt: &impl Abort,
-    alloc: Global,
-    schema: &Schema,
-    view: &mut View<'_>,
-    goal: (&GroundSentence, bool),
-) -> Result<(), Fail>
-    requires schema { schema_of view.old ≡ schema.now }
-    requires size { log_nodes (schema_of view.old) (log_of view.old) ≤ 10000 }
-    requires grounded { IsGroundOver schema.now goal.0.now }
-{
-    let learnt = of(alloc, HIV, BOB)?;
-    let (before, behind) = found_twice(rt, alloc, schema, view, &learnt, goal)?;
-    assert_eq!(rt; before.as_str(), "open 0-1 1-1");
-    assert_eq!(rt; behind.as_str(), "follows");
+    let Ok(()) = view.add(alloc, learnt, false) else {
+        panic!(rt; "no memory for a sentence");
+    };
+    is_found(rt, alloc, schema, view, goal, "follows");
     assert_eq!(rt; view.len(), 2);
-    Ok(())
 }
 
-/// The same of a view of its own.
-fn learns(rt: &impl Abort, alloc: Global, schema: &Schema) -> Result<(), Fail> {
-    let mut view = rule_view(rt, alloc, schema)?;
-    let goal = ground_of(rt, alloc, schema, DRUG, BOB)?;
-    opens_then_follows(rt, alloc, schema, &mut view, (&goal, false))
+/// It does so in a view of its own.
+fn learns(rt: &impl Abort, alloc: Global, schema: &Schema, learnt: &Sentence) {
+    let mut view = rule_view(rt, alloc, schema);
+    let goal = ground_of(rt, alloc, schema, DRUG, BOB);
+    opens_then_follows(rt, alloc, schema, &mut view, learnt, (&goal, false));
 }
 
 /// What is learnt behind a probe counts from the next probe on.
@@ -364,18 +412,20 @@ fn learns(rt: &impl Abort, alloc: Global, schema: &Schema) -> Result<(), Fail> {
 fn views_learn_between_probes(rt: HostRuntime) -> Result<(), Fail> {
     let alloc = rt.alloc();
     let schema = hospital(alloc)?;
-    learns(&rt, alloc, &schema)
+    let learnt = of(&rt, alloc, HIV, BOB);
+    learns(&rt, alloc, &schema, &learnt);
+    Ok(())
 }
 
-/// A refutation with one line, which is empty and has this chain.
-fn one_line(alloc: Global, chain: &[u32]) -> Result<Refutation, Fail> {
-    let line = Line {
-        clause: Vec::new(alloc),
-        chain: Vec::from_slice(alloc, chain)?,
+/// A refutation with one line, which has this clause and this chain.
+fn one_line(rt: &impl Abort, alloc: Global, clause: Vec<Lit>, chain: &[u32]) -> Refutation {
+    let Ok(chain) = Vec::from_slice(alloc, chain) else {
+        panic!(rt; "no memory for a chain");
     };
-    Ok(Refutation {
-        lines: Vec::from_array(alloc, [line])?,
-    })
+    match Vec::from_array(alloc, [Line { clause, chain }]) {
+        Ok(lines) => Refutation { lines },
+        Err(_) => panic!(rt; "no memory for a line"),
+    }
 }
 
 /// Whether a refutation is confirmed for the probe with a premise.
@@ -387,7 +437,7 @@ fn is_confirmed(
     premise: (&GroundSentence, bool),
     goal: (&GroundSentence, bool),
     refutation: &Refutation,
-) -> Result<bool, Fail>
+) -> bool
     requires schema { schema_of view.old ≡ schema.now }
     requires size { log_nodes (schema_of view.old) (log_of view.old) ≤ 30000 }
     requires grounded_premise { IsGroundOver schema.now premise.0.now }
@@ -402,7 +452,10 @@ fn is_confirmed(
     let (sentence, _) = goal;
     assert!(rt; fits(schema, &sentence.sentence));
     assert!(rt; premise_fits(schema, probe.premise));
-    Ok(confirm(alloc, view, &probe, refutation)?)
+    match confirm(alloc, view, &probe, refutation) {
+        Ok(confirmed) => confirmed,
+        Err(_) => panic!(rt; "no memory to confirm"),
+    }
 }
 
 /// The refutation of the probe with a premise, at this budget, if it follows.
@@ -414,7 +467,7 @@ fn refutation_of(
     premise: (&GroundSentence, bool),
     goal: (&GroundSentence, bool),
     budget: u64,
-) -> Result<Option<Refutation>, Fail>
+) -> Option<Refutation>
     requires schema { schema_of view.old ≡ schema.now }
     requires size { log_nodes (schema_of view.old) (log_of view.old) ≤ 30000 }
     requires grounded_premise { IsGroundOver schema.now premise.0.now }
@@ -430,9 +483,17 @@ fn refutation_of(
     assert!(rt; fits(schema, &sentence.sentence));
     assert!(rt; premise_fits(schema, probe.premise));
     assert!(rt; budget <= 4_000_000);
-    match certify(alloc, view, &probe, budget)? {
-        Certified::Follows(refutation) => Ok(Some(refutation)),
-        Certified::Open(_) | Certified::Spent => Ok(None),
+    match certify(alloc, view, &probe, budget) {
+        Ok(found) => shown_by(found),
+        Err(_) => panic!(rt; "no memory for a probe"),
+    }
+}
+
+/// The refutation that a probe found, if it follows.
+fn shown_by(found: Certified) -> Option<Refutation> {
+    match found {
+        Certified::Follows(refutation) => Some(refutation),
+        Certified::Open(_) | Certified::Spent => None,
     }
 }
 
@@ -445,7 +506,125 @@ fn is_one_empty_line(refutation: &Refutation, chain: &[u32]) -> bool {
 }
 
 /// The probe of the hospital's rule and that Ann takes the drug, against her infection: what is
-/// told and what is confirmed of it.
+/// told of it.
+fn told(
+    rt: &impl Abort,
+    alloc: Global,
+    schema: &Schema,
+    view: &mut View<'_>,
+    yes: (&GroundSentence, bool),
+    goal: (&GroundSentence, bool),
+) -> Refutation
+    requires schema { schema_of view.old ≡ schema.now }
+    requires size { log_nodes (schema_of view.old) (log_of view.old) ≤ 30000 }
+    requires yes { IsGroundOver schema.now yes.0.now }
+    requires goal { IsGroundOver schema.now goal.0.now }
+    ensures schema { schema_of view.new ≡ schema_of view.old }
+    ensures log { log_of view.new ≡ log_of view.old }
+{
+    // The whole cost is 11, of which the one conflict has the clauses 12, 3, 11, 7 and 10.
+    assert!(rt; refutation_of(rt, alloc, schema, view, yes, goal, 10).is_none());
+    let Some(told) = refutation_of(rt, alloc, schema, view, yes, goal, 11) else {
+        panic!(rt; "it follows");
+    };
+    assert!(rt; is_one_empty_line(&told, &[12, 3, 11, 7, 10]));
+    told
+}
+
+/// It is right for the clauses of this probe alone, and the view is as it was each time.
+fn told_is_confirmed(
+    rt: &impl Abort,
+    alloc: Global,
+    schema: &Schema,
+    view: &mut View<'_>,
+    ann: &GroundSentence,
+    bob: &GroundSentence,
+    goal: (&GroundSentence, bool),
+    told: &Refutation,
+)
+    requires schema { schema_of view.old ≡ schema.now }
+    requires size { log_nodes (schema_of view.old) (log_of view.old) ≤ 30000 }
+    requires ann { IsGroundOver schema.now ann.now }
+    requires bob { IsGroundOver schema.now bob.now }
+    requires goal { IsGroundOver schema.now goal.0.now }
+    ensures schema { schema_of view.new ≡ schema_of view.old }
+    ensures log { log_of view.new ≡ log_of view.old }
+{
+    assert!(rt; is_confirmed(rt, alloc, schema, view, (ann, true), goal, told));
+    assert!(rt; !is_confirmed(rt, alloc, schema, view, (ann, false), goal, told));
+    assert!(rt; !is_confirmed(rt, alloc, schema, view, (bob, true), goal, told));
+    assert!(rt; is_confirmed(rt, alloc, schema, view, (ann, true), goal, told));
+}
+
+/// Whether a refutation with one line, which is empty and has this chain, is confirmed.
+fn chain_is_confirmed(
+    rt: &impl Abort,
+    alloc: Global,
+    schema: &Schema,
+    view: &mut View<'_>,
+    yes: (&GroundSentence, bool),
+    goal: (&GroundSentence, bool),
+    chain: &[u32],
+) -> bool
+    requires schema { schema_of view.old ≡ schema.now }
+    requires size { log_nodes (schema_of view.old) (log_of view.old) ≤ 30000 }
+    requires yes { IsGroundOver schema.now yes.0.now }
+    requires goal { IsGroundOver schema.now goal.0.now }
+    ensures schema { schema_of view.new ≡ schema_of view.old }
+    ensures log { log_of view.new ≡ log_of view.old }
+{
+    let line = one_line(rt, alloc, Vec::new(alloc), chain);
+    is_confirmed(rt, alloc, schema, view, yes, goal, &line)
+}
+
+/// Other refutations of that probe.
+fn others_are_tried(
+    rt: &impl Abort,
+    alloc: Global,
+    schema: &Schema,
+    view: &mut View<'_>,
+    yes: (&GroundSentence, bool),
+    goal: (&GroundSentence, bool),
+)
+    requires schema { schema_of view.old ≡ schema.now }
+    requires size { log_nodes (schema_of view.old) (log_of view.old) ≤ 30000 }
+    requires yes { IsGroundOver schema.now yes.0.now }
+    requires goal { IsGroundOver schema.now goal.0.now }
+    ensures schema { schema_of view.new ≡ schema_of view.old }
+    ensures log { log_of view.new ≡ log_of view.old }
+{
+    // Another order of the steps is right, a step that is left out isn't, nor is no line.
+    let (other, short) = ([12, 3, 7, 11, 10], [12, 3, 7, 10]);
+    assert!(rt; chain_is_confirmed(rt, alloc, schema, view, yes, goal, &other));
+    assert!(rt; !chain_is_confirmed(rt, alloc, schema, view, yes, goal, &short));
+    let none = Refutation {
+        lines: Vec::new(alloc),
+    };
+    assert!(rt; !is_confirmed(rt, alloc, schema, view, yes, goal, &none));
+}
+
+/// The last line has to be empty.
+fn unit_is_tried(
+    rt: &impl Abort,
+    alloc: Global,
+    schema: &Schema,
+    view: &mut View<'_>,
+    yes: (&GroundSentence, bool),
+    goal: (&GroundSentence, bool),
+)
+    requires schema { schema_of view.old ≡ schema.now }
+    requires size { log_nodes (schema_of view.old) (log_of view.old) ≤ 30000 }
+    requires yes { IsGroundOver schema.now yes.0.now }
+    requires goal { IsGroundOver schema.now goal.0.now }
+{
+    let Ok(clause) = Vec::from_array(alloc, [Lit::positive(1)]) else {
+        panic!(rt; "no memory for a clause");
+    };
+    let unit = one_line(rt, alloc, clause, &[11]);
+    assert!(rt; !is_confirmed(rt, alloc, schema, view, yes, goal, &unit));
+}
+
+/// What is told and what is confirmed of that probe.
 fn told_and_confirmed(
     rt: &impl Abort,
     alloc: Global,
@@ -454,55 +633,28 @@ fn told_and_confirmed(
     ann: &GroundSentence,
     bob: &GroundSentence,
     goal: &GroundSentence,
-) -> Result<(), Fail>
+)
     requires schema { schema_of view.old ≡ schema.now }
     requires size { log_nodes (schema_of view.old) (log_of view.old) ≤ 30000 }
     requires ann { IsGroundOver schema.now ann.now }
     requires bob { IsGroundOver schema.now bob.now }
     requires goal { IsGroundOver schema.now goal.now }
 {
-    // The whole cost is 11, of which the one conflict has the clauses 12, 3, 11, 7 and 10.
     let (yes, goal) = ((ann, true), (goal, true));
-    assert!(rt; refutation_of(rt, alloc, schema, view, yes, goal, 10)?.is_none());
-    let Some(told) = refutation_of(rt, alloc, schema, view, yes, goal, 11)? else {
-        panic!(rt; "it follows");
-    };
-    assert!(rt; is_one_empty_line(&told, &[12, 3, 11, 7, 10]));
-    assert!(rt; is_confirmed(rt, alloc, schema, view, yes, goal, &told)?);
-    // It is right for the clauses of this probe alone, and the view is as it was each time.
-    assert!(rt; !is_confirmed(rt, alloc, schema, view, (ann, false), goal, &told)?);
-    assert!(rt; !is_confirmed(rt, alloc, schema, view, (bob, true), goal, &told)?);
-    assert!(rt; is_confirmed(rt, alloc, schema, view, yes, goal, &told)?);
-    // Another order of the steps is right, a step that is left out isn't, nor is no line.
-    let other = one_line(alloc, &[12, 3, 7, 11, 10])?;
-    assert!(rt; is_confirmed(rt, alloc, schema, view, yes, goal, &other)?);
-    let short = one_line(alloc, &[12, 3, 7, 10])?;
-    assert!(rt; !is_confirmed(rt, alloc, schema, view, yes, goal, &short)?);
-    let none = Refutation {
-        lines: Vec::new(alloc),
-    };
-    assert!(rt; !is_confirmed(rt, alloc, schema, view, yes, goal, &none)?);
-    // The last line has to be empty.
-    let unit = Refutation {
-        lines: Vec::from_array(
-            alloc,
-            [Line {
-                clause: Vec::from_array(alloc, [Lit::positive(1)])?,
-                chain: Vec::from_slice(alloc, &[11])?,
-            }],
-        )?,
-    };
-    assert!(rt; !is_confirmed(rt, alloc, schema, view, yes, goal, &unit)?);
-    Ok(())
+    let told = told(rt, alloc, schema, view, yes, goal);
+    told_is_confirmed(rt, alloc, schema, view, ann, bob, goal, &told);
+    others_are_tried(rt, alloc, schema, view, yes, goal);
+    unit_is_tried(rt, alloc, schema, view, yes, goal);
 }
 
 #[test]
 fn refutations_are_told_and_confirmed(rt: HostRuntime) -> Result<(), Fail> {
     let alloc = rt.alloc();
     let schema = hospital(alloc)?;
-    let ann = ground_of(&rt, alloc, &schema, DRUG, ANN)?;
-    let bob = ground_of(&rt, alloc, &schema, DRUG, BOB)?;
-    let goal = ground_of(&rt, alloc, &schema, HIV, ANN)?;
-    let mut view = rule_view(&rt, alloc, &schema)?;
-    told_and_confirmed(&rt, alloc, &schema, &mut view, &ann, &bob, &goal)
+    let ann = ground_of(&rt, alloc, &schema, DRUG, ANN);
+    let bob = ground_of(&rt, alloc, &schema, DRUG, BOB);
+    let goal = ground_of(&rt, alloc, &schema, HIV, ANN);
+    let mut view = rule_view(&rt, alloc, &schema);
+    told_and_confirmed(&rt, alloc, &schema, &mut view, &ann, &bob, &goal);
+    Ok(())
 }
