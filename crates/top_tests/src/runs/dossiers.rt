@@ -8,7 +8,7 @@ use std::alloc::{AllocError, Global};
 use std::test::Fail;
 use workload::make;
 
-const DOSSIER: [&str; 9] = [
+pub(super) const DOSSIER: [&str; 9] = [
     "dossier",
     "--policy",
     "p",
@@ -20,7 +20,7 @@ const DOSSIER: [&str; 9] = [
     "eve",
 ];
 
-const CHECK: [&str; 7] = ["check", "--policy", "p", "--facts", "f", "--user", "eve"];
+pub(super) const CHECK: [&str; 7] = ["check", "--policy", "p", "--facts", "f", "--user", "eve"];
 
 // The dossier of eve before she asks, and behind an ask that was told no, worked out by hand.
 const EMPTY: &str = "dossier 1 eve lying open\nadmission\nopen -\ndone 0\n";

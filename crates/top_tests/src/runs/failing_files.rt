@@ -1,5 +1,6 @@
 //! Runs of `init` and `audit` in each of which one call of one object fails, and of all commands
 //! over files where the complaints fail.
+use super::dossiers::{CHECK, DOSSIER};
 use super::failing::{CALLS, are_empty, failing, told, ward_by};
 use super::serve::SERVE;
 use super::ward::{BATCH, FACTS, INIT, JOURNALS, POLICY, init, journal_bytes, shelf_of};
@@ -17,6 +18,30 @@ const AUDIT: [&str; 9] = [
     "d",
     "--user",
     "eve",
+];
+
+const MIGRATE: [&str; 9] = [
+    "migrate",
+    "--policy",
+    "p",
+    "--facts",
+    "f",
+    "--journals",
+    "d",
+    "--to",
+    "e",
+];
+
+const STANDBY: [&str; 9] = [
+    "standby",
+    "--policy",
+    "p",
+    "--facts",
+    "f",
+    "--journals",
+    "d",
+    "--listen",
+    "127.0.0.1:9",
 ];
 
 // The calls of an empty disk are its length, a sync, the write and a sync. Those before kim are
@@ -173,7 +198,9 @@ fn a_beginning_of_an_audit_is_written(rt: HostRuntime) -> Result<(), Fail> {
 fn complaints_may_fail_at_any_call(rt: HostRuntime) -> Result<(), Fail> {
     let alloc = rt.alloc();
     let whole = "cqe: missing p\n";
-    let commands: [&[&str]; 4] = [&INIT, &BATCH, &AUDIT, &SERVE];
+    let commands: [&[&str]; 8] = [
+        &INIT, &BATCH, &AUDIT, &SERVE, &MIGRATE, &DOSSIER, &CHECK, &STANDBY,
+    ];
     for words in commands {
         for call in 0..CALLS {
             let run = Run::new(
