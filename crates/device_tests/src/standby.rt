@@ -40,7 +40,7 @@ const DAMAGES: [(Damage, StandbyEnd); 23] = [
     (Damage::Set(72, 33), StandbyEnd::BadFrame),
     (Damage::Set(73, 255), StandbyEnd::BadFrame),
     (Damage::Set(84, 0), StandbyEnd::BadFrame),
-    (Damage::Set(84, 9), StandbyEnd::BadFrame),
+    (Damage::Set(84, 6), StandbyEnd::BadFrame),
     (Damage::Set(85, 17), StandbyEnd::BadFrame),
     (Damage::SetAndCut(8, 1, 20), StandbyEnd::OtherHeader),
 ];
