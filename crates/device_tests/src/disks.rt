@@ -1,74 +1,159 @@
 ghost use Rattle.std.specs.Prelude.{[], ◌^◌};
 
+use crate::checks;
 use outside::{Disk, Failed, MemoryDisk, Operation, Plan};
+use std::alloc::{AllocError, Global};
+use std::process::Abort;
 use std::test::Fail;
+
+// A call of a disk, and what it has to answer.
+pub(crate) enum Step {
+    Length(Result<u64, Failed>),
+    // Three bytes from this place on, or those that there are.
+    Read(u64, &'static [u8]),
+    Write(u64, &'static [u8]),
+    Sync(Result<(), Failed>),
+}
+
+// Makes a call, and answers whether it answers as it has to.
+fn answers(disk: &mut MemoryDisk, step: &Step) -> bool {
+    match step {
+        Step::Length(want) => disk.length() == *want,
+        Step::Read(at, want) => reads(disk, *at, want),
+        Step::Write(at, bytes) => writes(disk, *at, bytes),
+        Step::Sync(want) => disk.sync() == *want,
+    }
+}
+
+// Whether a read from this place of the disk on gives these bytes.
+fn reads(disk: &mut MemoryDisk, at: u64, want: &[u8]) -> bool {
+    let mut piece = [0; 3];
+    if at > disk.bytes().len() as u64 {
+        return false;
+    }
+    match disk.read_at(at, &mut piece) {
+        Ok(count) => &piece[..count] == want,
+        Err(Failed) => false,
+    }
+}
+
+// Whether these bytes are written from this place of the disk on.
+fn writes(disk: &mut MemoryDisk, at: u64, bytes: &[u8]) -> bool {
+    at <= disk.bytes().len() as u64 && disk.write_at(at, bytes).is_ok()
+}
+
+// Makes these calls, one after the other.
+pub(crate) fn play(rt: &impl Abort, disk: &mut MemoryDisk, steps: &[Step]) {
+    for (number, step) in steps.iter().enumerate() {
+        assert!(rt; answers(disk, step), "call {number}");
+    }
+}
+
+// Checks what a crash leaves in the picture of this number.
+fn check_image(
+    rt: &impl Abort,
+    alloc: Global,
+    disk: &MemoryDisk,
+    number: u64,
+    want: &[u8],
+) -> Result<(), AllocError> {
+    let image = disk.crash_image(alloc, number)?;
+    assert_eq!(rt; image.as_slice(), want, "picture {number}");
+    Ok(())
+}
+
+// A disk of three bytes of which these calls fail.
+fn disk_of_three(alloc: Global, plan: Plan) -> Result<MemoryDisk, AllocError> {
+    MemoryDisk::with_plan(alloc, vec![in alloc; 1, 2, 3]?, plan)
+}
+
+// An empty disk of which these calls fail.
+fn empty_disk(alloc: Global, plan: Plan) -> Result<MemoryDisk, AllocError> {
+    MemoryDisk::with_plan(alloc, Vec::new(alloc), plan)
+}
+
+const SYNC: [Step; 1] = [Step::Sync(Ok(()))];
+
+const READS: [Step; 5] = [
+    Step::Write(2, &[7, 8]),
+    Step::Read(1, &[2, 7, 8]),
+    Step::Read(3, &[8]),
+    Step::Read(4, &[]),
+    Step::Length(Ok(4)),
+];
 
 #[test]
 fn a_disk_reads_what_was_written(rt: HostRuntime) -> Result<(), Fail> {
     let alloc = rt.alloc();
-    let mut disk = MemoryDisk::new(alloc, vec![in alloc; 1, 2, 3]?)?;
-    disk.write_at(2, &[7, 8])?;
-    let mut piece = [0; 3];
-    assert_eq!(rt; disk.read_at(1, &mut piece), Ok(3));
-    assert_eq!(rt; piece, [2, 7, 8]);
-    assert_eq!(rt; disk.read_at(3, &mut piece), Ok(1));
-    assert_eq!(rt; disk.read_at(4, &mut piece), Ok(0));
-    assert_eq!(rt; disk.length(), Ok(4));
-    let before = disk.crash_image(alloc, 0)?;
-    assert_eq!(rt; before.as_slice(), [1, 2, 3].as_slice());
-    disk.sync()?;
-    let after = disk.crash_image(alloc, 0)?;
-    assert_eq!(rt; after.as_slice(), [1, 2, 7, 8].as_slice());
-    assert_eq!(rt; disk.calls().len(), 6);
+    let mut disk = disk_of_three(alloc, Plan::Never)?;
+    play(&rt, &mut disk, &READS);
+    check_image(&rt, alloc, &disk, 0, &[1, 2, 3])?;
+    play(&rt, &mut disk, &SYNC);
+    check_image(&rt, alloc, &disk, 0, &[1, 2, 7, 8])?;
+    checks::count(&rt, "calls", disk.calls().len(), 6);
     Ok(())
 }
+
+const TORN: [Step; 2] = [Step::Write(1, &[7, 8, 9]), Step::Sync(Err(Failed))];
+
+// What is left of three bytes that were written over the last two of three, in the picture of each
+// number.
+const PICTURES: [(u64, &[u8]); 6] = [
+    (0, &[1, 2, 3]),
+    (1, &[1, 7, 8, 9]),
+    (2, &[1, 0, 0, 0]),
+    (27, &[1, 5, 5, 5]),
+    (8, &[1, 7, 3]),
+    (34, &[1, 7, 8, 9, 6, 6, 6, 6, 6, 6, 6, 6]),
+];
 
 #[test]
 fn a_crash_tears_what_was_not_synced(rt: HostRuntime) -> Result<(), Fail> {
     let alloc = rt.alloc();
-    let plan = Plan::At(vec![in alloc; 1]?);
-    let mut disk = MemoryDisk::with_plan(alloc, vec![in alloc; 1, 2, 3]?, plan)?;
-    disk.write_at(1, &[7, 8, 9])?;
-    assert_eq!(rt; disk.sync(), Err(Failed));
-    let cases: [(u64, &[u8]); 6] = [
-        (0, &[1, 2, 3]),
-        (1, &[1, 7, 8, 9]),
-        (2, &[1, 0, 0, 0]),
-        (27, &[1, 5, 5, 5]),
-        (8, &[1, 7, 3]),
-        (34, &[1, 7, 8, 9, 6, 6, 6, 6, 6, 6, 6, 6]),
-    ];
-    for (number, want) in cases {
-        let image = disk.crash_image(alloc, number)?;
-        assert_eq!(rt; image.as_slice(), want, "picture {number}");
+    let mut disk = disk_of_three(alloc, Plan::At(vec![in alloc; 1]?))?;
+    play(&rt, &mut disk, &TORN);
+    for (number, want) in &PICTURES {
+        check_image(&rt, alloc, &disk, *number, want)?;
     }
-    disk.sync()?;
-    let image = disk.crash_image(alloc, 34)?;
-    assert_eq!(rt; image.as_slice(), [1, 7, 8, 9].as_slice());
+    play(&rt, &mut disk, &SYNC);
+    check_image(&rt, alloc, &disk, 34, &[1, 7, 8, 9])?;
     Ok(())
 }
+
+// The second call and the fourth fail.
+const TWO_FAIL: [Step; 5] = [
+    Step::Write(0, &[5]),
+    Step::Sync(Err(Failed)),
+    Step::Sync(Ok(())),
+    Step::Length(Err(Failed)),
+    Step::Length(Ok(1)),
+];
+
+// All fail from the second on.
+const ALL_FAIL: [Step; 3] = [
+    Step::Write(0, &[5]),
+    Step::Sync(Err(Failed)),
+    Step::Length(Err(Failed)),
+];
 
 #[test]
 fn the_named_calls_fail(rt: HostRuntime) -> Result<(), Fail> {
     let alloc = rt.alloc();
-    let mut disk = MemoryDisk::with_plan(alloc, Vec::new(alloc), Plan::At(vec![in alloc; 1, 3]?))?;
-    assert_eq!(rt; disk.write_at(0, &[5]), Ok(()));
-    assert_eq!(rt; disk.sync(), Err(Failed));
-    assert_eq!(rt; disk.sync(), Ok(()));
-    assert_eq!(rt; disk.length(), Err(Failed));
-    assert_eq!(rt; disk.length(), Ok(1));
-    let mut stopping = MemoryDisk::with_plan(alloc, Vec::new(alloc), Plan::From(1))?;
-    assert_eq!(rt; stopping.write_at(0, &[5]), Ok(()));
-    assert_eq!(rt; stopping.sync(), Err(Failed));
-    assert_eq!(rt; stopping.length(), Err(Failed));
-    assert_eq!(rt; stopping.faults(), 2);
-    let kinds = stopping
-        .calls()
+    let mut disk = empty_disk(alloc, Plan::At(vec![in alloc; 1, 3]?))?;
+    play(&rt, &mut disk, &TWO_FAIL);
+    let mut stopping = empty_disk(alloc, Plan::From(1))?;
+    play(&rt, &mut stopping, &ALL_FAIL);
+    checks::faults(&rt, stopping.faults(), 2);
+    checks::count(&rt, "failed", failed_beside_syncs(&stopping), 1);
+    Ok(())
+}
+
+// How many calls failed that aren't syncs.
+fn failed_beside_syncs(disk: &MemoryDisk) -> usize {
+    disk.calls()
         .iter()
         .filter(|call| call.failed && !matches!(call.operation, Operation::Sync))
-        .count();
-    assert_eq!(rt; kinds, 1);
-    Ok(())
+        .count()
 }
 
 // A disk of which clauses aren't told anything, as one over a real file is.

@@ -1,21 +1,28 @@
-ghost use Rattle.std.specs.Prelude.{[], None};
+ghost use Rattle.std.specs.Prelude.{◌≡◌, ◌<◌, ◌+◌, ◌^◌, [], None, OnOk};
+ghost use Rattle.outside.specs.MemoryLinks.{links_dialling};
 
+use crate::checks;
 use outside::{
-    Connection, Dial, Door, Failed, Links, LinksError, MemoryDial, MemoryDoor, MemoryLinks,
-    MemorySink, MemorySource, Plan, Sink, Source, write_all,
+    Connection, Dial, Door, DoorBack, Failed, Links, LinksError, MemoryDial, MemoryDoor,
+    MemoryLinks, MemorySink, MemorySource, Plan, Sink, Source, write_all,
 };
 use std::alloc::{AllocError, Global};
 use std::process::Abort;
 use std::test::Fail;
 
 // Connections whose clients send one byte each, from this one on.
-fn connections(alloc: Global, first: u8, count: u8) -> Result<Vec<Connection>, Fail> {
+fn connections(alloc: Global, first: u8, count: u8) -> Result<Vec<Connection>, AllocError> {
     let mut all = Vec::new(alloc);
     for number in 0..count {
-        let source = MemorySource::new(vec![in alloc; first.wrapping_add(number)]?);
-        all.push(Connection::new(source, MemorySink::new(alloc)))?;
+        all.push(connection(alloc, first.wrapping_add(number))?)?;
     }
     Ok(all)
+}
+
+// A connection whose client sends this byte.
+fn connection(alloc: Global, byte: u8) -> Result<Connection, AllocError> {
+    let source = MemorySource::new(vec![in alloc; byte]?);
+    Ok(Connection::new(source, MemorySink::new(alloc)))
 }
 
 // Answers the next connection with the byte that its client sent, and answers whether one came.
@@ -35,14 +42,19 @@ fn echo_next<D: Door>(door: &mut D) -> Result<bool, Failed> {
 
 // Checks that these doors got back connections with these bytes, each of them answered.
 fn check_back(rt: &impl Abort, links: &MemoryLinks, want: &[&[u8]]) {
-    assert_eq!(rt; links.doors_back().len(), want.len());
+    checks::count(rt, "doors", links.doors_back().len(), want.len());
     for (door, bytes) in links.doors_back().iter().zip(want) {
-        assert_eq!(rt; door.given(), bytes.len());
-        assert_eq!(rt; door.finished().len(), bytes.len());
-        for (finished, byte) in door.finished().iter().zip(bytes.iter()) {
-            assert_eq!(rt; finished.source.held(), [*byte].as_slice());
-            assert_eq!(rt; finished.sink.bytes(), [*byte].as_slice());
-        }
+        check_door(rt, door, bytes);
+    }
+}
+
+// The same of one door.
+fn check_door(rt: &impl Abort, door: &DoorBack, bytes: &[u8]) {
+    checks::count(rt, "given", door.given(), bytes.len());
+    checks::count(rt, "finished", door.finished().len(), bytes.len());
+    for (finished, byte) in door.finished().iter().zip(bytes.iter()) {
+        checks::bytes(rt, "held", finished.source.held(), &[*byte]);
+        checks::bytes(rt, "answered", finished.sink.bytes(), &[*byte]);
     }
 }
 
@@ -59,28 +71,40 @@ fn echo_all<D: Door>(door: &mut D) -> bool {
     false
 }
 
+// Opens two doors, answers their connections, those of the first door first, and gives the doors
+// back.
+fn serve_two(rt: &impl Abort, alloc: Global, links: &mut MemoryLinks) -> Result<(), LinksError> {
+    let mut doors = links.listen(alloc, "here", 2)?;
+    let mut second = doors.pop().expect(rt, "a second door");
+    let mut first = doors.pop().expect(rt, "a first door");
+    assert!(rt; echo_all(&mut first));
+    echo_three(rt, &mut second);
+    links.take_back(first);
+    links.take_back(second);
+    Ok(())
+}
+
+// Answers the connections of a door, and checks that there were three and that it came to its end.
+fn echo_three(rt: &impl Abort, door: &mut MemoryDoor) {
+    assert!(rt; echo_all(door));
+    assert_eq!(rt; door.left(), 0);
+    assert_eq!(rt; door.ends(), 1);
+    assert_eq!(rt; door.finished().len(), 3);
+}
+
 #[test]
 fn connections_are_spread_over_doors(rt: HostRuntime) -> Result<(), Fail> {
     let alloc = rt.alloc();
     let mut links = MemoryLinks::new(alloc, connections(alloc, b'a', 5)?);
-    let mut doors = links.listen(alloc, "here", 2)?;
-    let mut second = doors.pop().expect(&rt, "a second door");
-    let mut first = doors.pop().expect(&rt, "a first door");
-    assert!(rt; echo_all(&mut first));
-    assert!(rt; echo_all(&mut second));
-    assert_eq!(rt; second.left(), 0);
-    assert_eq!(rt; second.ends(), 1);
-    assert_eq!(rt; second.finished().len(), 3);
-    links.take_back(first);
-    links.take_back(second);
+    serve_two(&rt, alloc, &mut links)?;
     check_back(&rt, &links, &[b"ab", b"cde"]);
-    assert_eq!(rt; links.left(), 0);
-    assert_eq!(rt; links.faults(), 0);
+    checks::count(&rt, "left", links.left(), 0);
+    checks::faults(&rt, links.faults(), 0);
     Ok(())
 }
 
 // Opens one door, answers its connections as far as it gives them, and gives it back.
-fn serve_one(rt: &impl Abort, alloc: Global, links: &mut MemoryLinks) -> Result<bool, Fail> {
+fn serve_one(rt: &impl Abort, alloc: Global, links: &mut MemoryLinks) -> Result<bool, LinksError> {
     let mut doors = links.listen(alloc, "", 1)?;
     let mut door = doors.pop().expect(rt, "a door");
     let ended = echo_all(&mut door);
@@ -88,24 +112,39 @@ fn serve_one(rt: &impl Abort, alloc: Global, links: &mut MemoryLinks) -> Result<
     Ok(ended)
 }
 
-#[test]
-fn what_was_not_given_comes_through_the_next_doors(rt: HostRuntime) -> Result<(), Fail> {
-    let alloc = rt.alloc();
+// Links of three connections that fail at the first call, and whose first door fails at its second.
+fn failing_links(alloc: Global) -> Result<MemoryLinks, AllocError> {
     let plan = Plan::At(vec![in alloc; 0]?);
     let mut door_plans = Vec::new(alloc);
     door_plans.push(Plan::At(vec![in alloc; 1]?))?;
     let all = connections(alloc, b'a', 3)?;
-    let mut links = MemoryLinks::with_plans(alloc, all, plan, door_plans);
-    assert_eq!(rt; links.listen(alloc, "", 1).err(), Some(LinksError::Failed));
-    assert_eq!(rt; links.faults(), 1);
-    assert_eq!(rt; serve_one(&rt, alloc, &mut links)?, false);
-    assert_eq!(rt; links.left(), 2);
-    assert_eq!(rt; links.faults(), 2);
-    assert_eq!(rt; serve_one(&rt, alloc, &mut links)?, true);
+    Ok(MemoryLinks::with_plans(alloc, all, plan, door_plans))
+}
+
+#[test]
+fn what_was_not_given_comes_through_the_next_doors(rt: HostRuntime) -> Result<(), Fail> {
+    let alloc = rt.alloc();
+    let mut links = failing_links(alloc)?;
+    check_served(&rt, alloc, &mut links, Err(LinksError::Failed));
+    checks::faults(&rt, links.faults(), 1);
+    check_served(&rt, alloc, &mut links, Ok(false));
+    checks::count(&rt, "left", links.left(), 2);
+    checks::faults(&rt, links.faults(), 2);
+    check_served(&rt, alloc, &mut links, Ok(true));
     check_back(&rt, &links, &[b"a", b"bc"]);
-    assert_eq!(rt; links.left(), 0);
-    assert_eq!(rt; links.faults(), 2);
+    checks::count(&rt, "left", links.left(), 0);
+    checks::faults(&rt, links.faults(), 2);
     Ok(())
+}
+
+// Checks whether one door comes to its end.
+fn check_served(
+    rt: &impl Abort,
+    alloc: Global,
+    links: &mut MemoryLinks,
+    want: Result<bool, LinksError>,
+) {
+    assert_eq!(rt; serve_one(rt, alloc, links), want);
 }
 
 #[test]
@@ -113,8 +152,8 @@ fn a_door_of_its_own_fails_by_its_plan(rt: HostRuntime) -> Result<(), Fail> {
     let alloc = rt.alloc();
     let mut door = MemoryDoor::with_plan(alloc, connections(alloc, b'a', 3)?, Plan::From(1))?;
     assert!(rt; !echo_all(&mut door));
-    assert_eq!(rt; door.left(), 2);
-    assert_eq!(rt; door.faults(), 1);
+    checks::count(&rt, "left", door.left(), 2);
+    checks::faults(&rt, door.faults(), 1);
     let mut door = MemoryDoor::new(alloc, Vec::new(alloc))?;
     assert!(rt; echo_all(&mut door));
     assert!(rt; echo_all(&mut door));
@@ -184,46 +223,82 @@ fn doors_may_be_untold(rt: HostRuntime) -> Result<(), Fail> {
     Ok(())
 }
 
+// Dials, of which each may be hung up.
+fn dial(links: &mut MemoryLinks, alloc: Global, name: &str) -> Result<MemoryDial, AllocError>
+    ensures { OnOk result (links_dialling links.new ≡ links_dialling links.old + 1) }
+{
+    let dial = links.dial(alloc, "127.0.0.1:7008", name)?;
+    Ok(dial)
+}
+
+fn hang_up(links: &mut MemoryLinks, dial: MemoryDial)
+    requires { 0 < links_dialling links.old }
+    ensures { links_dialling links.old ≡ links_dialling links.new + 1 }
+{
+    links.hang_up(dial);
+}
+
+// Exchanges a frame, and checks what is answered.
+fn check_exchange(
+    rt: &impl Abort,
+    dial: &mut MemoryDial,
+    frame: &[u8],
+    above: u64,
+    want: Result<u64, Failed>,
+)
+    requires { above + 1 < 2 ^ 64 }
+{
+    assert_eq!(rt; dial.exchange(frame, above), want, "{frame:?}");
+}
+
+// Dials three times, and hangs the dials up in that order once all have exchanged frames.
+fn exchange_by_three(
+    rt: &impl Abort,
+    alloc: Global,
+    links: &mut MemoryLinks,
+) -> Result<(), AllocError> {
+    let mut first = dial(links, alloc, "anna.journal")?;
+    let mut second = dial(links, alloc, "bert.journal")?;
+    let mut third = dial(links, alloc, "anna.journal")?;
+    check_exchange(rt, &mut first, b"ab", 4, Ok(5));
+    check_exchange(rt, &mut first, b"cd", 5, Err(Failed));
+    check_exchange(rt, &mut first, b"cd", 5, Ok(6));
+    check_exchange(rt, &mut second, b"ef", 0, Err(Failed));
+    check_exchange(rt, &mut third, b"gh", u64::MAX - 2, Ok(u64::MAX - 1));
+    hang_up(links, first);
+    hang_up(links, second);
+    hang_up(links, third);
+    Ok(())
+}
+
+// The names, the faults and the answered frames of the dials, in the order in which they were hung
+// up.
+const DIALS: [(&str, u64, &[u8]); 3] = [
+    ("anna.journal", 1, b"abcd"),
+    ("bert.journal", 1, b""),
+    ("anna.journal", 0, b"gh"),
+];
+
 #[test]
 fn dials_are_answered_by_plan(rt: HostRuntime) -> Result<(), Fail> {
     let alloc = rt.alloc();
     let mut links = MemoryLinks::new(alloc, Vec::new(alloc));
     links.plan_dials(vec![in alloc; Plan::At(vec![in alloc; 1]?), Plan::From(0)]?);
-    let mut first = links.dial(alloc, "127.0.0.1:7008", "anna.journal")?;
-    let mut second = links.dial(alloc, "127.0.0.1:7008", "bert.journal")?;
-    let mut third = links.dial(alloc, "127.0.0.1:7008", "anna.journal")?;
-    assert_eq!(rt; first.exchange(b"ab", 4), Ok(5));
-    assert_eq!(rt; first.exchange(b"cd", 5), Err(Failed));
-    assert_eq!(rt; first.exchange(b"cd", 5), Ok(6));
-    assert_eq!(rt; second.exchange(b"ef", 0), Err(Failed));
-    assert_eq!(rt; third.exchange(b"gh", u64::MAX - 2), Ok(u64::MAX - 1));
-    links.hang_up(first);
-    links.hang_up(second);
-    links.hang_up(third);
-    assert_eq!(rt; links.faults(), 0);
+    exchange_by_three(&rt, alloc, &mut links)?;
+    checks::faults(&rt, links.faults(), 0);
     let back = links.dials_back();
-    assert_eq!(rt; back.len(), 3);
-    assert_eq!(rt; back.first().map(MemoryDial::name), Some("anna.journal"));
-    assert_eq!(rt; back.first().map(MemoryDial::faults), Some(1));
-    assert_eq!(rt;
-        frames_of(alloc, back.first())?.as_slice(),
-        b"abcd".as_slice()
-    );
-    assert_eq!(rt; back.get(1).map(MemoryDial::name), Some("bert.journal"));
-    assert_eq!(rt; back.get(1).map(MemoryDial::faults), Some(1));
-    assert_eq!(rt; frames_of(alloc, back.get(1))?.as_slice(), b"".as_slice());
-    assert_eq!(rt; back.get(2).map(MemoryDial::name), Some("anna.journal"));
-    assert_eq!(rt; back.get(2).map(MemoryDial::faults), Some(0));
-    assert_eq!(rt; frames_of(alloc, back.get(2))?.as_slice(), b"gh".as_slice());
+    checks::count(&rt, "dials", back.len(), 3);
+    for (dial, (name, faults, frames)) in back.iter().zip(&DIALS) {
+        checks::bytes(&rt, "name", dial.name().as_bytes(), name.as_bytes());
+        checks::faults(&rt, dial.faults(), *faults);
+        checks::bytes(&rt, "frames", &frames_of(alloc, dial)?, frames);
+    }
     Ok(())
 }
 
 // The frames that a dial was answered, one behind the other.
-fn frames_of(alloc: Global, dial: Option<&MemoryDial>) -> Result<Vec<u8>, AllocError> {
+fn frames_of(alloc: Global, dial: &MemoryDial) -> Result<Vec<u8>, AllocError> {
     let mut frames = Vec::new(alloc);
-    let Some(dial) = dial else {
-        return Ok(frames);
-    };
     for one in dial.exchanges() {
         frames.extend_from_slice(one.frame.as_slice())?;
     }

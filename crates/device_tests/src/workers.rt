@@ -2,6 +2,7 @@ ghost use Rattle.std.specs.Prelude.{◌≡◌, ◌≤◌, ◌+◌, true, All, No
 ghost use Rattle.std.proofs.Common.{refl, ◌∙◌};
 ghost use Rattle.std.proofs.lemmas.List.Elements.{All-nil};
 
+use crate::checks;
 use outside::{
     Connection, Links, MemoryDoor, MemoryLinks, MemorySink, MemorySource, Plan, Sink, Source,
     write_all,
@@ -114,19 +115,29 @@ fn check_greeted(rt: &impl Abort, crew: &[Worker<Greeter, MemoryDoor>], below: u
     let mut seen = [false; 1000];
     let mut all = 0usize;
     for worker in crew {
-        assert_eq!(rt; worker.door.finished().len(), worker.job.numbers.len());
-        for finished in worker.door.finished() {
-            assert_eq!(rt; finished.sink.bytes(), b"hello\n".as_slice());
-        }
-        for number in &worker.job.numbers {
-            let number = *number as usize;
-            assert!(rt; number < below && number < 1000);
-            assert!(rt; !seen[number]);
-            seen[number] = true;
-            all = all.wrapping_add(1);
-        }
+        check_door(rt, &worker.door, worker.job.numbers.len());
+        check_numbers(rt, &worker.job.numbers, below, &mut seen);
+        all = all.wrapping_add(worker.job.numbers.len());
     }
     all
+}
+
+// Checks that a door gave so many connections back, each of them greeted.
+fn check_door(rt: &impl Abort, door: &MemoryDoor, count: usize) {
+    assert_eq!(rt; door.finished().len(), count);
+    for finished in door.finished() {
+        assert_eq!(rt; finished.sink.bytes(), b"hello\n".as_slice());
+    }
+}
+
+// Checks that these numbers are below this one and weren't seen yet, and marks them.
+fn check_numbers(rt: &impl Abort, numbers: &[u64], below: usize, seen: &mut [bool; 1000]) {
+    for number in numbers {
+        let number = *number as usize;
+        assert!(rt; number < below && number < 1000);
+        assert!(rt; !seen[number]);
+        seen[number] = true;
+    }
 }
 
 // How many workers ended so.
@@ -140,8 +151,8 @@ fn ended(crew: &[Worker<Greeter, MemoryDoor>], end: WorkerEnd) -> usize {
 fn eight_workers_serve_two_hundred_connections(rt: HostRuntime) -> Result<(), Fail> {
     let mut links = MemoryLinks::new(rt.alloc(), connections(rt.alloc(), 200)?);
     let crew = serve(&rt, rt.alloc(), &mut links, 8, 1000)?;
-    assert_eq!(rt; check_greeted(&rt, &crew, 208), 200);
-    assert_eq!(rt; ended(&crew, WorkerEnd::LinksEnded), 8);
+    checks::count(&rt, "greeted", check_greeted(&rt, &crew, 208), 200);
+    checks::count(&rt, "ended", ended(&crew, WorkerEnd::LinksEnded), 8);
     Ok(())
 }
 
@@ -153,8 +164,8 @@ fn workers_stop_at_the_limit(rt: HostRuntime) -> Result<(), Fail> {
     assert!(rt; all <= 50 && all > 42);
     assert!(rt; ended(&crew, WorkerEnd::LimitReached) > 0);
     let crew = serve(&rt, rt.alloc(), &mut links, 1, 0)?;
-    assert_eq!(rt; check_greeted(&rt, &crew, 0), 0);
-    assert_eq!(rt; ended(&crew, WorkerEnd::LimitReached), 1);
+    checks::count(&rt, "greeted", check_greeted(&rt, &crew, 0), 0);
+    checks::count(&rt, "ended", ended(&crew, WorkerEnd::LimitReached), 1);
     Ok(())
 }
 
@@ -165,8 +176,8 @@ fn a_worker_ends_where_its_door_fails(rt: HostRuntime) -> Result<(), Fail> {
     door_plans.push(Plan::At(vec![in alloc; 1]?))?;
     let mut links = MemoryLinks::with_plans(alloc, connections(alloc, 6)?, Plan::Never, door_plans);
     let crew = serve(&rt, rt.alloc(), &mut links, 2, 100)?;
-    assert_eq!(rt; check_greeted(&rt, &crew, 100), 4);
-    assert_eq!(rt; ended(&crew, WorkerEnd::LinksFailed), 1);
-    assert_eq!(rt; ended(&crew, WorkerEnd::LinksEnded), 1);
+    checks::count(&rt, "greeted", check_greeted(&rt, &crew, 100), 4);
+    checks::count(&rt, "ended", ended(&crew, WorkerEnd::LinksFailed), 1);
+    checks::count(&rt, "ended", ended(&crew, WorkerEnd::LinksEnded), 1);
     Ok(())
 }
