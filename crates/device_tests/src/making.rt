@@ -154,8 +154,8 @@ fn shelf_of_bob(alloc: Global, bytes: Vec<u8>, plan: Plan) -> Result<MemoryShelf
     Ok(shelf)
 }
 
-// What stands behind the header on bob's disk, between two that are empty, how it ends, and what the
-// disks show then.
+// What stands behind the header on bob's disk, between two that are empty, how it ends, and what
+// the disks show then.
 const FOUND: [(&[u8], InitEnd, &[u8]); 5] = [
     (&[0], InitEnd::Done, &[0, 255, 0, 255, 0, 255]),
     (
