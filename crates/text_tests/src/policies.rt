@@ -1,6 +1,6 @@
 //! What stands in a policy, and a facts file at its limit. Refusals and the other limits are scenes
 //! of `rehearsals`.
-use cqe_base::schema::Schema;
+use cqe_base::schema::{Domain, Relation, Schema};
 use cqe_base::sentence::Sentence;
 use cqe_base::user::{Method, User};
 use cqe_base::well_formed::is_sentence_of;
@@ -8,7 +8,6 @@ use policy_files::{Policy, read_policy};
 use sentence_text::print_sentence;
 use std::alloc::{AllocError, Global};
 use std::process::Abort;
-use std::test::Fail;
 
 mod facts;
 
@@ -115,30 +114,60 @@ fn word(method: Method) -> &'static str {
     }
 }
 
+/// Appends a blank and a word.
+fn push_word(text: &mut String, word: &str) -> Result<(), AllocError> {
+    text.push_str(" ")?;
+    text.push_str(word)
+}
+
+/// Writes a domain with its constants.
+fn write_domain(text: &mut String, domain: &Domain) -> Result<(), AllocError> {
+    text.push_str(domain.name.as_str())?;
+    text.push_str(":")?;
+    for constant in &domain.constants {
+        push_word(text, constant.as_str())?;
+    }
+    text.push_str("\n")
+}
+
+/// Writes a relation with the numbers of its columns' domains.
+fn write_relation(text: &mut String, relation: &Relation) -> Result<(), AllocError> {
+    text.push_str(relation.name.as_str())?;
+    text.push_str(":")?;
+    for column in &relation.columns {
+        write!(text, " {column}")?;
+    }
+    text.push_str("\n")
+}
+
 /// Writes what a schema declares.
-fn write_schema(alloc: Global, text: &mut String, schema: &Schema) -> Result<(), AllocError> {
+fn write_schema(text: &mut String, schema: &Schema) -> Result<(), AllocError> {
     for domain in schema.domains() {
-        text.push_str(domain.name.as_str())?;
-        text.push_str(":")?;
-        for constant in &domain.constants {
-            text.push_str(" ")?;
-            text.push_str(constant.as_str())?;
-        }
-        text.push_str("\n")?;
+        write_domain(text, domain)?;
     }
     for relation in schema.relations() {
-        text.push_str(relation.name.as_str())?;
-        text.push_str(":")?;
-        for column in &relation.columns {
-            let number = format!(in alloc; " {column}")?;
-            text.push_str(number.as_str())?;
-        }
-        text.push_str("\n")?;
+        write_relation(text, relation)?;
     }
     Ok(())
 }
 
-/// Writes sentences in their canonical form, each behind a word.
+/// Writes a sentence in its canonical form, behind a word.
+fn write_sentence(
+    rt: &impl Abort,
+    alloc: Global,
+    text: &mut String,
+    schema: &Schema,
+    word: &str,
+    sentence: &Sentence,
+) -> Result<(), AllocError> {
+    assert!(rt; is_sentence_of(schema, sentence));
+    let printed = print_sentence(alloc, schema, sentence)?;
+    text.push_str(word)?;
+    push_word(text, printed.as_str())?;
+    text.push_str("\n")
+}
+
+/// Writes sentences, each behind a word.
 fn write_sentences(
     rt: &impl Abort,
     alloc: Global,
@@ -146,16 +175,19 @@ fn write_sentences(
     schema: &Schema,
     word: &str,
     sentences: &[Sentence],
-) -> Result<(), Fail> {
+) -> Result<(), AllocError> {
     for sentence in sentences {
-        assert!(rt; is_sentence_of(schema, sentence));
-        let printed = print_sentence(alloc, schema, sentence)?;
-        text.push_str(word)?;
-        text.push_str(" ")?;
-        text.push_str(printed.as_str())?;
-        text.push_str("\n")?;
+        write_sentence(rt, alloc, text, schema, word, sentence)?;
     }
     Ok(())
+}
+
+/// A user's token in hexadecimal digits, or a stroke.
+fn token_of(alloc: Global, user: &User) -> Result<String, AllocError> {
+    match &user.token {
+        Some(token) => hex::encode(alloc, *token),
+        None => String::from_str(alloc, "-"),
+    }
 }
 
 /// Writes a user.
@@ -165,39 +197,45 @@ fn write_user(
     text: &mut String,
     schema: &Schema,
     user: &User,
-) -> Result<(), Fail> {
-    let token = match &user.token {
-        Some(token) => hex::encode(alloc, *token)?,
-        None => String::from_str(alloc, "-")?,
-    };
-    let name = user.name.as_str();
-    let method = word(user.method);
-    let budget = user.budget;
-    let head = format!(in alloc; "{name} {method} {budget} {}\n", token.as_str())?;
-    text.push_str(head.as_str())?;
+) -> Result<(), AllocError> {
+    let (name, method, budget) = (user.name.as_str(), word(user.method), user.budget);
+    write!(text, "{name} {method} {budget}")?;
+    let token = token_of(alloc, user)?;
+    push_word(text, token.as_str())?;
+    text.push_str("\n")?;
     write_sentences(rt, alloc, text, schema, "know", user.know.as_slice())?;
     write_sentences(rt, alloc, text, schema, "secret", user.secrets.as_slice())
 }
 
 /// What stands in a policy.
-fn said(rt: &impl Abort, alloc: Global, policy: &Policy) -> Result<String, Fail> {
+fn said(rt: &impl Abort, alloc: Global, policy: &Policy) -> Result<String, AllocError> {
     let mut text = String::new(alloc);
-    write_schema(alloc, &mut text, &policy.schema)?;
+    write_schema(&mut text, &policy.schema)?;
     for user in &policy.users {
         write_user(rt, alloc, &mut text, &policy.schema, user)?;
     }
     Ok(text)
 }
 
-#[test]
-fn policies_say_what_stands_in_them(rt: HostRuntime) -> Result<(), Fail> {
-    let alloc = rt.alloc();
-    for (text, wanted) in [(POLICY, SAID), (TURNED, TURNED_SAID)] {
-        let Ok(policy) = read_policy(alloc, text.as_bytes()) else {
-            panic!(rt; "refused");
-        };
-        let found = said(&rt, alloc, &policy)?;
-        assert_eq!(rt; found.as_str(), wanted);
+/// A policy that is read.
+fn policy_of(rt: &impl Abort, alloc: Global, text: &str) -> Policy {
+    match read_policy(alloc, text.as_bytes()) {
+        Ok(policy) => policy,
+        Err(_) => panic!(rt; "refused"),
     }
-    Ok(())
+}
+
+fn check_policy(rt: &impl Abort, alloc: Global, text: &str, wanted: &str) {
+    let policy = policy_of(rt, alloc, text);
+    match said(rt, alloc, &policy) {
+        Ok(found) => assert_eq!(rt; found.as_str(), wanted),
+        Err(_) => panic!(rt; "no memory for what it says"),
+    }
+}
+
+#[test]
+fn policies_say_what_stands_in_them(rt: HostRuntime) {
+    let alloc = rt.alloc();
+    check_policy(&rt, alloc, POLICY, SAID);
+    check_policy(&rt, alloc, TURNED, TURNED_SAID);
 }
