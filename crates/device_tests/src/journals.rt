@@ -458,8 +458,8 @@ fn check_stop(rt: &impl Abort, alloc: Global, stop: u64, picture: u64) -> Result
 }
 
 // Two records are appended to a journal whose disk stops at this call. It answers the disk and how
-// many of them were acknowledged. A tail of an earlier crash stands behind the closed gate: a record
-// and an open gate with another record, which nothing may bring back.
+// many of them were acknowledged. A tail of an earlier crash stands behind the closed gate: a
+// record and an open gate with another record, which nothing may bring back.
 fn stopped(alloc: Global, stop: u64) -> Result<(MemoryDisk, usize), AllocError> {
     let mut bytes = with_header(alloc, b"\0\x02\0\x09drug(eve)")?;
     bytes.extend_from_slice(&FROM_THE_GATE)?;

@@ -4,8 +4,8 @@
 //! They call the libraries as any other crate does. A module is named for what it tests: `streams`,
 //! `disks`, `shelves` and `links` of `outside`, `turns` of `turnstile`, `workers` of `worker_pool`,
 //! `journals` of `log_journal`, `standby` of `standby_core`, `making` of `init_engine`. Bytes,
-//! calls and orders that are compared were worked out by hand. Helpers promise nothing that no
-//! caller needs, so that a test carries none of the long contracts below it.
+//! calls and orders that are compared were worked out by hand. What tests share promises nothing
+//! that no caller needs, so that a test carries none of the long contracts below it.
 #![tactic(auto)]
 
 #[cfg(test)]
