@@ -168,8 +168,8 @@ fn a_user_who_is_refused_has_one_line(rt: HostRuntime) {
     );
 }
 
-/// The secrecies of a user: one with a world of two facts and one of none, and one that is spent and
-/// has a world of one fact.
+/// The secrecies of a user: one with a world of two facts and one of none, and one that is spent
+/// and has a world of one fact.
 fn secrecies(rt: &impl Abort, alloc: Global) -> Vec<SecrecyRow> {
     let two = texts(rt, alloc, &["a()", "c(d, e)"]);
     let first = secrecy(rt, alloc, "a()", Some(two), Some(Vec::new(alloc)));
