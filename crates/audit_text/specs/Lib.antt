@@ -1,4 +1,0 @@
-pub mod Said
-pub mod Text
-pub mod Json
-pub mod Rows

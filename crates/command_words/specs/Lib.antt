@@ -1,4 +1,0 @@
-pub mod Uses
-pub mod Numbers
-pub mod Readings
-pub mod Matched

@@ -1,5 +1,0 @@
-use Rattle.cqe_base.proofs.ClauseLaws.{numbered_facts_are_few}
-use Rattle.cqe_base.proofs.machine_laws.law_numbered_facts_are_few.Goals as goal
-
-pub returns : goal.returns
-returns c = numbered_facts_are_few

@@ -1,6 +1,0 @@
-pub mod Seats
-pub mod Crew
-pub mod Registered
-pub mod Shelved
-pub mod Openings
-pub mod Side

@@ -1,4 +1,0 @@
-pub mod Additions
-pub mod Digits
-pub mod Lines
-pub mod Numbers

@@ -1,9 +1,0 @@
-pub mod Words
-pub mod Dimacs
-pub mod Refuses
-pub mod Sound
-pub mod Inside
-pub mod CnfInside
-pub mod Printed
-pub mod Reads
-pub mod Ends

@@ -1,4 +1,0 @@
-pub mod Telling
-pub mod Showing
-pub mod Reading
-pub mod Checking

@@ -1,6 +1,0 @@
-pub mod Shown
-pub mod Ends
-pub mod Accepted
-pub mod Input
-pub mod Checks
-pub mod Said

@@ -1,4 +1,0 @@
-pub mod Reasons
-pub mod Visiting
-pub mod Apart
-pub mod Running

@@ -1,3 +1,0 @@
-pub mod Moves
-pub mod Stops
-pub mod Ends

@@ -1,6 +1,0 @@
-pub mod Filled
-pub mod Choices
-pub mod Quantifiers
-pub mod Printed
-pub mod Refusing
-pub mod Grids

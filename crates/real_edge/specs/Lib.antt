@@ -1,4 +1,0 @@
-pub mod Kept
-pub mod Counts
-pub mod Links
-pub mod Refusals

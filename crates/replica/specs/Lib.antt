@@ -1,2 +1,0 @@
-pub mod Replica
-pub mod Standby

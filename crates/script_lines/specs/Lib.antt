@@ -1,4 +1,0 @@
-pub mod Scripts
-pub mod Lines
-pub mod Read
-pub mod Silence

@@ -1,4 +1,0 @@
-pub mod Counting
-pub mod Tallies
-pub mod Outputs
-pub mod Runs

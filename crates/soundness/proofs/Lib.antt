@@ -1,2 +1,0 @@
-pub mod Sounding
-pub mod Marking

@@ -1,5 +1,0 @@
-pub mod History
-pub mod Views
-pub mod Rule
-pub mod Plays
-pub mod Passes

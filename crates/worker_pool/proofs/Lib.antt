@@ -1,5 +1,0 @@
-pub mod Sums
-pub mod Keeps
-pub mod Running
-pub mod Seating
-pub mod Serving

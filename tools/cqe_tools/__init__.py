@@ -1,1 +1,0 @@
-"""What the tools share: they read the files of cqe as docs/FORMATS.md says, and explain its codes."""
