@@ -1,4 +1,5 @@
 pub mod Batches
+pub mod Events
 pub mod Courses
 pub mod Along
 pub mod Seating
@@ -11,5 +12,6 @@ pub mod Posts
 pub mod Ordering
 pub mod Ending
 pub mod Failing
+pub mod Faulting
 pub mod Joining
 pub mod Crossing

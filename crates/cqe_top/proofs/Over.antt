@@ -28,6 +28,9 @@ use Rattle.init_engine.specs.Ends.{Change, EndsInit}
 use Rattle.init_engine.specs.declared.end.InitEnd.{InitEnd}
 use Rattle.init_engine.specs.declared.end.InitEnd.TheVariants as init_end
 use Rattle.log_journal.specs.Names.{journal_name}
+use Rattle.log_journal.specs.Opening.{IsRefused, IsRefusedOld}
+use Rattle.log_journal.specs.declared.header.OpenError.{OpenError}
+use Rattle.log_journal.specs.declared.header.OpenError.TheVariants.{DiskFault}
 use Rattle.log_journal.specs.declared.header.Header.{Header}
 use Rattle.migrate_engine.specs.Ends.{EndsMigrate}
 use Rattle.migrate_engine.specs.declared.end.MigrateEnd.{MigrateEnd}
@@ -40,10 +43,11 @@ use Rattle.serve_engine.specs.declared.run.ServeEnd.{ServeEnd}
 use Rattle.standby_engine.specs.Standing as standing
 use Rattle.standby_engine.specs.declared.run.CopyEnd.{CopyEnd}
 use Rattle.cqe_top.specs.Files.{TouchesOnlyJournals, CountsOnlyJournals, journals_of, new_users}
-use Rattle.cqe_top.specs.Init.{change_on, NamesOneOf}
+use Rattle.cqe_top.specs.Init.{NamesOneOf}
 use Rattle.cqe_top.specs.Migrate.{CountsOnlyBoth, IsAtOneOf}
 use Rattle.cqe_top.specs.Scene.{shelf_of}
 use Rattle.cqe_top.proofs.Users.{names_are, batch_names_are, new_users_are}
+use Rattle.cqe_top.specs.Files.{change_on}
 
 module _ {F D : Type 0} (Shelf : ShelfGhosts F D) (Disk : DiskGhosts D) (old mid new : F)
     (disks : SameNames (Shelf.disk old) (Shelf.disk mid)) (counts : SameNames (Shelf.disk_faults old) (Shelf.disk_faults mid)) where
@@ -59,7 +63,7 @@ module _ {F D : Type 0} (Shelf : ShelfGhosts F D) (Disk : DiskGhosts D) (old mid
     -- the journals are the same
     pub same_journals : journals_of (shelf_of Shelf Disk mid new) files ≡ journals_of (shelf_of Shelf Disk old new) files
     same_journals =
-        λ i. journals_by Disk.reads Disk.image Disk.moment Disk.image_since Disk.told files.directory (λ name. disks name i) (Shelf.disk new)
+        λ i. journals_by Disk.reads Disk.image Disk.moment Disk.image_since Disk.tellable files.directory (λ name. disks name i) (Shelf.disk new)
         (λ name. counts name i)
         (Shelf.disk_faults new)
 
@@ -286,6 +290,16 @@ init_caused told Disk header directory names change made ended = (
   λ is. let stops = subst (λ m. EndsInit told Disk header directory names change m) is ended in (journal_name directory stops.1.name, stops.1.reason),
 )
 
+-- and so where a journal is refused for a fault of its disk
+pub init_refused : {D : Type 0} (told : Type 0) (Disk : DiskGhosts D) (header directory : List ℕ) (names : List Text)
+    (change : Change D) (made : InitEnd)
+    → EndsInit told Disk header directory names change made
+    → (user : ℕ) (why : OpenError) → made ≡ init_end.Refused user why → why ≡ DiskFault → SomeRose change.before change.now
+init_refused told Disk header directory names change made ended user why is fault =
+    let stops = subst (λ m. EndsInit told Disk header directory names change m) is ended in
+    let own = journal_name directory stops.name in
+    (own, subst (IsRefused told header (bytes_on Disk.reads (change.old own)) (change.before own) (change.now own)) fault stops.reason.2)
+
 -- so is one at whose disks the moving of journals stopped
 pub at_one_of : {D : Type 0} (told : Type 0) (Disk : DiskGhosts D) (header from to : List ℕ) (users others : List User)
     (change : Change D) (made : MigrateEnd)
@@ -308,3 +322,12 @@ migrate_caused told Disk header from to names change made ended = (
   λ is. (subst (λ m. EndsMigrate told Disk header from to names change m) is ended).1.reason,
   λ is. let stops = subst (λ m. EndsMigrate told Disk header from to names change m) is ended in (journal_name to stops.1.name, stops.1.reason.1),
 )
+
+pub migrate_refused : {D : Type 0} (told : Type 0) (Disk : DiskGhosts D) (header from to : List ℕ) (names : List Text)
+    (change : Change D) (made : MigrateEnd)
+    → EndsMigrate told Disk header from to names change made
+    → (user : ℕ) (why : OpenError) → made ≡ migrate_end.Refused user why → why ≡ DiskFault → SomeRose change.before change.now
+migrate_refused told Disk header from to names change made ended user why is fault =
+    let stops = subst (λ m. EndsMigrate told Disk header from to names change m) is ended in
+    let own = journal_name from stops.name in
+    (own, subst (IsRefusedOld told header (bytes_on Disk.reads (change.old own)) (change.before own) (change.now own)) fault stops.reason.1)

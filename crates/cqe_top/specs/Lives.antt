@@ -11,8 +11,8 @@ use Rattle.batch_engine.specs.Batch.{EndsBatch}
 use Rattle.batch_engine.specs.Joining.{BatchesJoin, CutBatchesJoin, LateBatchesJoin}
 use Rattle.batch_engine.specs.declared.run.BatchEnd.{BatchEnd}
 use Rattle.command_words.specs.Readings.{Reading, FileNames, reading_of, runs_batch, runs_audit}
-use Rattle.command_words.specs.Readings.{runs_serve, runs_dossier, runs_copied_batch}
-use Rattle.command_words.specs.Readings.{runs_copied_serve}
+use Rattle.command_words.specs.Readings.{runs_serve, runs_dossier, runs_mirrored_batch}
+use Rattle.command_words.specs.Readings.{runs_mirrored_serve}
 use Rattle.policy_files.specs.Policies.{PolicyUser, PolicyValue}
 use Rattle.cqe_top.specs.declared.end.CommandEnd.TheVariants as command_end
 use Rattle.cqe_top.specs.Files.{both, said_on, SayOn, journals_of, new_users}
@@ -61,21 +61,20 @@ BatchCallsJoin s complaints s' complaints' =
 
 -- ---- calls of several kinds, with the histories that they leave
 
--- a crash may leave these bytes of the journal of a name as the call ends, or could at a moment of
--- it
+-- a crash may leave these bytes of the journal of a name: as the call ends, or at a moment of it
 abbrev pub IsLeft : Journals → Text → List ℕ → Type 0
 IsLeft journals name left = journals.image name left
     ⊎ ((begun : ℕ) × (journals.began name ≡ Some begun) × journals.since name begun left)
 
 module _ (journals : Journals) (policy : PolicyValue) (world : FactSet) (header : List ℕ) where
-  -- what a crash left of a user's journal it could leave as the call began; or the call is a part
-  -- of his history, which left it
+  -- These bytes of a user's journal a crash could leave as the call began; or the call is a part of
+  -- his history, and they are what that part leaves.
   abbrev pub LeavesPart : PolicyUser → List ℕ → Type 0
   LeavesPart user left = journals.image_before user.name left
       ⊎ ((span : Span) × (span.left ≡ left)
       × IsSpanOver policy.schema world user.profile header (journals.bytes user.name) span)
 
-  -- all journals were kept; or so it is with whatever a crash leaves of each user's
+  -- all journals were kept; or this holds of whatever bytes a crash leaves of a user's journal
   abbrev pub LeavesParts : Type 0
   LeavesParts = KeepsJournals journals
       ⊎ AllByRecursion (λ user. (left : List ℕ) → IsLeft journals user.name left
@@ -88,8 +87,8 @@ UsesJournals files (Some (runs_batch its workers)) = its ≡ files
 UsesJournals files (Some (runs_audit its user json)) = its ≡ files
 UsesJournals files (Some (runs_serve its address workers limit)) = its ≡ files
 UsesJournals files (Some (runs_dossier its user)) = its ≡ files
-UsesJournals files (Some (runs_copied_batch its workers standby)) = its ≡ files
-UsesJournals files (Some (runs_copied_serve its address workers limit standby)) = its ≡ files
+UsesJournals files (Some (runs_mirrored_batch its workers standby)) = its ≡ files
+UsesJournals files (Some (runs_mirrored_serve its address workers limit standby)) = its ≡ files
 UsesJournals files reading = ⊥
 
 -- Whatever `top` promised of a call that uses the journals of files that can be read, it is to each

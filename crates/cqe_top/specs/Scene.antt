@@ -7,11 +7,11 @@
 -- does is said by the type of the object. Those in memory tell all. Those of the system tell
 -- nothing that is proved, so of them each such clause is what holds as far as the system does what
 -- the object in memory does.
-use Rattle.std.specs.Prelude.{◌≡◌, ℕ, ◌≤◌, Bool, List, Option}
+use Rattle.std.specs.Prelude.{◌≡◌, ℕ, ◌≤◌, Bool, List, [], ◌∷◌, ◌++◌, Option}
 use Rattle.outside.specs.Dials.{Exchange}
 use Rattle.outside.specs.Faults.{Rose}
 use Rattle.outside.specs.Shelf.{SameNames}
-use Rattle.outside.specs.Visits.{Visit, Place}
+use Rattle.outside.specs.Visits.{Visit, DoorPlace, door_place_of}
 use Rattle.outside.specs.declared.disk.Disk.{Ghosts as DiskGhosts}
 use Rattle.outside.specs.declared.links.Links.{Ghosts as LinksGhosts}
 use Rattle.outside.specs.declared.shelf.Shelf.{Ghosts as ShelfGhosts}
@@ -105,8 +105,8 @@ pub record LinksScene : Type 1 where
   pub ended : ℕ
   pub ended' : ℕ
   -- where the links listened, in order
-  pub listened : List Place
-  pub listened' : List Place
+  pub listened : List DoorPlace
+  pub listened' : List DoorPlace
   -- their count of faults
   pub faults : Count
   -- how many dials aren't hung up
@@ -173,7 +173,7 @@ shelf_of {F} {D} Shelf Disk old new = record {
   is_out' = Shelf.is_out new;
   disk_faults = Shelf.disk_faults old;
   disk_faults' = Shelf.disk_faults new;
-  told' = λ name. told_on Disk.told (Shelf.disk new name);
+  told' = λ name. told_on Disk.tellable (Shelf.disk new name);
   faults = record { before = Shelf.faults old; now = Shelf.faults new };
   Object = F;
   object = old;
@@ -246,6 +246,10 @@ SameDisks shelf =
 -- links are the same in every respect
 abbrev pub SameLinks : LinksScene → Type 0
 SameLinks links = links.object' ≡ links.object
+
+-- the links listened once more, at this address and with so many doors
+abbrev pub ListensAt : LinksScene → Text → ℕ → Type 0
+ListensAt links address doors = links.listened' ≡ links.listened ++ door_place_of address doors ∷ []
 
 -- nobody was called by a dial that was hung up
 pub record CallsNobody (links : LinksScene) : Type 0 where

@@ -3,10 +3,12 @@ pub mod Shelving
 pub mod Placing
 pub mod Reopening
 pub mod Owning
+pub mod Hearing
 pub mod Taking
 pub mod Asking
 pub mod Seated
 pub mod Rising
+pub mod Faulting
 pub mod Lasting
 pub mod Giving
 pub mod Crossing

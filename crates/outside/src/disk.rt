@@ -2,6 +2,7 @@
 ghost use Rattle.std.specs.Prelude.{◌≡◌, ◌⊎◌, ◌<◌, ◌≤◌, ◌+◌, ◌^◌, List, ℕ, length, IfOk, OnOk};
 ghost use Rattle.std.specs.Prelude.{OnErr};
 ghost use Rattle.outside.specs.Disk.{Holds, Fills, Torn, Follows, Only, Elapses};
+ghost use Rattle.outside.specs.Disk.{HearsNoMore, HearsAtMost};
 ghost use Rattle.outside.specs.Faults.{HasCause};
 
 use crate::Failed;
@@ -34,7 +35,11 @@ pub trait Disk {
 
     /// The marks of the records with lower numbers may be told. No call lowers it. A disk that
     /// nothing copies lets all be told.
-    ghost told: { Self → ℕ };
+    ghost tellable: { Self → ℕ };
+
+    /// Something was told of this record with this number, its kind and its text. Of a disk that
+    /// nothing copies nothing ever is.
+    ghost heard: { Self → ℕ → ℕ × List ℕ → Type 0 };
 
     /// What says where it comes from, of which its shelf knows by its name. No call changes it.
     ghost origin: { Self → List (List ℕ) };
@@ -48,7 +53,8 @@ pub trait Disk {
             (image_since self.new) }
         ensures moments { (c : List ℕ) → image_since self.new (moment self.old) c
             → image self.old c }
-        ensures told { told self.old ≤ told self.new }
+        ensures tellable { tellable self.old ≤ tellable self.new }
+        ensures heard { HearsNoMore (heard self.old) (heard self.new) }
         ensures origin { origin self.new ≡ origin self.old }
         ensures cause { HasCause (faults self.old) (faults self.new) result };
 
@@ -65,7 +71,8 @@ pub trait Disk {
             (image_since self.new) }
         ensures moments { (c : List ℕ) → image_since self.new (moment self.old) c
             → image self.old c }
-        ensures told { told self.old ≤ told self.new }
+        ensures tellable { tellable self.old ≤ tellable self.new }
+        ensures heard { HearsNoMore (heard self.old) (heard self.new) }
         ensures origin { origin self.new ≡ origin self.old }
         ensures cause { HasCause (faults self.old) (faults self.new) result };
 
@@ -81,7 +88,8 @@ pub trait Disk {
             (image_since self.new) }
         ensures moments { (c : List ℕ) → image_since self.new (moment self.old) c
             → image self.old c ⊎ image self.new c }
-        ensures told { told self.old ≤ told self.new }
+        ensures tellable { tellable self.old ≤ tellable self.new }
+        ensures heard { HearsNoMore (heard self.old) (heard self.new) }
         ensures origin { origin self.new ≡ origin self.old }
         ensures cause { HasCause (faults self.old) (faults self.new) result };
 
@@ -94,21 +102,23 @@ pub trait Disk {
             (image_since self.new) }
         ensures moments { (c : List ℕ) → image_since self.new (moment self.old) c
             → image self.old c }
-        ensures told { told self.old ≤ told self.new }
+        ensures tellable { tellable self.old ≤ tellable self.new }
+        ensures heard { HearsNoMore (heard self.old) (heard self.new) }
         ensures origin { origin self.new ≡ origin self.old }
         ensures cause { HasCause (faults self.old) (faults self.new) result };
 
     /// Sees to it that the mark of the record of this number, from 0, may be told. The caller gives
-    /// its kind and its text, and no clause says that they are those of the record that lies there.
-    /// A disk that is copied elsewhere answers Ok once it was answered a count above the number.
-    /// The disk stays as it is.
+    /// its kind and its text, and has to see to it that they are those of the record that lies
+    /// there. A disk that is copied elsewhere answers Ok once it was answered a count above the
+    /// number. The disk stays as it is.
     fn tell(&mut self, number: u64, kind: u8, text: &[u8]) -> Result<(), Failed>
         requires low { 1 ≤ kind }
         requires high { kind ≤ 5 }
         requires short { length text.now ≤ 4096 }
         requires few { number + 1 < 2 ^ 64 }
-        ensures may_be_told { OnOk result (number < told self.new) }
-        ensures told { told self.old ≤ told self.new }
+        ensures may_be_told { OnOk result (number < tellable self.new) }
+        ensures tellable { tellable self.old ≤ tellable self.new }
+        ensures heard { HearsAtMost number (kind, text.now) (heard self.old) (heard self.new) }
         ensures origin { origin self.new ≡ origin self.old }
         ensures reads { reads self.new ≡ reads self.old }
         ensures images { (c : List ℕ) → image self.new c → image self.old c }

@@ -8,7 +8,7 @@ use Rattle.std.proofs.lemmas.List.Sums.{sum_by-append}
 use Rattle.std.proofs.lemmas.List.Elements.{All-head, All-tail, All-from_recursion}
 use Rattle.outside.proofs.Rises.{rose_wide}
 use Rattle.outside.proofs.Taken.{taken_reads, taken_images, Rests, taken_rests, began_rests}
-use Rattle.outside.specs.Shelf.{bytes_on, image_on, since_on}
+use Rattle.outside.specs.Shelf.{SomeRose, bytes_on, image_on, since_on}
 use Rattle.outside.specs.Disk.{Elapses}
 use Rattle.outside.specs.declared.disk.Disk.{Ghosts as DiskGhosts}
 use Rattle.outside.specs.Visits.{Visit, one_if_any}
@@ -38,26 +38,30 @@ use Rattle.desk_counter.proofs.Pairs.{history_all, items_all}
 use Rattle.turnstile.specs.Passes.{seen, mine, turns}
 use Rattle.desk_counter.specs.Counters.{first_pairs}
 use Rattle.desk_crew.specs.Crew.{IsSeatAsOpened, IsClosed, refusal_of, seat_user, seat_journal, seat_kept, seat_standing, seat_history, seat_disk, seat_broke}
-use Rattle.desk_crew.specs.Crew.{seat_state, IsLeft}
+use Rattle.desk_crew.specs.Crew.{seat_state, IsLeftOpen}
 use Rattle.desk_crew.proofs.Shelving.{left_on}
 use Rattle.desk_crew.specs.Seats.{DeskSeat}
-use Rattle.desk_crew.specs.Shelved.{Journals, journals, journals_by, told_on, StandsAllAlong, AreLater, AreOwn, IsSeatOf, AreSeatsOf, IsBack, AreBack}
+use Rattle.desk_crew.specs.Shelved.{Journals, journals, journals_by, told_on, StandsAllAlong, AreLater, AreOwn, SeatsThere, IsSeatOf, AreSeatsOf}
+use Rattle.desk_crew.specs.Shelved.{IsBack, AreBack}
+use Rattle.log_journal.specs.Walk.{AreThere}
 use Rattle.desk_crew.specs.Registered.{registered_journals}
 use Rattle.desk_crew.proofs.Giving.{CanGive, AreGiven, AllReturned}
 use Rattle.desk_crew.proofs.Taking.{AllSeated, seats_can, all_returned}
 use Rattle.desk_crew.proofs.Lasting.{taken_moment, holds_within, stands_along}
+use Rattle.desk_crew.proofs.Rising.{some_rose, any_failed}
 use Rattle.session_core.specs.Members.{AreDesksOf, HasSeenLegal, HaveSeenLegal}
 use Rattle.session_core.proofs.Replying.{last_none}
-use Rattle.serve_engine.specs.Served.{member_broke, SessionMarks, entries_told, failures_told, items_told}
+use Rattle.serve_engine.specs.Served.{Served, member_broke, SessionMarks, entries_told, failures_told, items_told}
 use Rattle.serve_engine.specs.Members.{OwnMore, own_at}
 use Rattle.serve_engine.specs.Doors.{AreServedDoors, SomeFailed, HasOutcome}
 use Rattle.serve_engine.specs.Serving.{HasServed, HaveServed, AreAllTold, ServesDoors, EndsDoors, IsDone, IsBroken, end_of}
 use Rattle.serve_engine.specs.declared.serving.Outcome.{Outcome}
 use Rattle.serve_engine.specs.declared.serving.Outcome.TheVariants as outcome
 use Rattle.serve_engine.specs.declared.run.ServeEnd.TheVariants.{LinksFault}
+use Rattle.serve_engine.proofs.Apart.{served_still, apart_own}
 use Rattle.serve_engine.proofs.Owning.{own_weight, told_weight, weigh_more}
 use Rattle.serve_engine.proofs.Weighing.{kept_weight, failed_weight, kept_pairs_weigh, none_failed, failed_last, kept_told, failed_told}
-use Rattle.serve_engine.specs.Sharing.{seat_counter, seat_pass, seat_member, IsSeatOn, AreSeatsOn, AreAllIn}
+use Rattle.serve_engine.specs.Sharing.{seat_counter, seat_pass, seat_member, IsSeatOn, AreSeatsOn, AreAllIn, IsServedAt}
 
 module _ (schema : DatabaseSchema) (world : FactSet) (user : UserProfile) (header bytes : List ℕ) (T : Type 0) (t : T) where
   -- a cause that is told is one for all, and a count that rose within a longer time rose in it
@@ -113,12 +117,12 @@ module _ (schema : DatabaseSchema) (world : FactSet) (header directory : List �
   all_along : (user : User) (old new : DeskSeat D g h) → Opened user old → IsSeatOn old new → Back new
       → (seat_kept new).schema ≡ schema → (seat_kept new).world ≡ world → (seat_kept new).header ≡ header
       → length (seat_kept new).opening ≤ length (seat_history new)
-      → StandsAllAlong (journals_by Disk.reads Disk.image Disk.moment Disk.image_since Disk.told directory disk disk' count count') (string_bytes user.name)
+      → StandsAllAlong (journals_by Disk.reads Disk.image Disk.moment Disk.image_since Disk.tellable directory disk disk' count count') (string_bytes user.name)
       (not (is_sealed (seat_standing new)))
       (OpensWithin schema world (seat_kept new).user header (length (seat_kept new).opening)
       (seat_history new ++ option_to_list (flying (pairs_of_sole new.desk))))
   all_along user old new opened on back schema_is world_is header_is more =
-      stands_along (journals_by Disk.reads Disk.image Disk.moment Disk.image_since Disk.told directory disk disk' count count') (string_bytes user.name)
+      stands_along (journals_by Disk.reads Disk.image Disk.moment Disk.image_since Disk.tellable directory disk disk' count count') (string_bytes user.name)
       (is_sealed (seat_standing new)) (Kind schema world header) (Disk.moment opened.taken) (Disk.moment (seat_disk old)) (Disk.moment closed)
       (Disk.moment back.now) (Disk.image_since opened.taken)
       (Disk.image_since (seat_disk old)) (Disk.image_since closed) (Disk.image opened.taken) (Disk.image closed)
@@ -161,7 +165,7 @@ module _ (schema : DatabaseSchema) (world : FactSet) (header directory : List �
   module _ (valid : is_valid_schema schema ≡ true) (hide : LegalHistoriesHide) where
     -- one user
     has_served : (user : User) (old new : DeskSeat D g h) → KeepsLimits schema (profile_of user) → Opened user old → IsSeatOn old new → Back new
-        → HasServed schema world header (journals_by Disk.reads Disk.image Disk.moment Disk.image_since Disk.told directory disk disk' count count') user
+        → HasServed schema world header (journals_by Disk.reads Disk.image Disk.moment Disk.image_since Disk.tellable directory disk disk' count count') user
         (seat_member new) old.refusal
     has_served user old new limits opened on back =
         let name : Text = journal_name directory (string_bytes user.name) in
@@ -235,8 +239,8 @@ module _ (schema : DatabaseSchema) (world : FactSet) (header directory : List �
               let read_now = ap length (ap (bytes_on Disk.reads) held ∙ left.reads_same) in
               let read_first = ap length (ap (λ (f : Fixed D). Disk.reads f.disk) kept ∙ opened.left.reads_same ∙ read_was) in
               omega (arith, grown, read_now, read_first);
-          told = subst (λ o. length (seat_history new) ≤ told_on Disk.told o) (sym held)
-              (let most : length (seat_history new) ≤ Disk.told back.left.closed = closed.told t in omega (arith, most, left.still_told));
+          told = subst (λ o. length (seat_history new) ≤ told_on Disk.tellable o) (sym held)
+              (let most : length (seat_history new) ≤ Disk.tellable back.left.closed = closed.told t in omega (arith, most, left.still_told));
           idle = λ shut. let none = closed.idle shut in (none.0, ap (λ (o : Option AnsweredQuery). is_some o) none.1);
           kept = λ why. (
             ap (bytes_on Disk.reads) held ∙ left.reads_same ∙ ap Disk.reads (left_alone new back.left.closed closed why)
@@ -251,7 +255,7 @@ module _ (schema : DatabaseSchema) (world : FactSet) (header directory : List �
                 (subst (λ n. Rests Disk (disk n) (disk' name)) opened.journal_is
                 (taken_rests Disk (disk (seat_journal old)) (disk' name) opened.taken back.now (opened.from s)
                 (left_on Disk opened.taken (seat_disk old) back.now opened.left
-                (subst (λ d. IsLeft Disk d back.now) (left_alone new back.left.closed closed why ∙ ap (λ (f : Fixed D). f.disk) kept) left)).rests held)),
+                (subst (λ d. IsLeftOpen Disk d back.now) (left_alone new back.left.closed closed why ∙ ap (λ (f : Fixed D). f.disk) kept) left)).rests held)),
           );
           failed = λ broke.
               rose_wide (count name) (Disk.faults (seat_kept new).disk) (Disk.faults back.left.closed) (count' name) (omega (arith, before, begins, disks))
@@ -260,10 +264,10 @@ module _ (schema : DatabaseSchema) (world : FactSet) (header directory : List �
         }
 
     -- all users
-    pub have_served : (users : List User) (olds news : List (DeskSeat D g h)) → All (λ user. KeepsLimits schema (profile_of user)) users
+    have_served : (users : List User) (olds news : List (DeskSeat D g h)) → All (λ user. KeepsLimits schema (profile_of user)) users
         → AreSeatsOf S Disk schema world header directory disk count users olds → AreSeatsOn olds news
         → AreBack S Disk disk' count' news
-        → HaveServed schema world header (journals_by Disk.reads Disk.image Disk.moment Disk.image_since Disk.told directory disk disk' count count') users
+        → HaveServed schema world header (journals_by Disk.reads Disk.image Disk.moment Disk.image_since Disk.tellable directory disk disk' count count') users
         (map seat_member news)
         (map (λ seat. seat.refusal) olds)
     have_served [] [] [] limits opened on back = tt
@@ -282,7 +286,7 @@ module _ (schema : DatabaseSchema) (world : FactSet) (header directory : List �
     OwnFrom place seats = (weight : TurnItem → ℕ) (k : ℕ) → own_weight weight k (map seat_pass seats) ≡ told_weight weight (place + k) told
 
     -- as they do from the first place on, where they had nothing as the seats were opened
-    pub own_from : (olds news : List (DeskSeat D g h)) → ((weight : TurnItem → ℕ) (k : ℕ) → own_weight weight k (map seat_pass olds) ≡ 0)
+    own_from : (olds news : List (DeskSeat D g h)) → ((weight : TurnItem → ℕ) (k : ℕ) → own_weight weight k (map seat_pass olds) ≡ 0)
         → OwnMore (map seat_pass olds) (map seat_pass news) told → OwnFrom 0 news
     own_from olds news none more weight k =
         let before = none weight k in
@@ -325,7 +329,7 @@ module _ (schema : DatabaseSchema) (world : FactSet) (header directory : List �
           omega (arith, all, now, was, marks, more)
 
     -- so behind each user's opening history there is what he was told
-    pub all_told : (place : ℕ) (users : List User) (olds news : List (DeskSeat D g h))
+    all_told : (place : ℕ) (users : List User) (olds news : List (DeskSeat D g h))
         → AreSeatsOf S Disk schema world header directory disk count users olds → AreSeatsOn olds news
         → AreBack S Disk disk' count' news
         → OwnFrom place news → AreAllTold place (map seat_member news) told
@@ -344,7 +348,7 @@ module _ (schema : DatabaseSchema) (world : FactSet) (header directory : List �
     all_told place (user ∷ users) (old ∷ olds) [] opened on back own = absurd on
 
   -- all desks are in the one world
-  pub all_in_world : (users : List User) (olds news : List (DeskSeat D g h))
+  all_in_world : (users : List User) (olds news : List (DeskSeat D g h))
       → AreSeatsOf S Disk schema world header directory disk count users olds → AreSeatsOn olds news → AreAllIn schema world news
   all_in_world [] [] [] opened on = tt
   all_in_world (user ∷ users) (old ∷ olds) (new ∷ news) opened on =
@@ -360,12 +364,12 @@ module _ (schema : DatabaseSchema) (world : FactSet) (header directory : List �
 
 module _ {D : Type 0} {g h : _} where
   -- whether an append failed at one of the seats is whether one failed for one of the users
-  pub broke_at : (seats : List (DeskSeat D g h)) → list_any seat_broke seats ≡ list_any member_broke (map seat_member seats)
+  broke_at : (seats : List (DeskSeat D g h)) → list_any seat_broke seats ≡ list_any member_broke (map seat_member seats)
   broke_at [] = refl
   broke_at (seat ∷ seats) = ap (λ b. seat_broke seat || b) (broke_at seats)
 
   -- the journals are the same, and so are the disks as the desks were opened
-  journals_on_same : (olds news : List (DeskSeat D g h)) → AreSeatsOn olds news → journals news ≡ journals olds
+  pub journals_on_same : (olds news : List (DeskSeat D g h)) → AreSeatsOn olds news → journals news ≡ journals olds
   journals_on_same [] [] on = refl
   journals_on_same (old ∷ olds) (new ∷ news) on =
       ap (λ n. n ∷ journals news) on.0.journal_is ∙ ap (λ ns. seat_journal old ∷ ns) (journals_on_same olds news on.1)
@@ -390,6 +394,16 @@ module _ {D : Type 0} {g h : _} where
       (ap (λ (f : Fixed D). origin f.disk) on.0.kept_is ∙ own.0 ∙ ap known (sym on.0.journal_is), own_on_seats origin known olds news on.1 own.1)
   own_on_seats origin known [] (new ∷ news) on own = absurd on
   own_on_seats origin known (old ∷ olds) [] on own = absurd on
+
+  -- what was told of them lies there, where it did
+  pub there_on_seats : (Disk : DiskGhosts D) (olds news : List (DeskSeat D g h)) → AreSeatsOn olds news → SeatsThere Disk olds → SeatsThere Disk news
+  there_on_seats Disk [] [] on there = tt
+  there_on_seats Disk (old ∷ olds) (new ∷ news) on there = (
+    subst (λ (f : Fixed D). AreThere (Disk.heard f.disk) (Disk.reads f.disk)) (sym on.0.kept_is) there.0,
+    there_on_seats Disk olds news on.1 there.1,
+  )
+  there_on_seats Disk [] (new ∷ news) on there = absurd on
+  there_on_seats Disk (old ∷ olds) [] on there = absurd on
 
 -- ---- ends
 
@@ -471,7 +485,7 @@ broken_end outcome.Memory refusals is_broken is = absurd is
 module _ (schema : DatabaseSchema) (world : FactSet) (header : List ℕ) (journals : Journals) (users : List User) {O S K : Type 0} (Door : DoorGhosts O S K)
     (doors doors' : List O) where
   -- each end of desks that were opened
-  pub ends_at : (went : Outcome) (refusals : Vec (Option DeskError) Global) (is_broken : Bool)
+  ends_at : (went : Outcome) (refusals : Vec (Option DeskError) Global) (is_broken : Bool)
       (serves : ServesDoors schema world header journals users Door doors doors' refusals.items is_broken) (limit : ℕ)
       → HasOutcome Door limit went serves.total doors'
       → EndsDoors schema world header journals users Door doors doors' (end_of went refusals is_broken)
@@ -560,7 +574,6 @@ pub record AreReady {D : Type 0} {g h : _} (users : List User) (seats : List (De
   pub legal : HaveSeenLegal (map seat_kept seats) (map seat_pass seats)
   pub fresh : All IsSeatAsOpened seats
   pub turns_are : All (λ (seat : DeskSeat D g h). turns (seat_pass seat) ≡ 65 * 2 ^ 57) seats
-  pub own : All (λ (seat : DeskSeat D g h). mine (seat_pass seat) ≡ []) seats
 
 module _ {directory : Text} {schema : DatabaseSchema} {world : FactSet} {header : List ℕ} {D : Type 0} {g h : _} {told : Type 0} {Disk : DiskGhosts D}
     {users : List User} {seats : List (DeskSeat D g h)} {disk disk' : Text → Option D} {is_out' : Text → Bool} {count count' : Text → ℕ}
@@ -571,7 +584,6 @@ module _ {directory : Text} {schema : DatabaseSchema} {world : FactSet} {header 
     legal = seats_legal told Disk schema world header directory disk count valid users seats limits seated.are;
     fresh = seats_fresh told Disk schema world header directory disk count users seats seated.are;
     turns_are = seats_turns told Disk schema world header directory disk count users seats seated.are;
-    own = seats_own told Disk schema world header directory disk count users seats seated.are;
   }
 
   module _ (news : List (DeskSeat D g h)) (on : AreSeatsOn seats news) where
@@ -584,3 +596,41 @@ module _ {directory : Text} {schema : DatabaseSchema} {world : FactSet} {header 
         → AreGiven told Disk news disk' disk'' is_out' is_out'' count' count''
         → AllReturned (registered_journals directory users) disk disk'' is_out'' count count''
     served_returned given = all_returned seated news (journals_on_same seats news on) (later_on_seats Disk.faults count' seats news on seated.later) given
+
+    -- where an append to one of them failed, the count of a disk rose
+    pub served_rose : (disk'' : Text → Option D) (count'' : Text → ℕ) → AreBack told Disk disk'' count'' news → list_any seat_broke news ≡ true
+        → SomeRose count count''
+    served_rose disk'' count'' back broke =
+        some_rose told Disk count count'' disk'' news (later_on_seats Disk.faults count seats news on seated.first) back
+        (any_failed told Disk count count'' disk'' news broke)
+
+    -- each user's history is told whole, and each connection of the doors was served by one of them
+    pub served_ends : (s : told) (t : Disk.tells) (read_is_image : (d : D) → Disk.tells → Disk.image d (Disk.reads d)) (disk'' : Text → Option D)
+        (count'' : Text → ℕ) → AreBack told Disk disk'' count'' news → is_valid_schema schema ≡ true → LegalHistoriesHide
+        → All (λ user. KeepsLimits schema (profile_of user)) users → {O S K : Type 0} (Door : DoorGhosts O S K) (doors others : List O) (went : Outcome)
+        (refusals : Vec (Option DeskError) Global) (is_broken : Bool) (limit : ℕ) → refusals.items ≡ map (λ (seat : DeskSeat D g h). seat.refusal) seats
+        → is_broken ≡ list_any seat_broke news → (total : ℕ) (marks : Door.tells → List SessionMarks)
+        → AreServedDoors Door (IsServedAt users news) total marks doors others → HasOutcome Door limit went total others
+        → ((u : Door.tells) → OwnMore (map seat_pass seats) (map seat_pass news) (marks u))
+        → EndsDoors schema world header (journals_by Disk.reads Disk.image Disk.moment Disk.image_since Disk.tellable directory disk disk'' count count'') users
+        Door doors others (end_of went refusals is_broken)
+    served_ends s t read_is_image disk'' count'' back valid hide limits Door doors others went refusals is_broken limit refused broke total marks served has
+        more =
+        let journals = journals_by Disk.reads Disk.image Disk.moment Disk.image_since Disk.tellable directory disk disk'' count count'' in
+        ends_at schema world header journals users Door doors others went refusals is_broken
+        (record {
+          members = map seat_member news;
+          each_user = subst (HaveServed schema world header journals users (map seat_member news)) (sym refused)
+              (have_served schema world header directory told s Disk t read_is_image disk disk'' count count'' valid hide users seats news limits seated.are on
+              back);
+          broken_is = broke ∙ broke_at news;
+          total = total;
+          marks = marks;
+          served = served_still Door (IsServedAt users news) (Served schema world users (map seat_member news))
+              (λ visit said is. is schema world
+              (all_in_world schema world header directory told s Disk t read_is_image disk disk'' count count'' users seats news seated.are on))
+              total marks doors others served;
+          all_told = λ u. all_told schema world header directory told s Disk t read_is_image disk disk'' count count'' (marks u) 0 users seats news seated.are
+              on back (own_from schema world header directory told s Disk t read_is_image disk disk'' count count'' (marks u) seats news
+              (apart_own seats (seats_own told Disk schema world header directory disk count users seats seated.are)) (more u));
+        }) limit has

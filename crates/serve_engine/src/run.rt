@@ -4,13 +4,13 @@ ghost use Rattle.std.specs.Prelude.{length, sum_by};
 ghost use Rattle.std.specs.List.{flat_map};
 ghost use Rattle.outside.specs.Faults.{Rose};
 ghost use Rattle.outside.specs.Shelf.{SameNames, SameBeside, NoneOut, NoneFell, SomeRose};
-ghost use Rattle.outside.specs.Visits.{place_of, one_if_any};
+ghost use Rattle.outside.specs.Visits.{door_place_of, one_if_any};
 ghost use Rattle.log_journal.specs.Opening.{header_bytes};
-ghost use Rattle.desk_crew.specs.Shelved.{journals_on};
+ghost use Rattle.desk_crew.specs.Shelved.{journals_on, StaysThere};
 ghost use Rattle.desk_crew.specs.Registered.{AllKeepLimits, registered_journals, HaveOwnNames};
 ghost use Rattle.serve_engine.specs.Doors.{SomeFailed};
 ghost use Rattle.serve_engine.specs.Serving.{EndsServing, EndsDoors, LeavesJournals, IsDone};
-ghost use Rattle.serve_engine.specs.Serving.{IsBroken};
+ghost use Rattle.serve_engine.specs.Serving.{IsBroken, IsDiskRefusal};
 ghost use Rattle.serve_engine.specs.Serving.{end_of};
 ghost use Rattle.serve_engine.specs.declared.run.ServeEnd.{ServeEnd};
 
@@ -90,11 +90,11 @@ where
     // It listens at that address alone, with a door for each worker, and before it opens a journal.
     ensures listens { L.tells → (L.listened links.new ≡ L.listened links.old)
         ⊎ (L.listened links.new
-        ≡ L.listened links.old ++ place_of listening.entry.address.now listening.entry.workers
+        ≡ L.listened links.old ++ door_place_of listening.entry.address.now listening.entry.workers
         ∷ []) }
     ensures heard { L.tells → IsDone result
         → L.listened links.new
-        ≡ L.listened links.old ++ place_of listening.entry.address.now listening.entry.workers
+        ≡ L.listened links.old ++ door_place_of listening.entry.address.now listening.entry.workers
         ∷ [] }
 
     ensures unheard { L.tells → L.listened links.new ≡ L.listened links.old
@@ -122,10 +122,12 @@ where
         × (L.given links.old + listening.entry.sessions
         < L.given links.new + listening.entry.workers)) }
 
-    // No disk but the users' journals is touched, and all are back.
+    // No disk but the users' journals is touched, and all are back. What was told of is a record
+    // that lies there.
     ensures disks { SameBeside
         (registered_journals registry.now.directory.now registry.now.users.now) (F.disk shelf.old)
         (F.disk shelf.new) }
+    ensures there { F.tells → StaysThere F.D.Disk (F.disk shelf.old) (F.disk shelf.new) }
     ensures inside { NoneOut (F.is_out shelf.new) }
     ensures files { SameNames (F.file shelf.old) (F.file shelf.new) }
     ensures looked { F.looked shelf.new ≡ F.looked shelf.old }
@@ -148,6 +150,8 @@ where
     ensures links_cause { result ≡ ServeEnd.LinksFault
         → Rose (L.faults links.old) (L.faults links.new) }
     ensures disk_cause { IsBroken result
+        → SomeRose (F.disk_faults shelf.old) (F.disk_faults shelf.new) }
+    ensures journal_cause { IsDiskRefusal result
         → SomeRose (F.disk_faults shelf.old) (F.disk_faults shelf.new) }
 {
     law_served_alike();
@@ -201,6 +205,7 @@ where
     ensures disks { SameBeside
         (registered_journals registry.now.directory.now registry.now.users.now) (F.disk shelf.old)
         (F.disk shelf.new) }
+    ensures there { F.tells → StaysThere F.D.Disk (F.disk shelf.old) (F.disk shelf.new) }
     ensures inside { NoneOut (F.is_out shelf.new) }
     ensures files { SameNames (F.file shelf.old) (F.file shelf.new) }
     ensures looked { F.looked shelf.new ≡ F.looked shelf.old }
@@ -213,6 +218,8 @@ where
     ensures shelf_cause { result.0 ≡ ServeEnd.ShelfFault
         → Rose (F.faults shelf.old) (F.faults shelf.new) }
     ensures disk_cause { IsBroken result.0
+        → SomeRose (F.disk_faults shelf.old) (F.disk_faults shelf.new) }
+    ensures journal_cause { IsDiskRefusal result.0
         → SomeRose (F.disk_faults shelf.old) (F.disk_faults shelf.new) }
 {
     law_hides();

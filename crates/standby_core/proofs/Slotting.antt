@@ -1,7 +1,11 @@
 -- What stands under the names of mirrors, where one is taken or put back.
 use Rattle.std.proofs.Common.{◌≡◌, ℕ, zero, suc, Bool, true, false, Option, Some, None, List, []}
 use Rattle.std.proofs.Common.{◌∷◌, ◌++◌, get_or, take, drop, map, refl, sym, ap, subst, ◌∙◌, option_map}
-use Rattle.std.specs.Prelude.{bytes_eq, position, slice_set, is_some, IfNone}
+use Rattle.std.specs.Prelude.{bytes_eq, position, slice_set, is_some, IfNone, length}
+use Rattle.std.specs.List.{slice_get}
+use Rattle.std.proofs.Common.{arith}
+use Rattle.outside.specs.Dials.{Exchange}
+use Rattle.outside.specs.Disk.{HeardNothing}
 use Rattle.std.specs.Cmp.Lexicographic.{same_text}
 use Rattle.std.proofs.lemmas.Option.{none-some, same_Some}
 use Rattle.outside.specs.Shelf.{IsTaken, SameOthers}
@@ -10,11 +14,11 @@ use Rattle.standby_core.specs.declared.slot.Place.{Place}
 use Rattle.standby_core.specs.declared.slot.Place.TheVariants.{New, Out, Back}
 use Rattle.standby_core.specs.declared.slot.Slot.{Slot}
 use Rattle.standby_core.specs.Mirrors.{dial_of, texts_of}
-use Rattle.standby_core.specs.MirroredDisks.{inner_of, mirrored}
+use Rattle.standby_core.specs.MirroredDisks.{inner_of, mirrored, heard_by}
 use Rattle.standby_core.specs.Named.{first_named}
-use Rattle.standby_core.specs.Places.{mirror_in, new_in, faults_in, is_away}
+use Rattle.standby_core.specs.Places.{mirror_in, new_in, faults_in, count_in, is_away}
 use Rattle.standby_core.specs.Slots.{slot_name, slot_texts, place_at, made_at, with_made, mirrored_at, SameMade, HavePlaces, HaveMirrors}
-use Rattle.standby_core.proofs.Naming.{IsAt, found, not_found, still_named}
+use Rattle.standby_core.proofs.Naming.{found, not_found}
 
 -- what holds of a name and of all others holds of all
 pub for_all : (P : List ℕ → Type 0) (name : List ℕ) → P name → ((one : List ℕ) → bytes_eq one name ≡ false → P one) → (one : List ℕ) → P one
@@ -66,12 +70,11 @@ module _ {C : Type 0} {g : _} where
       → Some place ≡ position (λ slot. bytes_eq (slot_name slot) name) slots → old ≡ get_or slots place old → slot_name new ≡ slot_name old
       → IsSlotSet name slots place old new
   slot_set name slots place old new is here named =
-      let at : IsAt slot_name name slots place old = found slot_name name slots place old (sym is) in
-      let it : bytes_eq (slot_name new) name ≡ true = still_named slot_name name slots place old new at here named in
+      let at = found slot_name name slots place old is here in
       record {
-        was = ap (λ o. option_map (λ (s : Slot C g). s.place) o) (at.is_first ∙ ap Some (sym here));
-        now = ap (λ o. option_map (λ (s : Slot C g). s.place) o) (at.set new it);
-        others = λ one differs. ap (λ o. option_map (λ (s : Slot C g). s.place) o) (at.others new it one differs);
+        was = ap (λ o. option_map (λ (s : Slot C g). s.place) o) at.is_first;
+        now = ap (λ o. option_map (λ (s : Slot C g). s.place) o) (at.set new named);
+        others = λ one differs. ap (λ o. option_map (λ (s : Slot C g). s.place) o) (at.others new named one differs);
       }
 
   -- its mirror was made as it was
@@ -79,14 +82,13 @@ module _ {C : Type 0} {g : _} where
       → Some place ≡ position (λ slot. bytes_eq (slot_name slot) name) slots → old ≡ get_or slots place old → slot_name new ≡ slot_name old
       → slot_texts own address new ≡ slot_texts own address old → SameMade own address slots (slice_set slots place new)
   made_set own address name slots place old new is here named made =
-      let at : IsAt slot_name name slots place old = found slot_name name slots place old (sym is) in
-      let it : bytes_eq (slot_name new) name ≡ true = still_named slot_name name slots place old new at here named in
+      let at = found slot_name name slots place old is here in
       let texts : Option (Slot C g) → Option (List (List ℕ)) = option_map (slot_texts own address) in
       record {
         all = set_same (slot_texts own address) slots place old new here made;
         each = for_all (λ one. made_at own address (slice_set slots place new) one ≡ made_at own address slots one) name
-            (ap texts (at.set new it) ∙ ap Some made ∙ sym (ap texts (at.is_first ∙ ap Some (sym here))))
-            (λ one differs. ap texts (at.others new it one differs));
+            (ap texts (at.set new named) ∙ ap Some made ∙ sym (ap texts at.is_first))
+            (λ one differs. ap texts (at.others new named one differs));
       }
 
   -- how the mirror of a slot that is found was made
@@ -94,8 +96,7 @@ module _ {C : Type 0} {g : _} where
       → Some place ≡ position (λ slot. bytes_eq (slot_name slot) name) slots → old ≡ get_or slots place old
       → made_at own address slots name ≡ Some (slot_texts own address old)
   made_there own address name slots place old is here =
-      let at : IsAt slot_name name slots place old = found slot_name name slots place old (sym is) in
-      ap (option_map (slot_texts own address)) (at.is_first ∙ ap Some (sym here))
+      ap (option_map (slot_texts own address)) (found slot_name name slots place old is here).is_first
 
   -- what says where a disk with a mirror comes from is what does of the mirror, and what does of the disk below
   pub own_parts : (own address : C → List ℕ) (name : List ℕ) (slots : List (Slot C g)) (mirror : Mirror C g) (rest below : List (List ℕ))
@@ -119,7 +120,7 @@ module _ {C : Type 0} {g : _} where
       by (Some slot) some none = absurd cc
 
   pub no_slot : (name : List ℕ) (slots : List (Slot C g)) → None ≡ position (λ slot. bytes_eq (slot_name slot) name) slots → place_at slots name ≡ None
-  no_slot name slots none = ap (λ o. option_map (λ (s : Slot C g). s.place) o) (not_found slot_name name slots (sym none))
+  no_slot name slots none = ap (λ o. option_map (λ (s : Slot C g). s.place) o) (not_found slot_name name slots none)
 
   pub no_place : (name : List ℕ) (slots : List (Slot C g)) → None ≡ position (λ slot. bytes_eq (slot_name slot) name) slots
       → is_some (place_at slots name) ≡ true → ⊥
@@ -163,3 +164,24 @@ module _ {C : Type 0} {g : _} where
       → place ≡ Some (Back mirror)
       → mirrored_at held place ≡ Some (mirrored inner (Some mirror))
   back_mirrored held place inner mirror is put = λ i. mirrored_at (is i) (put i)
+
+  -- a mirror that exchanged nothing told of no record
+  pub silent_heard : (told : Type 0) (exchanged : C → List Exchange) (mirror : Mirror C g) → (told → length (exchanged (dial_of mirror)) ≡ 0)
+      → HeardNothing (heard_by told exchanged (Some mirror))
+  silent_heard told exchanged mirror silent number one (t, place, it, at, tells) = by (exchanged (dial_of mirror)) (silent t) at
+    where
+      by : (all : List Exchange) → length all ≡ 0 → slice_get all place ≡ Some it → ⊥
+      by [] none at = none-some it at
+      by (e ∷ all) none at = omega (arith, none)
+
+  -- where one name is changed, and no disk is there under it unless it is out, the mirrors without disks are still unused
+  pub kept_unused : {D : Type 0} (exchanged : C → List Exchange) (name : List ℕ) (disk disk' : List ℕ → Option D) (is_out is_out' : List ℕ → Bool)
+      (slots slots' : List (Slot C g))
+      → ((one : List ℕ) → disk one ≡ None → is_out one ≡ false → count_in exchanged (place_at slots one) ≡ 0)
+      → SameOthers name disk disk' → SameOthers name is_out is_out' → SameOthers name (place_at slots) (place_at slots')
+      → (disk' name ≡ None → is_out' name ≡ false → count_in exchanged (place_at slots' name) ≡ 0)
+      → (one : List ℕ) → disk' one ≡ None → is_out' one ≡ false → count_in exchanged (place_at slots' one) ≡ 0
+  kept_unused exchanged name disk disk' is_out is_out' slots slots' unused disks outs places here =
+      for_all (λ one. disk' one ≡ None → is_out' one ≡ false → count_in exchanged (place_at slots' one) ≡ 0) name here
+      (λ one differs none inside. ap (count_in exchanged) (places one differs)
+      ∙ unused one (sym (disks one differs) ∙ none) (sym (outs one differs) ∙ inside))

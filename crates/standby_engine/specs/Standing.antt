@@ -6,6 +6,7 @@ use Rattle.std.specs.declared.alloc.Global.{Global}
 use Rattle.outside.specs.Faults.{Rose}
 use Rattle.outside.specs.Visits.{Visit}
 use Rattle.cqe_base.specs.declared.user.User.{User}
+use Rattle.desk_crew.specs.Refusals.{SomeFaulted}
 use Rattle.desk_crew.specs.Shelved.{Journals, KeepsJournal, KeepsJournals, StandsAllAlong}
 use Rattle.log_journal.specs.Opening.{IsRefused, header_bytes}
 use Rattle.log_journal.specs.Records.{Recorded, IsJournal, needed_bytes}
@@ -100,8 +101,8 @@ pub record ServesCopies (header : Header) (journals : Journals) (users : List Us
   pub given_is : given' ≡ given + length visits
 
 -- no connection was given in a call
-abbrev pub ServesNobody : ℕ → ℕ → List Visit → List Visit → Type 0
-ServesNobody given given' back back' = (given' ≡ given) × (back' ≡ back)
+abbrev pub CopiesNothing : ℕ → ℕ → List Visit → List Visit → Type 0
+CopiesNothing given given' back back' = (given' ≡ given) × (back' ≡ back)
 
 -- What a standby did with the connections, by its end: it served each by the copies, and says
 -- whether an append to one of them failed, and whether memory was wanting for a record; where it
@@ -115,9 +116,9 @@ EndsCopying header journals users given given' back back' (Done refusals broken 
 EndsCopying header journals users given given' back back' LinksFault =
     ((refusals : List (Option DeskError)) × (last : List Copy) × (ends : List StandbyEnd)
     × ServesCopies header journals users given given' back back' refusals last ends)
-    ⊎ ServesNobody given given' back back'
+    ⊎ CopiesNothing given given' back back'
 EndsCopying header journals users given given' back back' end =
-    ServesNobody given given' back back'
+    CopiesNothing given given' back back'
 
 -- What a standby leaves of the journals: each is copied; where it didn't come to serve, all are as
 -- they were. It says that an append failed only where a count rose.
@@ -131,14 +132,19 @@ LeavesCopies header journals users LinksFault =
 LeavesCopies header journals users end = KeepsJournals journals
 
 -- the standby served
-abbrev pub IsServed : CopyEnd → Type 0
-IsServed (Done refusals broken wanting) = Unit {0}
-IsServed end = ⊥
+abbrev pub HasListened : CopyEnd → Type 0
+HasListened (Done refusals broken wanting) = Unit {0}
+HasListened end = ⊥
 
 -- the standby served, and an append to a copy failed
 abbrev pub IsBroken : CopyEnd → Type 0
 IsBroken (Done refusals broken wanting) = broken ≡ true
 IsBroken end = ⊥
+
+-- the standby served, and some user's journal was refused for a fault of its disk
+abbrev pub IsDiskRefusal : CopyEnd → Type 0
+IsDiskRefusal (Done refusals broken wanting) = SomeFaulted refusals.items
+IsDiskRefusal end = ⊥
 
 -- the end of a standby whose door came to this one: where the door didn't fail it has the refusals,
 -- whether an append failed, and whether memory was wanting for a record

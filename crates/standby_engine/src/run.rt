@@ -3,16 +3,16 @@ ghost use Rattle.std.specs.Prelude.{◌≡◌, ◌⊎◌, ◌≤◌, ◌<◌, �
 ghost use Rattle.std.specs.Prelude.{IfOk, length, string_bytes, vec_len, vec_capacity};
 ghost use Rattle.outside.specs.Faults.{Rose};
 ghost use Rattle.outside.specs.Shelf.{SameNames, SameBeside, NoneOut, NoneFell, SomeRose};
-ghost use Rattle.outside.specs.Visits.{place_of};
+ghost use Rattle.outside.specs.Visits.{door_place_of};
 ghost use Rattle.log_journal.specs.Journal.{disk_of};
 ghost use Rattle.log_journal.specs.Opening.{header_bytes};
 ghost use Rattle.desk_crew.specs.Registered.{registered_journals, HaveOwnNames};
 ghost use Rattle.desk_crew.specs.Shelved.{journals_on};
 ghost use Rattle.standby_core.specs.Lasting.{has_broken};
-ghost use Rattle.standby_engine.specs.Opened.{given_journal, journals_in, names_in, others_in};
+ghost use Rattle.standby_engine.specs.Opened.{given_journal, opened_in, names_in, others_in};
 ghost use Rattle.standby_engine.specs.Opened.{place_refusal};
-ghost use Rattle.standby_engine.specs.Standing.{LeavesCopies, EndsCopying, IsServed, IsBroken};
-ghost use Rattle.standby_engine.specs.Standing.{copy_end};
+ghost use Rattle.standby_engine.specs.Standing.{LeavesCopies, EndsCopying, HasListened, IsBroken};
+ghost use Rattle.standby_engine.specs.Standing.{IsDiskRefusal, copy_end};
 ghost use Rattle.standby_engine.specs.declared.run.CopyEnd.{CopyEnd};
 
 use crate::opening::{Given, NotOpened, Place, give_back, open_journals};
@@ -79,9 +79,9 @@ pub fn run_standby<R: Wait, F: Shelf, L: Links>(
     // It listens at that address alone, with one door, and before it opens a journal.
     ensures listens { L.tells → (L.listened links.new ≡ L.listened links.old)
         ⊎ (L.listened links.new
-        ≡ L.listened links.old ++ place_of copying.entry.address.now 1 ∷ []) }
-    ensures heard { L.tells → IsServed result → L.listened links.new
-        ≡ L.listened links.old ++ place_of copying.entry.address.now 1 ∷ [] }
+        ≡ L.listened links.old ++ door_place_of copying.entry.address.now 1 ∷ []) }
+    ensures heard { L.tells → HasListened result → L.listened links.new
+        ≡ L.listened links.old ++ door_place_of copying.entry.address.now 1 ∷ [] }
     ensures unheard { L.tells → L.listened links.new ≡ L.listened links.old
         → shelf.new ≡ shelf.old }
     ensures limited { L.tells → L.given links.new ≤ L.given links.old + copying.entry.sessions }
@@ -89,7 +89,7 @@ pub fn run_standby<R: Wait, F: Shelf, L: Links>(
         → L.left links.new ≡ L.at_hand links.new }
     ensures left_all { L.tells → L.left links.old ≡ L.at_hand links.old
         → L.given links.new + L.left links.new ≡ L.given links.old + L.left links.old }
-    ensures ended { L.tells → IsServed result → (L.at_hand links.new ≡ 0)
+    ensures ended { L.tells → HasListened result → (L.at_hand links.new ≡ 0)
         ⊎ (L.given links.new ≡ L.given links.old + copying.entry.sessions) }
 
     // No disk but the users' journals is touched, and all are back.
@@ -116,6 +116,8 @@ pub fn run_standby<R: Wait, F: Shelf, L: Links>(
     ensures links_cause { result ≡ CopyEnd.LinksFault
         → Rose (L.faults links.old) (L.faults links.new) }
     ensures disk_cause { IsBroken result
+        → SomeRose (F.disk_faults shelf.old) (F.disk_faults shelf.new) }
+    ensures journal_cause { IsDiskRefusal result
         → SomeRose (F.disk_faults shelf.old) (F.disk_faults shelf.new) }
 {
     let doors = match links.listen(alloc, copying.address, 1) {
@@ -160,7 +162,7 @@ fn serve_opened<R: Wait, F: Shelf, O: Door>(
     ensures limited { O.tells → O.given door.new ≤ O.given door.old + limit }
     ensures left { O.tells → O.left door.old + O.given door.old
         ≡ O.left door.new + O.given door.new }
-    ensures ended { O.tells → IsServed result
+    ensures ended { O.tells → HasListened result
         → (O.left door.new ≡ 0) ⊎ (O.given door.new ≡ O.given door.old + limit) }
     ensures failed { result ≡ CopyEnd.LinksFault → Rose (O.faults door.old) (O.faults door.new) }
     ensures disks { SameBeside (registered_journals directory.now users.now) (F.disk shelf.old)
@@ -175,6 +177,8 @@ fn serve_opened<R: Wait, F: Shelf, O: Door>(
     ensures shelf_cause { result ≡ CopyEnd.ShelfFault
         → Rose (F.faults shelf.old) (F.faults shelf.new) }
     ensures disk_cause { IsBroken result
+        → SomeRose (F.disk_faults shelf.old) (F.disk_faults shelf.new) }
+    ensures journal_cause { IsDiskRefusal result
         → SomeRose (F.disk_faults shelf.old) (F.disk_faults shelf.new) }
 {
     law_journals_differ();
@@ -262,7 +266,7 @@ fn take_apart<D: Disk + Drop>(
     requires empty { (journals.items ≡ []) × (names.items ≡ []) × (given.items ≡ []) }
     requires room { (length places.items ≤ vec_capacity journals)
         × (length places.items ≤ vec_capacity names) × (length places.items ≤ vec_capacity given) }
-    ensures journals { result.0.items ≡ journals_in places.items }
+    ensures journals { result.0.items ≡ opened_in places.items }
     ensures names { map string_bytes result.1.items ≡ names_in places.items }
     ensures others { result.2.items ≡ others_in places.items }
     ensures room { vec_capacity result.2 ≡ vec_capacity given }
@@ -284,7 +288,7 @@ fn take_part<D: Disk + Drop>(
     requires { (vec_len journals.old < vec_capacity journals.old)
         × (vec_len names.old < vec_capacity names.old)
         × (vec_len given.old < vec_capacity given.old) }
-    ensures journals { journals.new.items ≡ journals.old.items ++ journals_in (place ∷ []) }
+    ensures journals { journals.new.items ≡ journals.old.items ++ opened_in (place ∷ []) }
     ensures names { map string_bytes names.new.items
         ≡ map string_bytes names.old.items ++ names_in (place ∷ []) }
     ensures others { given.new.items ≡ given.old.items ++ others_in (place ∷ []) }
