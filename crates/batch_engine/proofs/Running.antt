@@ -27,7 +27,8 @@ use Rattle.desk_counter.specs.declared.item.Fixed.{Fixed}
 use Rattle.std.specs.Prelude.{string_bytes}
 use Rattle.cqe_base.specs.declared.user.User.{User}
 use Rattle.desk_crew.specs.Crew.{seat_user, seat_name, seat_journal, seat_disk, IsSeatAsOpened, IsSeatServed, AreReopened, Tells, nobody, here, further}
-use Rattle.desk_crew.specs.Shelved.{journals, AreLater, AreOwn}
+use Rattle.log_journal.specs.Walk.{AreThere}
+use Rattle.desk_crew.specs.Shelved.{journals, AreLater, AreOwn, SeatsThere}
 use Rattle.batch_engine.specs.Steps.{restart_bytes, MaybeReopened, Carries, Runs, nothing, more, RunsAll, RunsSome, RunsTo}
 use Rattle.desk_crew.proofs.Asking.{still_served}
 use Rattle.desk_crew.specs.Seats.{DeskSeat}
@@ -66,7 +67,8 @@ module _ (schema : DatabaseSchema) (world : FactSet) (header : List ℕ) {D : Ty
   abbrev pub Limits : List (DeskSeat D g h) → Type 0
   Limits seats = AllByRecursion (λ (s : DeskSeat D g h). KeepsLimits schema (profile_of (seat_user s))) seats
 
-  -- what stays of the seats: their journals, and with their users their limits; their counts didn't fall, and their disks are those of their names
+  -- what stays of the seats: their journals, and with their users their limits; their counts didn't fall, and their disks are those of their names;
+  -- where what was told of them lay there, it does
   pub record Stay (old new : List (DeskSeat D g h)) : Type 0 where
     pub names : journals new ≡ journals old
     pub users : map seat_name new ≡ map seat_name old
@@ -74,9 +76,10 @@ module _ (schema : DatabaseSchema) (world : FactSet) (header : List ℕ) {D : Ty
     pub served : AllByRecursion (IsSeatServed schema world header) old → AllByRecursion (IsSeatServed schema world header) new
     pub later : (count : Text → ℕ) → AreLater Disk.faults count old → AreLater Disk.faults count new
     pub own : (known : Text → List (List ℕ)) → AreOwn Disk.origin known old → AreOwn Disk.origin known new
+    pub there : Disk.tells → SeatsThere Disk old → SeatsThere Disk new
 
   stay : (seats : List (DeskSeat D g h)) → Stay seats seats
-  stay seats = record { names = refl; users = refl; limits = λ l. l; served = λ s. s; later = λ count l. l; own = λ known o. o }
+  stay seats = record { names = refl; users = refl; limits = λ l. l; served = λ s. s; later = λ count l. l; own = λ known o. o; there = λ t all. all }
 
   stay_on : (a b c : List (DeskSeat D g h)) → Stay a b → Stay b c → Stay a c
   stay_on a b c first second = record {
@@ -86,6 +89,7 @@ module _ (schema : DatabaseSchema) (world : FactSet) (header : List ℕ) {D : Ty
     served = λ s. second.served (first.served s);
     later = λ count l. second.later count (first.later count l);
     own = λ known o. second.own known (first.own known o);
+    there = λ t all. second.there t (first.there t all);
   }
 
   later_at : (count : Text → ℕ) (old new : DeskSeat D g h) → seat_journal new ≡ seat_journal old → Disk.faults (seat_disk old) ≤ Disk.faults (seat_disk new)
@@ -112,6 +116,7 @@ module _ (schema : DatabaseSchema) (world : FactSet) (header : List ℕ) {D : Ty
           l.1,
         );
         own = λ known o. (ap (λ (f : Fixed D). Disk.origin f.disk) kept ∙ o.0 ∙ ap known (sym answer.journal_is), o.1);
+        there = λ t all. (subst (λ (f : Fixed D). AreThere (Disk.heard f.disk) (Disk.reads f.disk)) (sym kept) all.0, all.1);
       }
   stay_told name purpose text old new reply (further {seat} {others} {after} {told_reply} other rest) =
       let tail : Stay others after = stay_told name purpose text others after told_reply rest in
@@ -122,6 +127,7 @@ module _ (schema : DatabaseSchema) (world : FactSet) (header : List ℕ) {D : Ty
         served = λ s. (s.0, tail.served s.1);
         later = λ count l. (l.0, tail.later count l.1);
         own = λ known o. (o.0, tail.own known o.1);
+        there = λ t all. (all.0, tail.there t all.1);
       }
 
   stay_reopened : (old new : List (DeskSeat D g h)) → AreReopened schema world header Disk old new → Stay old new
@@ -140,6 +146,7 @@ module _ (schema : DatabaseSchema) (world : FactSet) (header : List ℕ) {D : Ty
             let opened = are.0.left.later in
             (later_at count o n are.0.journal_is (omega (arith, closed, opened)) l.0, tail.later count l.1);
         own = λ known l. (are.0.left.comes ∙ are.0.is_closed.comes ∙ l.0 ∙ ap known (sym are.0.journal_is), tail.own known l.1);
+        there = λ t all. (are.0.left.there t (are.0.is_closed.there t all.0), tail.there t all.1);
       }
 
   stay_carried : (item : BatchItem) (old new : List (DeskSeat D g h)) (line : List ℕ) (is_broken : Bool)

@@ -12,7 +12,7 @@ ghost use Rattle.log_journal.specs.Opening.{header_bytes};
 ghost use Rattle.desk_crew.specs.Crew.{named_user, seat_name, IsSeatServed};
 ghost use Rattle.outside.specs.Shelf.{AllOut, AllIn, NoneOut, NoneFell, SomeRose, SameBeside};
 ghost use Rattle.desk_crew.specs.Shelved.{journals, journals_on};
-ghost use Rattle.desk_crew.specs.Shelved.{AreLater, AreOwn, AreBack};
+ghost use Rattle.desk_crew.specs.Shelved.{AreLater, AreOwn, AreBack, StaysThere};
 ghost use Rattle.desk_crew.specs.Registered.{AllKeepLimits, SeatsKeepLimits};
 ghost use Rattle.desk_crew.specs.Registered.{registered_journals, HaveOwnNames};
 ghost use Rattle.batch_engine.specs.BatchOf.{items_of};
@@ -293,10 +293,12 @@ where
         (journals_on F.Shelf F.D.Disk registry.now.directory.now shelf.old shelf.new)
         (map named_user registry.now.users.now) result }
 
-    // No disk but the users' journals is touched, and all are back.
+    // No disk but the users' journals is touched, and all are back. What was told of is a record
+    // that lies there.
     ensures disks { SameBeside
         (registered_journals registry.now.directory.now registry.now.users.now) (F.disk shelf.old)
         (F.disk shelf.new) }
+    ensures there { F.tells → StaysThere F.D.Disk (F.disk shelf.old) (F.disk shelf.new) }
     ensures inside { NoneOut (F.is_out shelf.new) }
     ensures files { SameNames (F.file shelf.old) (F.file shelf.new) }
     ensures looked { F.looked shelf.new ≡ F.looked shelf.old }

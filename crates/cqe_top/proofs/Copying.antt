@@ -1,16 +1,21 @@
 -- A shelf whose disks a standby copies shows the journals of the shelf that it was lent, where the faults of each disk are counted with those of its dial.
-use Rattle.std.proofs.Common.{◌≡◌, ◌⊎◌, ℕ, ◌+◌, ◌≤◌, ◌<◌, List, [], ◌∷◌, Option, Some, None, map, refl, sym, subst, ap, ◌∙◌, arith}
+use Rattle.std.proofs.Common.{◌≡◌, ◌⊎◌, ℕ, ◌+◌, ◌≤◌, ◌<◌, List, [], ◌∷◌, Option, Some, None, map, length, refl, sym, subst, ap, ◌∙◌, arith}
 use Rattle.std.specs.Prelude.{option_map}
+use Rattle.outside.specs.Dials.{Exchange}
+use Rattle.outside.specs.Disk.{HeardNothing}
 use Rattle.outside.specs.Faults.{Rose}
 use Rattle.outside.specs.Visits.{Visit, Place as Listened}
 use Rattle.outside.specs.Shelf.{SameNames, SameBeside, NoneFell, SomeRose, Lent, bytes_on, image_on, since_on, is_among}
 use Rattle.outside.specs.declared.disk.Disk.{Ghosts as DiskGhosts}
 use Rattle.outside.specs.declared.shelf.Shelf.{Ghosts as ShelfGhosts}
 use Rattle.cqe_base.specs.Schema.{Text}
-use Rattle.desk_crew.specs.Shelved.{journals_by, told_on}
+use Rattle.desk_crew.specs.Shelved.{journals_by, told_on, heard_on}
+use Rattle.log_journal.specs.Walk.{AreThere}
 use Rattle.log_journal.specs.Names.{journal_name}
-use Rattle.standby_core.specs.MirroredDisks.{inner_of, mirror_of, told_by}
-use Rattle.standby_core.specs.Places.{faults_in}
+use Rattle.standby_core.specs.MirroredDisks.{inner_of, mirror_of, told_by, heard_by, exchanged_by}
+use Rattle.standby_core.proofs.Slotting.{silent_heard}
+use Rattle.standby_core.specs.declared.mirror.Mirror.{Mirror}
+use Rattle.standby_core.specs.Places.{mirror_in, faults_in, count_in}
 use Rattle.standby_core.specs.Slots.{place_at, mirrored_at, marks_told}
 use Rattle.standby_core.specs.declared.mirrored_disk.MirroredDisk.{MirroredDisk}
 use Rattle.standby_core.specs.declared.slot.Place.{Place}
@@ -51,10 +56,25 @@ since_under : {D C : Type 0} {g : _} (since : D → ℕ → List ℕ → Type 0)
 since_under since None place = refl
 since_under since (Some d) place = refl
 
+-- a mirror whose dial exchanged nothing told of nothing
+unheard : {C : Type 0} {g : _} {told : Type 0} {exchanged : C → List Exchange} (mirror : Option (Mirror C g))
+    → (told → length (exchanged_by exchanged mirror) ≡ 0) → HeardNothing (heard_by told exchanged mirror)
+unheard None silent number one heard = heard
+unheard {C} {g} {told} {exchanged} (Some mirror) silent number one heard = silent_heard told exchanged mirror silent number one heard
+
 told_under : {D C : Type 0} {g : _} (answered : C → ℕ) (o : Option D) (place : Option (Place C g))
     → told_on (λ (d : MirroredDisk D C g). told_by answered (mirror_of d)) (mirrored_at o place) ≡ marks_told answered o place
 told_under answered None place = refl
 told_under answered (Some d) place = refl
+
+-- what a disk with its mirror was told of lies on the disk beneath it; where there is none its dial told of nothing
+lie_under : {D C : Type 0} {g : _} (reads : D → List ℕ) (told : Type 0) (exchanged : C → List Exchange) (o : Option D) (place : Option (Place C g))
+    → (o ≡ None → told → count_in exchanged place ≡ 0)
+    → AreThere (heard_on (λ (d : MirroredDisk D C g). heard_by told exchanged (mirror_of d)) (mirrored_at o place))
+    (bytes_on (λ d. reads (inner_of d)) (mirrored_at o place))
+    → AreThere (heard_by told exchanged (mirror_in place)) (bytes_on reads o)
+lie_under reads told exchanged None place unused there = λ number one heard. absurd (unheard (mirror_in place) (unused refl) number one heard)
+lie_under reads told exchanged (Some d) place unused there = there
 
 -- what the shelf holds beneath its mirrors
 lent_disk : {D C : Type 0} {g : _} (o : Option D) (place : Option (Place C g)) → option_map inner_of (mirrored_at o place) ≡ o
@@ -111,6 +131,25 @@ module _ {F D C : Type 0} {g : _} (Shelf : ShelfGhosts F D) (Disk : DiskGhosts D
       (λ name. mirrored_at (Shelf.disk new name) (place_at slots' name))
       (λ name. Shelf.disk_faults (was i) name + faults_in faults (place_at (were i) name))
       (λ name. Shelf.disk_faults new name + faults_in faults (place_at slots' name))) ∙ mirrors_copied answered directory
+
+  -- what the dials told of lies on the disks of the lent shelf
+  pub dials_lie : (told : Type 0) (exchanged : C → List Exchange) → (told → (name : Text) → count_in exchanged (place_at slots name) ≡ 0)
+      → (told → (name : Text) → Shelf.disk new name ≡ None → count_in exchanged (place_at slots' name) ≡ 0)
+      → ((name : Text) → AreThere (heard_on (λ (d : MirroredDisk D C g). heard_by told exchanged (mirror_of d))
+      (mirrored_at (Shelf.disk lent name) (place_at lent_slots name)))
+      (bytes_on (λ d. Disk.reads (inner_of d)) (mirrored_at (Shelf.disk lent name) (place_at lent_slots name)))
+      → AreThere (heard_on (λ (d : MirroredDisk D C g). heard_by told exchanged (mirror_of d)) (mirrored_at (Shelf.disk new name) (place_at slots' name)))
+      (bytes_on (λ d. Disk.reads (inner_of d)) (mirrored_at (Shelf.disk new name) (place_at slots' name))))
+      → (name : Text) → AreThere (heard_by told exchanged (mirror_in (place_at slots' name))) (bytes_on Disk.reads (Shelf.disk new name))
+  dials_lie told exchanged silent unused stays name =
+      lie_under Disk.reads told exchanged (Shelf.disk new name) (place_at slots' name) (λ none t. unused t name none)
+      (stays name (first (Shelf.disk lent name)))
+    where
+      first : (o : Option D) → AreThere (heard_on (λ (d : MirroredDisk D C g). heard_by told exchanged (mirror_of d))
+          (mirrored_at o (place_at lent_slots name))) (bytes_on (λ d. Disk.reads (inner_of d)) (mirrored_at o (place_at lent_slots name)))
+      first None number one heard = absurd heard
+      first (Some d) number one heard =
+          absurd (unheard (mirror_in (place_at lent_slots name)) (λ t. ap (λ s. count_in exchanged (place_at s name)) were ∙ silent t name) number one heard)
 
   before : (name : Text) → mirrored_at (Shelf.disk lent name) (place_at lent_slots name) ≡ mirrored_at (Shelf.disk old name) (place_at slots name)
   before name = λ i. mirrored_at (Shelf.disk (was i) name) (place_at (were i) name)

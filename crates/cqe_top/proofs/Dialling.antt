@@ -14,7 +14,8 @@ use Rattle.log_journal.specs.Opening.{header_bytes}
 use Rattle.log_journal.specs.declared.header.Header.{Header}
 use Rattle.policy_files.specs.Memory.{policy_user_of}
 use Rattle.policy_files.specs.Policies.{PolicyUser, PolicyValue}
-use Rattle.standby_core.specs.Calls.{IsCallBy, IsCallAmong, IsAnsweredIn, IsFromAmong}
+use Rattle.log_journal.specs.Walk.{IsNumbered}
+use Rattle.standby_core.specs.Calls.{IsCallBy, IsCallOn, IsAnsweredIn, IsFromAmong}
 use Rattle.standby_core.specs.Users.{texts_for}
 use Rattle.standby_core.proofs.Hanging.{all_weaker}
 use Rattle.cqe_top.specs.declared.end.CommandEnd.{CommandEnd}
@@ -109,14 +110,19 @@ answered_weaker P Q weaker all count (inl none) = inl none
 answered_weaker P Q weaker all count (inr (place, one, at, is, said)) = inr (place, one, at, weaker one is, said)
 
 module _ (header : Header) (standby directory : Text) (policy : PolicyValue) (users : List User) (are : map policy_user_of users ≡ policy.users) where
-  -- a call by the dial of one of these users tells of his records
-  call_for : (one : Exchange) → IsCallAmong (map (texts_for header standby directory) users) one → IsExchangeFor standby policy (header_bytes header) one
-  call_for one (place, texts, at, is) =
-      let found = found_from (texts_for header standby directory) users place texts at in (
+  -- a call by the dial of one of these users tells of a record of his that lies there
+  call_for : (bytes : Text → List ℕ) (one : Exchange) → IsCallOn (map (texts_for header standby directory) users) bytes one
+      → IsExchangeFor standby policy (header_bytes header) (λ name. bytes (journal_name directory name)) one
+  call_for bytes one (place, texts, at, is, lies) =
+      let found = found_from (texts_for header standby directory) users place texts at in
+      let here : (his : IsCallBy (texts_for header standby directory found.0) one)
+      × IsNumbered (bytes (get_or (texts_for header standby directory found.0) 0 [])) one.above (his.kind, his.text) =
+      subst (λ t. (his : IsCallBy t one) × IsNumbered (bytes (get_or t 0 [])) one.above (his.kind, his.text)) (sym found.2) (is, lies) in (
         place,
         policy_user_of found.0,
         subst (λ them. slice_get them place ≡ Some (policy_user_of found.0)) are (found_of policy_user_of users place found.0 found.1),
-        (header, refl, subst (λ t. IsCallBy t one) (sym found.2) is),
+        (header, refl, here.0),
+        here.1,
       )
 
   -- so many marks of a user may be told as were answered to his dial
@@ -134,15 +140,16 @@ module _ (header : Header) (standby directory : Text) (policy : PolicyValue) (us
       (answered_weaker (IsCallBy texts) (IsExchangeWith standby (header_bytes header) (policy_user_of found.0).name) (λ one is. (header, refl, is)) all
       (told (get_or texts 0 [])) his)
 
-  pub calls_from : (links : LinksScene) (world : FactSet) (told : Text → ℕ) (made : List (List Text)) (answers : List ℕ) (mid : List Exchange)
-      → made ≡ map (texts_for header standby directory) users → mid ≡ links.exchanged → (from : IsFromAmong made answers mid links.exchanged')
+  pub calls_from : (links : LinksScene) (world : FactSet) (told : Text → ℕ) (bytes : Text → List ℕ) (Lie : (Text → List ℕ) → Type 0)
+      (made : List (List Text)) (answers : List ℕ) (mid : List Exchange) → Lie bytes
+      → made ≡ map (texts_for header standby directory) users → mid ≡ links.exchanged → (from : IsFromAmong made answers Lie mid links.exchanged')
       → AllByRecursion (λ texts. IsAnsweredIn (IsCallBy texts) from.exchanges (told (get_or texts 0 []))) made
-      → CallsAlone links standby directory told policy world (header_bytes header)
-  calls_from links world told made answers mid is_made same from marks = record {
+      → CallsAlone links standby directory told (λ name. bytes (journal_name directory name)) policy world (header_bytes header)
+  calls_from links world told bytes Lie made answers mid lie is_made same from marks = record {
     exchanges = from.exchanges;
     further = from.further ∙ ap (λ l. l ++ from.exchanges) same;
-    each = all_weaker (IsCallAmong made) (IsExchangeFor standby policy (header_bytes header))
-        (λ one is. call_for one (subst (λ m. IsCallAmong m one) is_made is)) from.exchanges from.each;
+    each = all_weaker (IsCallOn made bytes) (IsExchangeFor standby policy (header_bytes header) (λ name. bytes (journal_name directory name)))
+        (λ one is. call_for bytes one (subst (λ m. IsCallOn m bytes one) is_made is)) from.exchanges (from.lie bytes lie);
     answered = answer_for told from.exchanges
         (subst (AllByRecursion (λ texts. IsAnsweredIn (IsCallBy texts) from.exchanges (told (get_or texts 0 [])))) is_made marks);
   }

@@ -1,8 +1,9 @@
 -- The commands `batch` and `serve` with a standby, which copies their journals. What is promised of
 -- them is what is promised without one, where exchanges with the standby that failed are counted
 -- with the faults of the users' disks, each with those of the disk whose name its dial has. And
--- each exchange calls the standby, and gives it the frame of some record of a user of the policy;
--- and each user has no more entries than the standby answered that it has of his.
+-- each exchange calls the standby, and gives it the frame of a record that lies in the journal of a
+-- user of the policy; and each user has no more entries than the standby answered that it has of
+-- his.
 use Rattle.std.specs.Prelude.{◌≡◌, ◌⊎◌, ℕ, ◌+◌, ◌-◌, ◌++◌, Bool, true, false, List, Option, Some}
 use Rattle.std.specs.List.{AllByRecursion, slice_get}
 use Rattle.outside.specs.Dials.{Exchange}
@@ -11,6 +12,7 @@ use Rattle.cqe_base.specs.Schema.{Text}
 use Rattle.command_words.specs.Readings.{FileNames, Reading, runs_copied_batch, runs_copied_serve}
 use Rattle.log_journal.specs.Names.{journal_name}
 use Rattle.log_journal.specs.Opening.{header_bytes}
+use Rattle.log_journal.specs.Walk.{IsNumbered}
 use Rattle.log_journal.specs.declared.header.Header.{Header}
 use Rattle.policy_files.specs.Policies.{PolicyUser, PolicyValue}
 use Rattle.standby_core.specs.Calls.{IsExchangeOf, IsAnsweredIn}
@@ -18,7 +20,7 @@ use Rattle.standby_core.specs.Users.{frame_user}
 use Rattle.cqe_top.specs.declared.end.CommandEnd.{CommandEnd}
 use Rattle.cqe_top.specs.declared.end.CommandEnd.TheVariants as command_end
 use Rattle.cqe_top.specs.Batch.{BatchEnds, BatchSucceeds}
-use Rattle.cqe_top.specs.Files.{IsUnread, SayOn}
+use Rattle.cqe_top.specs.Files.{IsUnread, SayOn, journals_of}
 use Rattle.cqe_top.specs.Scene.{Scene, LinksScene, SameInput, SameLinks, SameOutput, SameShelf}
 use Rattle.cqe_top.specs.Serve.{RunsServe, ServeSucceeds}
 
@@ -57,19 +59,22 @@ abbrev pub IsExchangeWith : Text → List ℕ → Text → Exchange → Type 0
 IsExchangeWith standby header name one = (own : Header) × (header_bytes own ≡ header)
     × IsExchangeOf standby own (frame_user name) one
 
--- of some record of a user of this policy
-abbrev pub IsExchangeFor : Text → PolicyValue → List ℕ → Exchange → Type 0
-IsExchangeFor standby policy header one = (place : ℕ) × (user : PolicyUser)
-    × (slice_get policy.users place ≡ Some user) × IsExchangeWith standby header user.name one
+-- of a record of a user of this policy, which lies in his journal, at its number, as the call ends
+abbrev pub IsExchangeFor : Text → PolicyValue → List ℕ → (Text → List ℕ) → Exchange → Type 0
+IsExchangeFor standby policy header reads one = (place : ℕ) × (user : PolicyUser)
+    × (slice_get policy.users place ≡ Some user)
+    × (is : IsExchangeWith standby header user.name one)
+    × IsNumbered (reads user.name) one.above (is.2.kind, is.2.text)
 
 -- All that was exchanged in the call are such exchanges. And of each user's journal, by its name,
 -- the marks that may be told are those with lower numbers than the standby answered to one for him;
 -- where it answered none, there are none.
 pub record CallsAlone (links : LinksScene) (standby directory : Text) (told : Text → ℕ)
-    (policy : PolicyValue) (world : FactSet) (header : List ℕ) : Type 0 where
+    (reads : Text → List ℕ) (policy : PolicyValue) (world : FactSet) (header : List ℕ)
+    : Type 0 where
   pub exchanges : List Exchange
   pub further : links.exchanged' ≡ links.exchanged ++ exchanges
-  pub each : AllByRecursion (IsExchangeFor standby policy header) exchanges
+  pub each : AllByRecursion (IsExchangeFor standby policy header reads) exchanges
   pub answered : (place : ℕ) (user : PolicyUser) → slice_get policy.users place ≡ Some user
       → IsAnsweredIn (IsExchangeWith standby header user.name) exchanges
       (told (journal_name directory user.name))
@@ -78,10 +83,12 @@ pub record CallsAlone (links : LinksScene) (standby directory : Text) (told : Te
 abbrev pub CallsStandby : Scene → FileNames → Text → (Text → ℕ) → CommandEnd → Type 0
 CallsStandby s files standby told (command_end.Batch users engine_end) =
     s.shelf.tells → s.links.tells
-    → SayOn s.shelf files (CallsAlone s.links standby files.directory told)
+    → SayOn s.shelf files (CallsAlone s.links standby files.directory told
+    (journals_of s.shelf files).reads)
 CallsStandby s files standby told (command_end.Serve users engine_end) =
     s.shelf.tells → s.links.tells
-    → SayOn s.shelf files (CallsAlone s.links standby files.directory told)
+    → SayOn s.shelf files (CallsAlone s.links standby files.directory told
+    (journals_of s.shelf files).reads)
 CallsStandby s files standby told end = s.links.tells → s.links.exchanged' ≡ s.links.exchanged
 
 -- the scene where of the disk of each name the marks may be told that have lower numbers than this

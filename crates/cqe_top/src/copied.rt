@@ -3,6 +3,7 @@ ghost use Rattle.std.specs.Prelude.{◌≡◌, ◌⊎◌, ◌≤◌, ◌<◌, �
 ghost use Rattle.std.specs.Prelude.{map, length, false};
 ghost use Rattle.outside.specs.Faults.{Rose};
 ghost use Rattle.outside.specs.Shelf.{SameNames, SameBeside, NoneOut, NoneFell, SomeRose};
+ghost use Rattle.outside.specs.Shelf.{bytes_on};
 ghost use Rattle.outside.specs.Visits.{place_of};
 ghost use Rattle.batch_engine.specs.Batch as batch;
 ghost use Rattle.command_words.specs.Readings.{names_of_files};
@@ -12,7 +13,8 @@ ghost use Rattle.line_protocol.specs.Rests.{IsRest};
 ghost use Rattle.log_journal.specs.Opening.{header_bytes};
 ghost use Rattle.serve_engine.specs.Serving as serving;
 ghost use Rattle.serve_engine.specs.Serving.{IsDone};
-ghost use Rattle.standby_core.specs.MirrorSets.{slots_of, dial_faults, dial_marks};
+ghost use Rattle.standby_core.specs.MirrorSets.{slots_of, dial_faults, dial_marks, DialsLie};
+ghost use Rattle.standby_core.specs.MirrorSets.{DialsSilent};
 ghost use Rattle.standby_core.specs.Places.{is_away};
 ghost use Rattle.standby_core.specs.Slots.{place_at, slot_texts, there_among};
 ghost use Rattle.cqe_top.specs.Promise.{Does};
@@ -160,11 +162,14 @@ where
     requires inside { NoneOut (F.is_out shelf.old) }
     requires fresh { (name : List ℕ) → dial_faults C.faults mirrors.old name ≡ 0 }
     requires there { (name : List ℕ) → is_away (place_at (slots_of mirrors.old) name) ≡ false }
+    requires silent { DialsSilent C.tells C.exchanged mirrors.old }
     ensures made { map (slot_texts C.name C.address) (slots_of mirrors.new)
         ≡ map (slot_texts C.name C.address) (slots_of mirrors.old) }
     ensures all_there { there_among (slots_of mirrors.new) ≡ length (slots_of mirrors.new) }
     ensures none_away { (name : List ℕ)
         → is_away (place_at (slots_of mirrors.new) name) ≡ false }
+    ensures lie { F.tells → DialsLie C.tells C.exchanged mirrors.new
+        (λ name. bytes_on F.D.reads (F.disk shelf.new name)) }
     ensures ends { F.tells → S.tells → K.tells
         → batch.EndsBatch registry.now.schema.now registry.now.world.now
         (header_bytes registry.now.header.now)
@@ -250,11 +255,14 @@ where
     requires most { listening.sessions ≤ 2 ^ 30 }
     requires fresh { (name : List ℕ) → dial_faults C.faults mirrors.old name ≡ 0 }
     requires there { (name : List ℕ) → is_away (place_at (slots_of mirrors.old) name) ≡ false }
+    requires silent { DialsSilent C.tells C.exchanged mirrors.old }
     ensures made { map (slot_texts C.name C.address) (slots_of mirrors.new)
         ≡ map (slot_texts C.name C.address) (slots_of mirrors.old) }
     ensures all_there { there_among (slots_of mirrors.new) ≡ length (slots_of mirrors.new) }
     ensures none_away { (name : List ℕ)
         → is_away (place_at (slots_of mirrors.new) name) ≡ false }
+    ensures lie { F.tells → DialsLie C.tells C.exchanged mirrors.new
+        (λ name. bytes_on F.D.reads (F.disk shelf.new name)) }
     ensures ends { F.tells → L.tells
         → serving.EndsServing registry.now.schema.now registry.now.world.now
         (header_bytes registry.now.header.now)

@@ -6,6 +6,7 @@ use Rattle.outside.specs.Faults.{Rose}
 use Rattle.outside.specs.declared.disk.Disk.{Ghosts as DiskGhosts}
 use Rattle.cqe_base.specs.Censor.{IsLegal}
 use Rattle.cqe_base.specs.Limits.{KeepsSizes}
+use Rattle.log_journal.specs.Walk.{AreThere}
 use Rattle.turnstile.specs.History.{Entries}
 use Rattle.user_desk.specs.Causes.{OpensWithin}
 use Rattle.user_desk.specs.Entries.{IsNoLonger}
@@ -23,8 +24,9 @@ use Rattle.desk_counter.specs.Sole.{IsAsOpened}
 -- with one entry in flight at most; only of a user who is served are there any; the count rose
 -- where an append failed; where none did, the disk has grown for the entries alone; the marks of
 -- all entries may be told; and where nothing was appended it is as it was at the opening; it comes
--- from where it came. Since the opening each image opens a desk with a beginning of the history,
--- with the entry in flight, that has all entries at the opening.
+-- from where it came; where what was told of lay there, it does now. Since the opening each image
+-- opens a desk with a beginning of the history, with the entry in flight, that has all entries at
+-- the opening.
 pub record IsClosed {D : Type 0} (Disk : DiskGhosts D) (kept : Fixed D)
     (first own pairs : Entries TurnItem) (disk : D) : Type 0 where
   pub holds : Disk.tells → is_sealed kept.standing ≡ false → (c : List ℕ) → Disk.image disk c
@@ -46,5 +48,7 @@ pub record IsClosed {D : Type 0} (Disk : DiskGhosts D) (kept : Fixed D)
       → OpensWithin kept.schema kept.world kept.user kept.header (length kept.opening)
       (history_of pairs ++ option_to_list (flying pairs)) c
   pub comes : Disk.origin disk ≡ Disk.origin kept.disk
+  pub there : Disk.tells → AreThere (Disk.heard kept.disk) (Disk.reads kept.disk)
+      → AreThere (Disk.heard disk) (Disk.reads disk)
   pub time : Elapses (Disk.moment kept.disk) (Disk.moment disk) (Disk.image_since kept.disk)
       (Disk.image_since disk)

@@ -8,7 +8,7 @@ use Rattle.cqe_base.specs.Schema.{Text, DatabaseSchema, has_duplicate}
 use Rattle.cqe_base.specs.Facts.{FactSet}
 use Rattle.desk_crew.specs.Crew.{seat_journal, seat_disk}
 use Rattle.desk_crew.specs.Seats.{DeskSeat}
-use Rattle.desk_crew.specs.Shelved.{IsBack}
+use Rattle.desk_crew.specs.Shelved.{IsBack, ThereOn}
 use Rattle.desk_crew.specs.Side.{DeskOpening, IsAtDisk, opening_journal, opening_faults, IsPutBack, KeepsOpening, IsKnown}
 
 -- the disks of these can be given back under their names: they are out, and their counts are no less
@@ -55,11 +55,12 @@ pub record AreReady {D : Type 0} {g h : _} (schema : DatabaseSchema) (world : Fa
   pub closed : AllByRecursion IsAtDisk openings
   pub can : CanPutBack Disk openings is_out count
 
--- what stands under a name reads as before, and no crash leaves anything new of it, at no moment either
+-- what stands under a name reads as before, and no crash leaves anything new of it, at no moment either; and where what was told of lay there, it does now
 abbrev pub Same : {D : Type 0} → DiskGhosts D → (Text → Option D) → (Text → Option D) → Text → Type 0
 Same Disk old new name =
     (bytes_on Disk.reads (new name) ≡ bytes_on Disk.reads (old name)) × ((c : List ℕ) → image_on Disk.image (new name) c → image_on Disk.image (old name) c)
     × NoNewSince Disk.moment Disk.image_since Disk.image (old name) (new name)
+    × (Disk.tells → ThereOn Disk (old name) → ThereOn Disk (new name))
 
 -- behind a refusal all disks are on the shelf, as they were
 pub record AreUnopened {D : Type 0} (told : Type 0) (Disk : DiskGhosts D) (names : List Text) (disk disk' : Text → Option D) (is_out' : Text → Bool)

@@ -3,6 +3,7 @@ pub mod Shelving
 pub mod Placing
 pub mod Reopening
 pub mod Owning
+pub mod Hearing
 pub mod Taking
 pub mod Asking
 pub mod Seated

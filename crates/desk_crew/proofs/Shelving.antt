@@ -112,6 +112,7 @@ module _ {D : Type 0} (Disk : DiskGhosts D) where
     later = omega arith;
     comes = refl;
     still_told = omega arith;
+    there = λ tells all. all;
     time = elapses_none (Disk.moment d) (Disk.image_since d) (Disk.image d) (counts_now d) (only_now d);
     rests = only_now d;
   }
@@ -123,6 +124,7 @@ module _ {D : Type 0} (Disk : DiskGhosts D) where
     later = omega (arith, first.later, second.later);
     comes = second.comes ∙ first.comes;
     still_told = omega (arith, first.still_told, second.still_told);
+    there = λ tells all. second.there tells (first.there tells all);
     time = elapses_then (Disk.moment a) (Disk.moment b) (Disk.moment c) (Disk.image_since a) (Disk.image_since b) (Disk.image_since c) first.time
         second.time;
     rests = over_both (Disk.moment a) (Disk.moment b) (Disk.moment c) (Disk.image_since b) (Disk.image_since c) (Disk.image a) first.time.later second.time

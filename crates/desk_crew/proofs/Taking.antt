@@ -19,7 +19,7 @@ use Rattle.cqe_base.proofs.Lists.{text_is}
 use Rattle.censors.specs.Admitting.{admission_of}
 use Rattle.log_journal.specs.Names.{journal_name, JournalsDiffer}
 use Rattle.desk_crew.specs.Crew.{named_user, seat_user, seat_journal, seat_disk, IsSeatServed, IsOpenedFrom}
-use Rattle.desk_crew.specs.Shelved.{journals, AreBack, AreLater, IsSeatOf, AreSeatsOf}
+use Rattle.desk_crew.specs.Shelved.{journals, AreBack, AreLater, IsSeatOf, AreSeatsOf, ThereOn}
 use Rattle.desk_crew.specs.Seats.{DeskSeat}
 use Rattle.desk_crew.specs.declared.seat.Returned.{Returned}
 use Rattle.desk_crew.specs.Registered.{AllKeepLimits, HaveOwnNames, registered_journals}
@@ -187,6 +187,7 @@ module _ (directory : Text) where
           λ c here. taken_images Disk.reads Disk.image (disk0 journal) closed.disk c (at.from t)
               (left.images c (subst (λ o. image_on Disk.image o c) held' here)),
           taken_rests Disk (disk0 journal) (disk' journal) closed.disk now (at.from t) left.rests held',
+          λ tells was. subst (ThereOn Disk) (sym held') (left.there tells (λ number one heard. absurd (at.unheard number one heard))),
         )
       where
         held' : disk' journal ≡ Some now
@@ -296,6 +297,7 @@ module _ (directory : Text) where
               ap (bytes_on Disk.reads) still,
               λ c here. subst (λ d. image_on Disk.image d c) still here,
               same_rests Disk only_now (disk0 name) (disk' name) still,
+              λ tells was. subst (ThereOn Disk) (sym still) was,
             ));
         disks = λ name none. given.disks name (taken_beside name none) ∙ so_far.disks name (taken_beside name none);
         counts = λ name.
@@ -344,6 +346,7 @@ module _ (directory : Text) where
             first_too closed taken = record {
               journal_is = taken.journal_is;
               from = λ t. subst (λ o. IsTaken Disk.reads Disk.image o closed.disk) (so_far.disks one next_none) (taken.from t);
+              unheard = taken.unheard;
               counted = taken.counted ∙ so_far.counts one;
             }
 
@@ -411,6 +414,7 @@ module _ (schema : DatabaseSchema) (world : FactSet) (header : List ℕ) (direct
         journal_is = named;
         taken = closed.disk;
         from = λ t. subst (λ n. IsTaken Disk.reads Disk.image (disk0 n) closed.disk) (sym named) (taken.from t);
+        unheard = taken.unheard;
         counted = taken.counted ∙ ap count0 (sym named);
         opened = subst (λ before. IsOpenedFrom schema world header Disk closed.disk before seat) at.before_is on.opened;
         left = on.left;

@@ -11,6 +11,7 @@ use Rattle.cqe_base.specs.Run.{Reply, UserState}
 use Rattle.cqe_base.specs.Transcript.{NamedUser}
 use Rattle.cqe_base.specs.declared.user.User.{User}
 use Rattle.censors.specs.Admitting.{admission_of}
+use Rattle.log_journal.specs.Walk.{AreThere}
 use Rattle.user_desk.specs.Causes.{IsStanding}
 use Rattle.cqe_base.specs.Censor.{IsLegal}
 use Rattle.cqe_base.specs.Limits.{KeepsSizes}
@@ -107,8 +108,8 @@ journal_seated (Ok seat) = seat_journal seat
 journal_seated (Err returned) = string_bytes returned.journal
 
 -- an opening leaves a disk as it was: it reads the same, no crash leaves anything new, at no moment
--- of it either, its count of faults didn't fall, it comes from where it came, and each mark that
--- might be told still may
+-- of it either, its count of faults didn't fall, it comes from where it came, each mark that might
+-- be told still may, and where what was told of lay there, it does now
 pub record IsLeft {D : Type 0} (Disk : DiskGhosts D)
     (old new : D) : Type 0 where
   pub reads_same : Disk.reads new ≡ Disk.reads old
@@ -116,6 +117,8 @@ pub record IsLeft {D : Type 0} (Disk : DiskGhosts D)
   pub later : Disk.faults old ≤ Disk.faults new
   pub comes : Disk.origin new ≡ Disk.origin old
   pub still_told : Disk.told old ≤ Disk.told new
+  pub there : Disk.tells → AreThere (Disk.heard old) (Disk.reads old)
+      → AreThere (Disk.heard new) (Disk.reads new)
   pub time : Elapses (Disk.moment old) (Disk.moment new) (Disk.image_since old)
       (Disk.image_since new)
   pub rests : (c : List ℕ) → Disk.image_since new (Disk.moment old) c → Disk.image old c

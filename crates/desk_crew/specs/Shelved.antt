@@ -2,6 +2,7 @@
 use Rattle.std.specs.Prelude.{◌≡◌, ◌⊎◌, ℕ, ◌≤◌, Bool, true, false, List, [], ◌∷◌, Option, Some}
 use Rattle.std.specs.Prelude.{None, map, option_map, string_bytes, IfSome}
 use Rattle.std.specs.List.{AllByRecursion}
+use Rattle.outside.specs.Disk.{HeardNothing}
 use Rattle.outside.specs.declared.disk.Disk.{Ghosts as DiskGhosts}
 use Rattle.outside.specs.Shelf.{IsTaken, bytes_on, image_on, since_on, is_among}
 use Rattle.outside.specs.declared.shelf.Shelf.{Ghosts as ShelfGhosts}
@@ -9,6 +10,8 @@ use Rattle.cqe_base.specs.Schema.{Text, DatabaseSchema}
 use Rattle.cqe_base.specs.Facts.{FactSet}
 use Rattle.cqe_base.specs.declared.user.User.{User}
 use Rattle.log_journal.specs.Names.{journal_name}
+use Rattle.log_journal.specs.Records.{Recorded}
+use Rattle.log_journal.specs.Walk.{AreThere}
 use Rattle.desk_crew.specs.Crew.{seat_user, seat_journal, seat_disk, IsLeft, IsLeftBy, IsOpenedFrom}
 use Rattle.desk_crew.specs.Seats.{DeskSeat}
 
@@ -102,6 +105,20 @@ abbrev pub KeepsJournalsBut : List Text → Journals → Type 0
 KeepsJournalsBut names journals =
     (name : Text) → is_among names name ≡ false → KeepsJournal journals name
 
+-- what was told of records of a disk, nothing where there is none
+abbrev pub heard_on : {D : Type 0} → (D → ℕ → Recorded → Type 0) → Option D → ℕ → Recorded → Type 0
+heard_on heard None number one = ⊥
+heard_on heard (Some disk) number one = heard disk number one
+
+-- each record that was told of lies on the disk
+abbrev pub ThereOn : {D : Type 0} → DiskGhosts D → Option D → Type 0
+ThereOn Disk disk = AreThere (heard_on Disk.heard disk) (bytes_on Disk.reads disk)
+
+-- so it is with the disk of each name with which it was so
+abbrev pub StaysThere : {D : Type 0} → DiskGhosts D → (Text → Option D) → (Text → Option D) → Type 0
+StaysThere Disk old new =
+    Disk.tells → (name : Text) → ThereOn Disk (old name) → ThereOn Disk (new name)
+
 -- the names of the seats' journals
 abbrev pub journals : {D : Type 0} {g h : _} → List (DeskSeat D g h) → List Text
 journals seats = map seat_journal seats
@@ -111,6 +128,11 @@ journals seats = map seat_journal seats
 abbrev pub AreLater : {D : Type 0} {g h : _} → (D → ℕ) → (Text → ℕ) → List (DeskSeat D g h) → Type 0
 AreLater faults count seats =
     AllByRecursion (λ seat. count (seat_journal seat) ≤ faults (seat_disk seat)) seats
+
+-- what was told of the disk of each seat lay there as its desk was opened
+abbrev pub SeatsThere : {D : Type 0} {g h : _} → DiskGhosts D → List (DeskSeat D g h) → Type 0
+SeatsThere Disk seats = AllByRecursion
+    (λ seat. AreThere (Disk.heard (seat_disk seat)) (Disk.reads (seat_disk seat))) seats
 
 -- the disk of each seat comes from where the shelf knows the one under its journal's name to come
 -- from
@@ -140,6 +162,7 @@ module _ {D : Type 0} (told : Type 0) (Disk : DiskGhosts D) where
       pub journal_is : seat_journal seat ≡ journal_name directory (string_bytes user.name)
       pub taken : D
       pub from : told → IsTaken Disk.reads Disk.image (disk (seat_journal seat)) taken
+      pub unheard : HeardNothing (Disk.heard taken)
       pub counted : Disk.faults taken ≡ count (seat_journal seat)
       pub opened : IsOpenedFrom schema world header Disk taken None seat
       pub left : IsLeft Disk taken (seat_disk seat)

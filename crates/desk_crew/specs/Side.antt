@@ -3,6 +3,7 @@ use Rattle.std.specs.Prelude.{◌≡◌, ◌≤◌, ◌<◌, ℕ, Bool, true, fa
 use Rattle.std.specs.Prelude.{string_bytes, slice_index_or, Option, Some, None, Result, Ok, Err}
 use Rattle.std.specs.Prelude.{IfOk, IfSome, IsSome}
 use Rattle.std.specs.List.{AllByRecursion, AllZip}
+use Rattle.outside.specs.Disk.{HeardNothing}
 use Rattle.outside.specs.Shelf.{IsTaken}
 use Rattle.outside.specs.declared.disk.Disk.{Ghosts as DiskGhosts}
 use Rattle.cqe_base.specs.Schema.{Text, DatabaseSchema}
@@ -145,6 +146,7 @@ module _ {D : Type 0} (told : Type 0) (Disk : DiskGhosts D) where
       (closed : Returned D) : Type 0 where
     pub journal_is : string_bytes closed.journal ≡ journal
     pub from : told → IsTaken Disk.reads Disk.image (disk journal) closed.disk
+    pub unheard : HeardNothing (Disk.heard closed.disk)
     pub counted : Disk.faults closed.disk ≡ count journal
 
   -- a user's journal was taken from the shelf, to be opened

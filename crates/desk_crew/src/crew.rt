@@ -14,7 +14,7 @@ ghost use Rattle.desk_crew.specs.Crew.{seat_broke, IsSeatServed, AreReopened};
 ghost use Rattle.outside.specs.Shelf.{SameBeside, AllOut, AllIn, NoneOut, NoneFell, AreOut};
 ghost use Rattle.outside.specs.Shelf.{SameBytes, NoNewImages, NoNewMoments};
 ghost use Rattle.desk_crew.specs.Shelved.{journals};
-ghost use Rattle.desk_crew.specs.Shelved.{AreLater, AreOwn, AreBack, AreSeatsOf};
+ghost use Rattle.desk_crew.specs.Shelved.{AreLater, AreOwn, AreBack, AreSeatsOf, StaysThere};
 ghost use Rattle.desk_crew.specs.Side.{IsAtDisk, HasPlace, opening_journal, opening_journals};
 ghost use Rattle.desk_crew.specs.Side.{opening_faults, OpeningsLater, IsOwn, OpeningsOwn};
 ghost use Rattle.desk_crew.specs.Side.{IsPutBack, ArePutBack};
@@ -322,6 +322,8 @@ where
         → OnErr result (NoNewImages F.D.image (F.disk shelf.old) (F.disk shelf.new)) }
     ensures refused_moments { F.tells → OnErr result
         (NoNewMoments F.D.moment F.D.image_since F.D.image (F.disk shelf.old) (F.disk shelf.new)) }
+    ensures refused_there { F.tells
+        → OnErr result (StaysThere F.D.Disk (F.disk shelf.old) (F.disk shelf.new)) }
     ensures fell { NoneFell (F.disk_faults shelf.old) (F.disk_faults shelf.new) }
     ensures later { F.faults shelf.old ≤ F.faults shelf.new }
     ensures files { SameNames (F.file shelf.old) (F.file shelf.new) }

@@ -177,6 +177,8 @@ impl Disk for UntoldDisk {
 
     ghost told = { λ d. 2 ^ 64 };
 
+    ghost heard = { λ disk number one. ⊥ };
+
     ghost origin = { λ d. [] };
 
     ghost read_is_image = { λ d told. told };

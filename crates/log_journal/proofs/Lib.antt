@@ -2,6 +2,7 @@ pub mod Pieces
 pub mod Fronts
 pub mod Appends
 pub mod Counts
+pub mod Hearing
 pub mod Reading
 pub mod Windows
 pub mod Walks

@@ -25,6 +25,11 @@ records bytes = opened 0 (drop 72 bytes)
 abbrev pub IsNumbered : List ℕ → ℕ → Recorded → Type 0
 IsNumbered bytes number one = slice_get (records bytes) number ≡ Some one
 
+-- each record that was heard is one of them, with its number
+abbrev pub AreThere : (ℕ → Recorded → Type 0) → List ℕ → Type 0
+AreThere heard bytes =
+    (number : ℕ) (one : Recorded) → heard number one → IsNumbered bytes number one
+
 -- one of so many kinds and a length of at most 4,096, whose lower byte is a byte, and the text lies
 -- there with the next gate
 abbrev pub is_whole : ℕ → ℕ → ℕ → ℕ → List ℕ → Bool

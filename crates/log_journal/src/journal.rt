@@ -1,11 +1,11 @@
 //! A journal on a disk.
 ghost use Rattle.std.specs.Prelude.{◌≡◌, ◌≤◌, ◌<◌, ◌+◌, ◌++◌, ◌∷◌, [], false, List, ℕ, length};
 ghost use Rattle.std.specs.Prelude.{◌^◌, take, OnOk};
-ghost use Rattle.outside.specs.Disk.{Only, Elapses};
+ghost use Rattle.outside.specs.Disk.{Only, Elapses, HearsNoMore};
 ghost use Rattle.outside.specs.Faults.{HasCause};
 ghost use Rattle.log_journal.specs.Bytes.{EndsAt, piece_of};
 ghost use Rattle.log_journal.specs.Records.{Adds, KeepsOrAdds};
-ghost use Rattle.log_journal.specs.Walk.{records};
+ghost use Rattle.log_journal.specs.Walk.{records, AreThere};
 
 use crate::AppendError;
 use crate::put::put;
@@ -36,7 +36,7 @@ impl<D: Disk> Journal<D> {
     ghost use Rattle.outside.specs.Disk.{Elapses};
     ghost use Rattle.outside.specs.Faults.{Rose};
     ghost use Rattle.log_journal.specs.Records.{Adds, KeepsOrAdds};
-    ghost use Rattle.log_journal.specs.Walk.{records};
+    ghost use Rattle.log_journal.specs.Walk.{records, AreThere};
     ghost use Rattle.log_journal.specs.Journal.{disk_of, is_broken, count_of, room_of, HasRoom};
 
     /// A journal of so many records whose closed gate stands at this place.
@@ -116,6 +116,11 @@ impl<D: Disk> Journal<D> {
         // Behind Ok its mark may be told, and those that might be before it still may.
         ensures may_be_told { OnOk result (count_of self.old < D.told (disk_of self.new)) }
         ensures told { D.told (disk_of self.old) ≤ D.told (disk_of self.new) }
+
+        // What was told of is a record that lies there.
+        ensures heard { D.tells
+            → AreThere (D.heard (disk_of self.old)) (D.reads (disk_of self.old))
+            → AreThere (D.heard (disk_of self.new)) (D.reads (disk_of self.new)) }
         ensures origin { D.origin (disk_of self.new) ≡ D.origin (disk_of self.old) }
 
         // The count is that of the records.
@@ -204,6 +209,8 @@ fn put_told<D: Disk>(
         → KeepsOrAdds (D.reads disk.old) (kind, text.now) c }
     ensures may_be_told { OnOk result (number < D.told disk.new) }
     ensures told { D.told disk.old ≤ D.told disk.new }
+    ensures heard { D.tells → AreThere (D.heard disk.old) (D.reads disk.old)
+        → AreThere (D.heard disk.new) (D.reads disk.new) }
     ensures origin { D.origin disk.new ≡ D.origin disk.old }
     ensures next { D.tells → OnOk result (length (records (D.reads disk.new)) ≡ number + 1) }
     ensures grown { D.tells → OnOk result (records (D.reads disk.new)
@@ -242,6 +249,7 @@ fn put_record<D: Disk>(
     ensures moments { D.tells → (c : List ℕ) → D.image_since disk.new (D.moment disk.old) c
         → KeepsOrAdds (D.reads disk.old) (kind, text.now) c }
     ensures told { D.told disk.old ≤ D.told disk.new }
+    ensures heard { HearsNoMore (D.heard disk.old) (D.heard disk.new) }
     ensures origin { D.origin disk.new ≡ D.origin disk.old }
     ensures cause { HasCause (D.faults disk.old) (D.faults disk.new) result }
 {

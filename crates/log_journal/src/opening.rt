@@ -2,10 +2,10 @@
 ghost use Rattle.std.specs.Prelude.{◌≡◌, ◌≢◌, ◌⊎◌, ◌≤◌, ◌<◌, ◌+◌, ◌++◌, ◌∷◌, [], ◌^◌, false, List};
 ghost use Rattle.std.specs.Prelude.{ℕ, length, take, drop, Some, None, IfSome, IfNone, IfOk, IfErr};
 ghost use Rattle.std.specs.Prelude.{OnOk, IsErrOf, IsTrue, ◌↔◌, map, All, slice_index_or};
-ghost use Rattle.outside.specs.Disk.{Only, Elapses};
+ghost use Rattle.outside.specs.Disk.{Only, Elapses, HearsNoMore};
 ghost use Rattle.outside.specs.Faults.{HasCause, Rose};
 ghost use Rattle.log_journal.specs.Records.{Recorded, IsJournal};
-ghost use Rattle.log_journal.specs.Walk.{damaged, records};
+ghost use Rattle.log_journal.specs.Walk.{damaged, records, AreThere};
 ghost use Rattle.log_journal.specs.Bytes.{EndsAt};
 ghost use Rattle.log_journal.specs.Opening.{headed, header_bytes, IsJournalOf, IsOldJournal};
 ghost use Rattle.log_journal.specs.Opening.{recorded, IsRecord, Refuses, RefusesOld, IsRefused};
@@ -201,6 +201,7 @@ fn record_at<D: Disk>(
         (D.faults disk.old) (D.faults disk.new) }
     ensures origin { D.origin disk.new ≡ D.origin disk.old }
     ensures still_told { D.told disk.old ≤ D.told disk.new }
+    ensures heard { HearsNoMore (D.heard disk.old) (D.heard disk.new) }
 {
     let mut window = [0; WINDOW];
     let count = disk.read_at(gate, &mut window)?;
@@ -228,6 +229,7 @@ fn read_records<D: Disk>(
         (D.faults disk.old) (D.faults disk.new) }
     ensures origin { D.origin disk.new ≡ D.origin disk.old }
     ensures still_told { D.told disk.old ≤ D.told disk.new }
+    ensures heard { HearsNoMore (D.heard disk.old) (D.heard disk.new) }
 {
     let mut records = Vec::new(alloc);
     let mut gate = 72;
@@ -256,6 +258,7 @@ fn read_header<D: Disk>(disk: &mut D, first: &[u8; 8], header: &Header) -> Resul
         (D.faults disk.old) (D.faults disk.new) }
     ensures origin { D.origin disk.new ≡ D.origin disk.old }
     ensures still_told { D.told disk.old ≤ D.told disk.new }
+    ensures heard { HearsNoMore (D.heard disk.old) (D.heard disk.new) }
 {
     let _length = disk.length()?;
     let mut start = [0; 73];
@@ -290,6 +293,7 @@ fn read_journal<D: Disk>(
         (D.faults disk.old) (D.faults disk.new) }
     ensures origin { D.origin disk.new ≡ D.origin disk.old }
     ensures still_told { D.told disk.old ≤ D.told disk.new }
+    ensures heard { HearsNoMore (D.heard disk.old) (D.heard disk.new) }
 {
     read_header(disk, first, header)?;
     read_records(alloc, disk, kinds)
@@ -315,6 +319,7 @@ fn read_synced<D: Disk>(
     ensures reads { D.reads disk.new ≡ D.reads disk.old }
     ensures origin { D.origin disk.new ≡ D.origin disk.old }
     ensures still_told { D.told disk.old ≤ D.told disk.new }
+    ensures heard { HearsNoMore (D.heard disk.old) (D.heard disk.new) }
     ensures durable { OnOk result (Only (D.reads disk.new) (D.image disk.new)) }
     ensures synced { IfErr result (λ why. (why ≡ OpenError.DiskFault)
         ⊎ Only (D.reads disk.new) (D.image disk.new)) }
@@ -349,6 +354,8 @@ fn read_told<D: Disk>(
     ensures reads { D.reads disk.new ≡ D.reads disk.old }
     ensures origin { D.origin disk.new ≡ D.origin disk.old }
     ensures still_told { D.told disk.old ≤ D.told disk.new }
+    ensures heard { D.tells → AreThere (D.heard disk.old) (D.reads disk.old)
+        → AreThere (D.heard disk.new) (D.reads disk.new) }
     ensures durable { OnOk result (Only (D.reads disk.new) (D.image disk.new)) }
     ensures synced { IfErr result (λ why. (why ≡ OpenError.DiskFault)
         ⊎ Only (D.reads disk.new) (D.image disk.new)) }
@@ -400,6 +407,10 @@ pub fn open<D: Disk>(
 
     // No mark that might be told before may not be told any more.
     ensures still_told { D.told disk ≤ D.told (disk_after result) }
+
+    // What was told of is a record that lies there.
+    ensures heard { D.tells → AreThere (D.heard disk) (D.reads disk)
+        → AreThere (D.heard (disk_after result)) (D.reads (disk_after result)) }
     ensures durable { OnOk result (Only (D.reads disk) (D.image (disk_after result))) }
     ensures synced { IfErr result (λ r. (r.why ≡ OpenError.DiskFault)
         ⊎ Only (D.reads disk) (D.image r.disk)) }

@@ -1,6 +1,6 @@
 //! The device calls of a journal: writes that are on the disk when they return.
 ghost use Rattle.std.specs.Prelude.{◌≡◌, ◌⊎◌, ◌≤◌, ◌<◌, ◌+◌, ◌^◌, List, ℕ, length, OnOk};
-ghost use Rattle.outside.specs.Disk.{Holds, Torn, Only, Elapses};
+ghost use Rattle.outside.specs.Disk.{Holds, Torn, Only, Elapses, HearsNoMore};
 ghost use Rattle.outside.specs.Faults.{HasCause};
 ghost use Rattle.log_journal.specs.Bytes.{with_piece, IsBetween};
 
@@ -21,6 +21,7 @@ pub(crate) fn write_synced<D: Disk>(disk: &mut D, at: u64, piece: &[u8]) -> Resu
     ensures moments { (c : List ℕ) → D.image_since disk.new (D.moment disk.old) c
         → Torn at (length piece.now) (D.reads disk.old) c }
     ensures told { D.told disk.old ≤ D.told disk.new }
+    ensures heard { HearsNoMore (D.heard disk.old) (D.heard disk.new) }
     ensures origin { D.origin disk.new ≡ D.origin disk.old }
     ensures cause { HasCause (D.faults disk.old) (D.faults disk.new) result }
 {
@@ -48,6 +49,7 @@ pub(crate) fn put<D: Disk>(disk: &mut D, gate: u64, piece: &[u8]) -> Result<(), 
     ensures moments { D.tells → (c : List ℕ) → D.image_since disk.new (D.moment disk.old) c
         → IsBetween (D.reads disk.old) gate piece.now c }
     ensures told { D.told disk.old ≤ D.told disk.new }
+    ensures heard { HearsNoMore (D.heard disk.old) (D.heard disk.new) }
     ensures origin { D.origin disk.new ≡ D.origin disk.old }
     ensures cause { HasCause (D.faults disk.old) (D.faults disk.new) result }
 {

@@ -1,9 +1,9 @@
 //! Telling a disk of the records that lie on it, so that their marks may be told.
 ghost use Rattle.std.specs.Prelude.{◌≡◌, ◌<◌, ◌≤◌, ◌+◌, ◌^◌, All, length, map, OnOk};
-ghost use Rattle.outside.specs.Disk.{Only};
+ghost use Rattle.outside.specs.Disk.{Only, HearsAtMost};
 ghost use Rattle.outside.specs.Faults.{HasCause};
 ghost use Rattle.log_journal.specs.Opening.{recorded, IsRecord, IsOnlyRead};
-ghost use Rattle.log_journal.specs.Walk.{records, IsNumbered};
+ghost use Rattle.log_journal.specs.Walk.{records, IsNumbered, AreThere};
 
 use crate::Record;
 use outside::{Disk, Failed};
@@ -23,6 +23,7 @@ pub(crate) fn tell_record<D: Disk>(
     requires few { number + 1 < 2 ^ 64 }
     ensures may_be_told { OnOk result (number < D.told disk.new) }
     ensures told { D.told disk.old ≤ D.told disk.new }
+    ensures heard { HearsAtMost number (kind, text.now) (D.heard disk.old) (D.heard disk.new) }
     ensures origin { D.origin disk.new ≡ D.origin disk.old }
     ensures only { IsOnlyRead (D.reads disk.old) (D.reads disk.new) (D.image disk.old)
         (D.image disk.new)
@@ -41,6 +42,8 @@ pub(crate) fn tell_all<D: Disk>(disk: &mut D, all: &[Record]) -> Result<(), Fail
     requires few { length all.now < 2 ^ 64 }
     ensures told { OnOk result (length all.now ≤ D.told disk.new) }
     ensures still_told { D.told disk.old ≤ D.told disk.new }
+    ensures heard { D.tells → AreThere (D.heard disk.old) (D.reads disk.old)
+        → AreThere (D.heard disk.new) (D.reads disk.new) }
     ensures origin { D.origin disk.new ≡ D.origin disk.old }
     ensures only { IsOnlyRead (D.reads disk.old) (D.reads disk.new) (D.image disk.old)
         (D.image disk.new)

@@ -33,3 +33,17 @@ pub record Elapses (before now : ℕ) (past since : ℕ → List ℕ → Type 0)
   pub nothing_else : (t : ℕ) (c : List ℕ) → t ≤ before → since t c → past t c ⊎ since before c
   pub keeps : (t : ℕ) (c : List ℕ) → t ≤ before → past t c → since t c
   pub adds : (t : ℕ) (c : List ℕ) → t ≤ before → since before c → since t c
+
+-- A disk was told of no record more. What it heard is said by the number and the kind and text.
+abbrev pub HearsNoMore : (ℕ → ℕ × List ℕ → Type 0) → (ℕ → ℕ × List ℕ → Type 0) → Type 0
+HearsNoMore old new = (number : ℕ) (one : ℕ × List ℕ) → new number one → old number one
+
+-- It was told of this record with this number at most.
+abbrev pub HearsAtMost : ℕ → ℕ × List ℕ → (ℕ → ℕ × List ℕ → Type 0) → (ℕ → ℕ × List ℕ → Type 0)
+    → Type 0
+HearsAtMost told record' old new = (number : ℕ) (one : ℕ × List ℕ) → new number one
+    → old number one ⊎ ((number ≡ told) × (one ≡ record'))
+
+-- It was told of none.
+abbrev pub HeardNothing : (ℕ → ℕ × List ℕ → Type 0) → Type 0
+HeardNothing heard = (number : ℕ) (one : ℕ × List ℕ) → heard number one → ⊥

@@ -2,6 +2,7 @@
 ghost use Rattle.std.specs.Prelude.{◌≡◌, ◌⊎◌, ◌<◌, ◌≤◌, ◌+◌, ◌^◌, List, ℕ, length, IfOk, OnOk};
 ghost use Rattle.std.specs.Prelude.{OnErr};
 ghost use Rattle.outside.specs.Disk.{Holds, Fills, Torn, Follows, Only, Elapses};
+ghost use Rattle.outside.specs.Disk.{HearsNoMore, HearsAtMost};
 ghost use Rattle.outside.specs.Faults.{HasCause};
 
 use crate::Failed;
@@ -36,6 +37,10 @@ pub trait Disk {
     /// nothing copies lets all be told.
     ghost told: { Self → ℕ };
 
+    /// Something was told of this record with this number, its kind and its text. Of a disk that
+    /// nothing copies nothing ever is.
+    ghost heard: { Self → ℕ → ℕ × List ℕ → Type 0 };
+
     /// What says where it comes from, of which its shelf knows by its name. No call changes it.
     ghost origin: { Self → List (List ℕ) };
 
@@ -49,6 +54,7 @@ pub trait Disk {
         ensures moments { (c : List ℕ) → image_since self.new (moment self.old) c
             → image self.old c }
         ensures told { told self.old ≤ told self.new }
+        ensures heard { HearsNoMore (heard self.old) (heard self.new) }
         ensures origin { origin self.new ≡ origin self.old }
         ensures cause { HasCause (faults self.old) (faults self.new) result };
 
@@ -66,6 +72,7 @@ pub trait Disk {
         ensures moments { (c : List ℕ) → image_since self.new (moment self.old) c
             → image self.old c }
         ensures told { told self.old ≤ told self.new }
+        ensures heard { HearsNoMore (heard self.old) (heard self.new) }
         ensures origin { origin self.new ≡ origin self.old }
         ensures cause { HasCause (faults self.old) (faults self.new) result };
 
@@ -82,6 +89,7 @@ pub trait Disk {
         ensures moments { (c : List ℕ) → image_since self.new (moment self.old) c
             → image self.old c ⊎ image self.new c }
         ensures told { told self.old ≤ told self.new }
+        ensures heard { HearsNoMore (heard self.old) (heard self.new) }
         ensures origin { origin self.new ≡ origin self.old }
         ensures cause { HasCause (faults self.old) (faults self.new) result };
 
@@ -95,13 +103,14 @@ pub trait Disk {
         ensures moments { (c : List ℕ) → image_since self.new (moment self.old) c
             → image self.old c }
         ensures told { told self.old ≤ told self.new }
+        ensures heard { HearsNoMore (heard self.old) (heard self.new) }
         ensures origin { origin self.new ≡ origin self.old }
         ensures cause { HasCause (faults self.old) (faults self.new) result };
 
     /// Sees to it that the mark of the record of this number, from 0, may be told. The caller gives
-    /// its kind and its text, and no clause says that they are those of the record that lies there.
-    /// A disk that is copied elsewhere answers Ok once it was answered a count above the number.
-    /// The disk stays as it is.
+    /// its kind and its text, and has to see to it that they are those of the record that lies
+    /// there. A disk that is copied elsewhere answers Ok once it was answered a count above the
+    /// number. The disk stays as it is.
     fn tell(&mut self, number: u64, kind: u8, text: &[u8]) -> Result<(), Failed>
         requires low { 1 ≤ kind }
         requires high { kind ≤ 5 }
@@ -109,6 +118,7 @@ pub trait Disk {
         requires few { number + 1 < 2 ^ 64 }
         ensures may_be_told { OnOk result (number < told self.new) }
         ensures told { told self.old ≤ told self.new }
+        ensures heard { HearsAtMost number (kind, text.now) (heard self.old) (heard self.new) }
         ensures origin { origin self.new ≡ origin self.old }
         ensures reads { reads self.new ≡ reads self.old }
         ensures images { (c : List ℕ) → image self.new c → image self.old c }

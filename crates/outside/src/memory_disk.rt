@@ -184,6 +184,8 @@ impl Disk for MemoryDisk {
 
     ghost told = { λ d. 2 ^ 64 };
 
+    ghost heard = { λ disk number one. ⊥ };
+
     ghost origin = { λ d. [] };
 
     ghost read_is_image = { λ d told.

@@ -1,6 +1,7 @@
 //! Files and disks by their names.
 ghost use Rattle.std.specs.Prelude.{◌≡◌, ◌≤◌, ◌++◌, ◌∷◌, [], List, ℕ, Bool, true, false, Option};
 ghost use Rattle.std.specs.Prelude.{Some, None, IfOk, OnOk, OnErr, IsErrOf};
+ghost use Rattle.outside.specs.Disk.{HeardNothing};
 ghost use Rattle.outside.specs.Faults.{Rose};
 ghost use Rattle.outside.specs.Shelf.{IsTaken, Lent, Looks, SameNames};
 ghost use Rattle.outside.specs.Shelf.{SameOthers};
@@ -70,7 +71,7 @@ pub trait Shelf {
             → Rose (faults self.old) (faults self.new) };
 
     /// Takes the disk of this name. Where there is none it makes one without bytes, so that it
-    /// never answers Missing.
+    /// never answers Missing. Nothing was told of a record of it yet.
     fn take_disk(&mut self, alloc: Global, name: &str) -> Result<Self::D, ShelfError>
         requires { is_out self.old name.now ≡ false }
         ensures taken { tells
@@ -78,6 +79,7 @@ pub trait Shelf {
         ensures count { IfOk result (λ taken. Self.D.faults taken ≡ disk_faults self.old name.now) }
         ensures origin { IfOk result
             (λ taken. Self.D.origin taken ≡ (lent self.old).origin name.now) }
+        ensures unheard { IfOk result (λ taken. HeardNothing (Self.D.heard taken)) }
         ensures gone { tells → OnOk result (disk self.new name.now ≡ None) }
         ensures disks { SameOthers name.now (disk self.old) (disk self.new) }
         ensures out { OnOk result (is_out self.new name.now ≡ true) }

@@ -76,6 +76,8 @@ impl<F: Read + Write + Seek + OpenFile> Disk for FileDisk<F> {
 
     ghost told = { λ disk. 2 ^ 64 };
 
+    ghost heard = { λ disk number one. ⊥ };
+
     ghost origin = { λ disk. [] };
 
     ghost read_is_image = { λ disk told. told };

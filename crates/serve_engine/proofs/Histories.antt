@@ -41,7 +41,9 @@ use Rattle.desk_crew.specs.Crew.{IsSeatAsOpened, IsClosed, refusal_of, seat_user
 use Rattle.desk_crew.specs.Crew.{seat_state, IsLeft}
 use Rattle.desk_crew.proofs.Shelving.{left_on}
 use Rattle.desk_crew.specs.Seats.{DeskSeat}
-use Rattle.desk_crew.specs.Shelved.{Journals, journals, journals_by, told_on, StandsAllAlong, AreLater, AreOwn, IsSeatOf, AreSeatsOf, IsBack, AreBack}
+use Rattle.desk_crew.specs.Shelved.{Journals, journals, journals_by, told_on, StandsAllAlong, AreLater, AreOwn, SeatsThere, IsSeatOf, AreSeatsOf}
+use Rattle.desk_crew.specs.Shelved.{IsBack, AreBack}
+use Rattle.log_journal.specs.Walk.{AreThere}
 use Rattle.desk_crew.specs.Registered.{registered_journals}
 use Rattle.desk_crew.proofs.Giving.{CanGive, AreGiven, AllReturned}
 use Rattle.desk_crew.proofs.Taking.{AllSeated, seats_can, all_returned}
@@ -365,7 +367,7 @@ module _ {D : Type 0} {g h : _} where
   broke_at (seat ∷ seats) = ap (λ b. seat_broke seat || b) (broke_at seats)
 
   -- the journals are the same, and so are the disks as the desks were opened
-  journals_on_same : (olds news : List (DeskSeat D g h)) → AreSeatsOn olds news → journals news ≡ journals olds
+  pub journals_on_same : (olds news : List (DeskSeat D g h)) → AreSeatsOn olds news → journals news ≡ journals olds
   journals_on_same [] [] on = refl
   journals_on_same (old ∷ olds) (new ∷ news) on =
       ap (λ n. n ∷ journals news) on.0.journal_is ∙ ap (λ ns. seat_journal old ∷ ns) (journals_on_same olds news on.1)
@@ -390,6 +392,16 @@ module _ {D : Type 0} {g h : _} where
       (ap (λ (f : Fixed D). origin f.disk) on.0.kept_is ∙ own.0 ∙ ap known (sym on.0.journal_is), own_on_seats origin known olds news on.1 own.1)
   own_on_seats origin known [] (new ∷ news) on own = absurd on
   own_on_seats origin known (old ∷ olds) [] on own = absurd on
+
+  -- what was told of them lies there, where it did
+  pub there_on_seats : (Disk : DiskGhosts D) (olds news : List (DeskSeat D g h)) → AreSeatsOn olds news → SeatsThere Disk olds → SeatsThere Disk news
+  there_on_seats Disk [] [] on there = tt
+  there_on_seats Disk (old ∷ olds) (new ∷ news) on there = (
+    subst (λ (f : Fixed D). AreThere (Disk.heard f.disk) (Disk.reads f.disk)) (sym on.0.kept_is) there.0,
+    there_on_seats Disk olds news on.1 there.1,
+  )
+  there_on_seats Disk [] (new ∷ news) on there = absurd on
+  there_on_seats Disk (old ∷ olds) [] on there = absurd on
 
 -- ---- ends
 

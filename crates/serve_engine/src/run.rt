@@ -6,7 +6,7 @@ ghost use Rattle.outside.specs.Faults.{Rose};
 ghost use Rattle.outside.specs.Shelf.{SameNames, SameBeside, NoneOut, NoneFell, SomeRose};
 ghost use Rattle.outside.specs.Visits.{place_of, one_if_any};
 ghost use Rattle.log_journal.specs.Opening.{header_bytes};
-ghost use Rattle.desk_crew.specs.Shelved.{journals_on};
+ghost use Rattle.desk_crew.specs.Shelved.{journals_on, StaysThere};
 ghost use Rattle.desk_crew.specs.Registered.{AllKeepLimits, registered_journals, HaveOwnNames};
 ghost use Rattle.serve_engine.specs.Doors.{SomeFailed};
 ghost use Rattle.serve_engine.specs.Serving.{EndsServing, EndsDoors, LeavesJournals, IsDone};
@@ -122,10 +122,12 @@ where
         × (L.given links.old + listening.entry.sessions
         < L.given links.new + listening.entry.workers)) }
 
-    // No disk but the users' journals is touched, and all are back.
+    // No disk but the users' journals is touched, and all are back. What was told of is a record
+    // that lies there.
     ensures disks { SameBeside
         (registered_journals registry.now.directory.now registry.now.users.now) (F.disk shelf.old)
         (F.disk shelf.new) }
+    ensures there { F.tells → StaysThere F.D.Disk (F.disk shelf.old) (F.disk shelf.new) }
     ensures inside { NoneOut (F.is_out shelf.new) }
     ensures files { SameNames (F.file shelf.old) (F.file shelf.new) }
     ensures looked { F.looked shelf.new ≡ F.looked shelf.old }
@@ -201,6 +203,7 @@ where
     ensures disks { SameBeside
         (registered_journals registry.now.directory.now registry.now.users.now) (F.disk shelf.old)
         (F.disk shelf.new) }
+    ensures there { F.tells → StaysThere F.D.Disk (F.disk shelf.old) (F.disk shelf.new) }
     ensures inside { NoneOut (F.is_out shelf.new) }
     ensures files { SameNames (F.file shelf.old) (F.file shelf.new) }
     ensures looked { F.looked shelf.new ≡ F.looked shelf.old }

@@ -6,21 +6,24 @@ use Rattle.std.specs.Prelude.{bytes_eq, if◌then◌else◌}
 use Rattle.std.specs.List.{AllByRecursion, AllZip, slice_get}
 use Rattle.std.specs.Cmp.Lexicographic.{same_text}
 use Rattle.std.proofs.lemmas.Bool.{or_parts, cases_lt}
-use Rattle.std.proofs.lemmas.Option.{none-some}
+use Rattle.std.proofs.lemmas.Option.{none-some, same_Some}
 use Rattle.std.proofs.lemmas.List.Elements.{recursion_from_All}
 use Rattle.std.proofs.lemmas.List.Sums.{sum_by-cons, sum_by-append}
 use Rattle.cqe_base.specs.Schema.{contains_text, has_duplicate}
 use Rattle.outside.specs.Dials.{Exchange, faults_for}
 use Rattle.outside.specs.Shelf.{SameOthers}
-use Rattle.standby_core.specs.Calls.{IsExchangeOf, IsCallBy, IsCallAmong, number_answered, greatest_answer, IsAnsweredIn}
+use Rattle.log_journal.specs.Walk.{IsNumbered, AreThere}
+use Rattle.standby_core.specs.Calls.{IsExchangeOf, TellsOf, IsCallBy, IsCallAmong, IsCallOn, number_answered, greatest_answer, IsAnsweredIn}
+use Rattle.standby_core.specs.MirroredDisks.{heard_by}
 use Rattle.standby_core.specs.declared.mirror.Mirror.{Mirror}
 use Rattle.standby_core.specs.declared.slot.Place.{Place}
 use Rattle.standby_core.specs.declared.slot.Place.TheVariants.{New, Out, Back}
 use Rattle.standby_core.specs.declared.slot.Slot.{Slot}
-use Rattle.standby_core.specs.Mirrors.{dial_of, header_of, user_of}
+use Rattle.standby_core.specs.Mirrors.{dial_of, header_of, user_of, texts_of}
 use Rattle.standby_core.specs.Named.{first_named}
 use Rattle.standby_core.specs.Places.{mirror_in, faults_in, there_in, exchanged_in, answered_in, texts_or}
 use Rattle.standby_core.specs.Slots.{slot_name, slot_texts, slot_answered, place_at, faults_of, there_among, exchanged_among}
+use Rattle.standby_core.proofs.There.{Own, own_places}
 
 all_behind : {X : Type 0} (P : X → Type 0) (xs ys : List X) → AllByRecursion P xs → AllByRecursion P ys → AllByRecursion P (xs ++ ys)
 all_behind P [] ys first second = second
@@ -249,3 +252,58 @@ module _ {C : Type 0} {g : _} (own address : C → List ℕ) (answered : C → �
         all_front IsCallBy (exchanged_among exchanged slots) (exchanged_in exchanged slot.place) (map (slot_texts own address) slots)
             (map (slot_answered answered) slots) (last_among slots),
       )
+
+-- ---- the records that they told of
+
+all_places : {X : Type 0} (P : X → Type 0) (xs : List X) → ((place : ℕ) (x : X) → slice_get xs place ≡ Some x → P x) → AllByRecursion P xs
+all_places P [] each = tt
+all_places P (x ∷ xs) each = (each 0 x refl, all_places P xs (λ place one at. each (suc place) one at))
+
+at_place : {X : Type 0} (P : X → Type 0) (xs : List X) (place : ℕ) (x : X) → AllByRecursion P xs → slice_get xs place ≡ Some x → P x
+at_place P [] place x all at = absurd (none-some x at)
+at_place P (one ∷ xs) zero x all at = subst P (same_Some one x at) all.0
+at_place P (one ∷ xs) (suc place) x all at = at_place P xs place x all.1 at
+
+module _ {C : Type 0} {g : _} (told : Type 0) (t : told) (own address : C → List ℕ) (exchanged : C → List Exchange)
+    (calls : (mirror : Mirror C g) → All (IsExchangeOf (address (dial_of mirror)) (header_of mirror) (user_of mirror)) (exchanged (dial_of mirror)))
+    (same : (slot : Slot C g) → texts_or own address (slot_texts own address slot) (mirror_in (Some slot.place)) ≡ slot_texts own address slot)
+    (named : (slot : Slot C g) → own (dial_of slot.made.value) ≡ slot_name slot) (base : List (Slot C g)) (bytes : List ℕ → List ℕ)
+    (lie : (name : List ℕ) → AreThere (heard_by told exchanged (mirror_in (place_at base name))) (bytes name)) where
+  -- a call of this dial, whose record lies among these bytes
+  abbrev LiesOn : List (List ℕ) → List ℕ → Exchange → Type 0
+  LiesOn texts there one = (is : IsCallBy texts one) × IsNumbered there one.above (is.kind, is.text)
+
+  lies_of : (there : List ℕ) (mirror : Mirror C g) → AreThere (heard_by told exchanged (Some mirror)) there
+      → AllByRecursion (LiesOn (texts_of own address mirror) there) (exchanged (dial_of mirror))
+  lies_of there mirror so = all_places (LiesOn (texts_of own address mirror) there) (exchanged (dial_of mirror))
+      (λ place one at.
+      let is : IsExchangeOf (address (dial_of mirror)) (header_of mirror) (user_of mirror) one =
+      at_place (IsExchangeOf (address (dial_of mirror)) (header_of mirror) (user_of mirror)) (exchanged (dial_of mirror)) place one
+      (recursion_from_All _ (exchanged (dial_of mirror)) (calls mirror)) at in
+      (is, so one.above (is.kind, is.text) (t, place, one, at, record { above = refl; frame = is.frame })))
+
+  lies_in : (there : List ℕ) (made : List (List ℕ)) (place : Place C g) → texts_or own address made (mirror_in (Some place)) ≡ made
+      → AreThere (heard_by told exchanged (mirror_in (Some place))) there → AllByRecursion (LiesOn made there) (exchanged_in exchanged place)
+  lies_in there made (New mirror) is so = subst (λ m. AllByRecursion (LiesOn m there) (exchanged (dial_of mirror))) is (lies_of there mirror so)
+  lies_in there made (Back mirror) is so = subst (λ m. AllByRecursion (LiesOn m there) (exchanged (dial_of mirror))) is (lies_of there mirror so)
+  lies_in there made Out is so = tt
+
+  lies_among : (slots : List (Slot C g)) → AllByRecursion (Own base) slots
+      → AllByRecursion (IsCallOn (map (slot_texts own address) slots) bytes) (exchanged_among exchanged slots)
+  lies_among [] at = tt
+  lies_among (slot ∷ slots) at =
+      let texts = slot_texts own address slot in
+      let made = map (slot_texts own address) slots in
+      let here : AllByRecursion (LiesOn texts (bytes (get_or texts 0 []))) (exchanged_in exchanged slot.place) =
+      subst (λ n. AllByRecursion (LiesOn texts (bytes n)) (exchanged_in exchanged slot.place)) (sym (named slot))
+      (lies_in (bytes (slot_name slot)) texts slot.place (same slot)
+      (subst (λ p. AreThere (heard_by told exchanged (mirror_in p)) (bytes (slot_name slot))) at.0 (lie (slot_name slot)))) in
+      all_behind (IsCallOn (texts ∷ made) bytes) (exchanged_among exchanged slots) (exchanged_in exchanged slot.place)
+      (all_weaker (IsCallOn made bytes) (IsCallOn (texts ∷ made) bytes) (λ one is. (suc is.0, is.1, is.2, is.3, is.4)) (exchanged_among exchanged slots)
+      (lies_among slots at.1))
+      (all_weaker (LiesOn texts (bytes (get_or texts 0 []))) (IsCallOn (texts ∷ made) bytes) (λ one is. (0, texts, refl, is.0, is.1))
+      (exchanged_in exchanged slot.place) here)
+
+  pub lies_all : has_duplicate (map slot_name base) ≡ false
+      → AllByRecursion (IsCallOn (map (slot_texts own address) base) bytes) (exchanged_among exchanged base)
+  lies_all distinct = lies_among base (own_places base distinct)

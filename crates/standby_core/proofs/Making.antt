@@ -10,9 +10,12 @@ use Rattle.cqe_base.specs.Schema.{contains_text, has_duplicate}
 use Rattle.cqe_base.specs.declared.user.User.{User}
 use Rattle.log_journal.specs.Names.{journal_name, JournalsDiffer}
 use Rattle.outside.specs.Dials.{Exchange, faults_for}
+use Rattle.standby_core.specs.MirroredDisks.{exchanged_by}
+use Rattle.standby_core.specs.declared.slot.Place.{Place}
+use Rattle.standby_core.specs.declared.slot.Place.TheVariants.{New, Out, Back}
 use Rattle.standby_core.specs.declared.slot.Slot.{Slot}
 use Rattle.standby_core.specs.Named.{first_named}
-use Rattle.standby_core.specs.Places.{faults_in, there_in}
+use Rattle.standby_core.specs.Places.{mirror_in, faults_in, there_in, exchanged_in, count_in}
 use Rattle.standby_core.specs.Slots.{slot_name, place_at, faults_of, there_among, exchanged_among, AreUnused}
 
 -- one more of which something holds
@@ -81,4 +84,20 @@ module _ {C : Type 0} {g : _} (told : Type 0) (faults : C → ℕ) (exchanged : 
       by : (b : Bool) → faults_in faults (place_at slots name) ≡ 0
           → faults_in faults (option_map (λ (s : Slot C g). s.place) (if b then Some slot else first_named slot_name slots name)) ≡ 0
       by true none = all.0.faultless
+      by false none = none
+
+  -- nor has any of them exchanged something
+  same_exchanged : (place : Place C g) → exchanged_by exchanged (mirror_in (Some place)) ≡ exchanged_in exchanged place
+  same_exchanged (New mirror) = refl
+  same_exchanged (Back mirror) = refl
+  same_exchanged Out = refl
+
+  pub none_exchanged : told → (slots : List (Slot C g)) → AreUnused told faults exchanged slots → (name : List ℕ)
+      → count_in exchanged (place_at slots name) ≡ 0
+  none_exchanged t [] all name = refl
+  none_exchanged t (slot ∷ slots) all name = by (bytes_eq (slot_name slot) name) (none_exchanged t slots all.1 name)
+    where
+      by : (b : Bool) → count_in exchanged (place_at slots name) ≡ 0
+          → count_in exchanged (option_map (λ (s : Slot C g). s.place) (if b then Some slot else first_named slot_name slots name)) ≡ 0
+      by true none = ap length (same_exchanged slot.place ∙ all.0.silent t)
       by false none = none

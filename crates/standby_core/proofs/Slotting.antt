@@ -1,7 +1,11 @@
 -- What stands under the names of mirrors, where one is taken or put back.
 use Rattle.std.proofs.Common.{◌≡◌, ℕ, zero, suc, Bool, true, false, Option, Some, None, List, []}
 use Rattle.std.proofs.Common.{◌∷◌, ◌++◌, get_or, take, drop, map, refl, sym, ap, subst, ◌∙◌, option_map}
-use Rattle.std.specs.Prelude.{bytes_eq, position, slice_set, is_some, IfNone}
+use Rattle.std.specs.Prelude.{bytes_eq, position, slice_set, is_some, IfNone, length}
+use Rattle.std.specs.List.{slice_get}
+use Rattle.std.proofs.Common.{arith}
+use Rattle.outside.specs.Dials.{Exchange}
+use Rattle.outside.specs.Disk.{HeardNothing}
 use Rattle.std.specs.Cmp.Lexicographic.{same_text}
 use Rattle.std.proofs.lemmas.Option.{none-some, same_Some}
 use Rattle.outside.specs.Shelf.{IsTaken, SameOthers}
@@ -10,9 +14,9 @@ use Rattle.standby_core.specs.declared.slot.Place.{Place}
 use Rattle.standby_core.specs.declared.slot.Place.TheVariants.{New, Out, Back}
 use Rattle.standby_core.specs.declared.slot.Slot.{Slot}
 use Rattle.standby_core.specs.Mirrors.{dial_of, texts_of}
-use Rattle.standby_core.specs.MirroredDisks.{inner_of, mirrored}
+use Rattle.standby_core.specs.MirroredDisks.{inner_of, mirrored, heard_by}
 use Rattle.standby_core.specs.Named.{first_named}
-use Rattle.standby_core.specs.Places.{mirror_in, new_in, faults_in, is_away}
+use Rattle.standby_core.specs.Places.{mirror_in, new_in, faults_in, count_in, is_away}
 use Rattle.standby_core.specs.Slots.{slot_name, slot_texts, place_at, made_at, with_made, mirrored_at, SameMade, HavePlaces, HaveMirrors}
 use Rattle.standby_core.proofs.Naming.{IsAt, found, not_found, still_named}
 
@@ -163,3 +167,24 @@ module _ {C : Type 0} {g : _} where
       → place ≡ Some (Back mirror)
       → mirrored_at held place ≡ Some (mirrored inner (Some mirror))
   back_mirrored held place inner mirror is put = λ i. mirrored_at (is i) (put i)
+
+  -- a mirror that exchanged nothing told of no record
+  pub silent_heard : (told : Type 0) (exchanged : C → List Exchange) (mirror : Mirror C g) → (told → length (exchanged (dial_of mirror)) ≡ 0)
+      → HeardNothing (heard_by told exchanged (Some mirror))
+  silent_heard told exchanged mirror silent number one (t, place, it, at, tells) = by (exchanged (dial_of mirror)) (silent t) at
+    where
+      by : (all : List Exchange) → length all ≡ 0 → slice_get all place ≡ Some it → ⊥
+      by [] none at = none-some it at
+      by (e ∷ all) none at = omega (arith, none)
+
+  -- where one name is changed, and no disk is there under it unless it is out, the mirrors without disks are still unused
+  pub kept_unused : {D : Type 0} (exchanged : C → List Exchange) (name : List ℕ) (disk disk' : List ℕ → Option D) (is_out is_out' : List ℕ → Bool)
+      (slots slots' : List (Slot C g))
+      → ((one : List ℕ) → disk one ≡ None → is_out one ≡ false → count_in exchanged (place_at slots one) ≡ 0)
+      → SameOthers name disk disk' → SameOthers name is_out is_out' → SameOthers name (place_at slots) (place_at slots')
+      → (disk' name ≡ None → is_out' name ≡ false → count_in exchanged (place_at slots' name) ≡ 0)
+      → (one : List ℕ) → disk' one ≡ None → is_out' one ≡ false → count_in exchanged (place_at slots' one) ≡ 0
+  kept_unused exchanged name disk disk' is_out is_out' slots slots' unused disks outs places here =
+      for_all (λ one. disk' one ≡ None → is_out' one ≡ false → count_in exchanged (place_at slots' one) ≡ 0) name here
+      (λ one differs none inside. ap (count_in exchanged) (places one differs)
+      ∙ unused one (sym (disks one differs) ∙ none) (sym (outs one differs) ∙ inside))

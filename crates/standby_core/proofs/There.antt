@@ -106,7 +106,7 @@ module _ {C : Type 0} {g : _} where
 -- ---- what stands under the names of several
 
 module _ {C : Type 0} {g : _} where
-  abbrev Own : List (Slot C g) → Slot C g → Type 0
+  abbrev pub Own : List (Slot C g) → Slot C g → Type 0
   Own base slot = place_at base (slot_name slot) ≡ Some slot.place
 
   own_behind : (first : Slot C g) (base slots : List (Slot C g)) → contains_text (map slot_name slots) (slot_name first) ≡ false
@@ -119,7 +119,7 @@ module _ {C : Type 0} {g : _} where
       )
 
   -- where the names differ, each stands under its own
-  own_places : (slots : List (Slot C g)) → has_duplicate (map slot_name slots) ≡ false → AllByRecursion (Own slots) slots
+  pub own_places : (slots : List (Slot C g)) → has_duplicate (map slot_name slots) ≡ false → AllByRecursion (Own slots) slots
   own_places [] distinct = tt
   own_places (slot ∷ slots) distinct =
       let parts = or_parts (contains_text (map slot_name slots) (slot_name slot)) (has_duplicate (map slot_name slots)) distinct in (

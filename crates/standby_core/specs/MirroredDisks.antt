@@ -1,8 +1,11 @@
 -- What a mirrored disk shows.
-use Rattle.std.specs.Prelude.{ℕ, ◌^◌, List, [], ◌++◌, Option, Some, None}
+use Rattle.std.specs.Prelude.{◌≡◌, ℕ, ◌^◌, List, [], ◌++◌, Option, Some, None}
+use Rattle.std.specs.List.{slice_get}
+use Rattle.outside.specs.Dials.{Exchange}
 use Rattle.standby_core.specs.declared.mirror.Mirror.{Mirror}
 use Rattle.standby_core.specs.declared.mirrored_disk.MirroredDisk.{MirroredDisk}
-use Rattle.standby_core.specs.Mirrors.{dial_of, texts_of}
+use Rattle.standby_core.specs.Calls.{TellsOf}
+use Rattle.standby_core.specs.Mirrors.{dial_of, header_of, user_of, texts_of}
 
 -- the disk under it
 abbrev pub inner_of : {D C : Type 0} {g : _} → MirroredDisk D C g → D
@@ -31,3 +34,17 @@ told_by answered (Some mirror) = answered (dial_of mirror)
 abbrev pub faults_by : {C : Type 0} {g : _} → (C → ℕ) → Option (Mirror C g) → ℕ
 faults_by faults None = 0
 faults_by faults (Some mirror) = faults (dial_of mirror)
+
+-- what its dial exchanged
+abbrev pub exchanged_by : {C : Type 0} {g : _} → (C → List Exchange) → Option (Mirror C g)
+    → List Exchange
+exchanged_by exchanged None = []
+exchanged_by exchanged (Some mirror) = exchanged (dial_of mirror)
+
+-- an exchange of its dial, where they are told, told of this record with this number
+abbrev pub heard_by : {C : Type 0} {g : _} → Type 0 → (C → List Exchange) → Option (Mirror C g) → ℕ
+    → ℕ × List ℕ → Type 0
+heard_by told exchanged None number record' = ⊥
+heard_by told exchanged (Some mirror) number record' = told × (place : ℕ) × (one : Exchange)
+    × (slice_get (exchanged (dial_of mirror)) place ≡ Some one)
+    × TellsOf (header_of mirror) (user_of mirror) number record' one

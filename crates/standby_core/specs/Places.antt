@@ -1,11 +1,11 @@
 -- What stands under the name of a disk: its mirror, or that it is out.
-use Rattle.std.specs.Prelude.{◌≡◌, ℕ, Bool, true, false, List, [], Option, Some}
+use Rattle.std.specs.Prelude.{◌≡◌, ℕ, Bool, true, false, List, [], length, Option, Some}
 use Rattle.std.specs.Prelude.{None}
 use Rattle.outside.specs.Dials.{Exchange}
 use Rattle.standby_core.specs.declared.mirror.Mirror.{Mirror}
 use Rattle.standby_core.specs.declared.slot.Place.{Place}
 use Rattle.standby_core.specs.declared.slot.Place.TheVariants.{New, Out, Back}
-use Rattle.standby_core.specs.MirroredDisks.{faults_by}
+use Rattle.standby_core.specs.MirroredDisks.{faults_by, exchanged_by}
 use Rattle.standby_core.specs.Mirrors.{dial_of, texts_of}
 
 -- the mirror that is there
@@ -49,6 +49,10 @@ abbrev pub answered_in : {C : Type 0} {g : _} → (C → ℕ) → Place C g → 
 answered_in answered (New mirror) = answered (dial_of mirror)
 answered_in answered (Back mirror) = answered (dial_of mirror)
 answered_in answered Out = 0
+
+-- how much the dial of the mirror exchanged that is there
+abbrev pub count_in : {C : Type 0} {g : _} → (C → List Exchange) → Option (Place C g) → ℕ
+count_in exchanged place = length (exchanged_by exchanged (mirror_in place))
 
 -- the faults of its dial; a mirror that was taken and isn't back had none
 abbrev pub faults_in : {C : Type 0} {g : _} → (C → ℕ) → Option (Place C g) → ℕ

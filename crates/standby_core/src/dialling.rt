@@ -8,7 +8,7 @@ ghost use Rattle.standby_core.specs.Calls.{IsFromAmong};
 ghost use Rattle.standby_core.specs.Places.{faults_in, there_in, exchanged_in, IsUnused};
 ghost use Rattle.standby_core.specs.Slots.{slot_name, slot_texts, faults_of, exchanged_among};
 ghost use Rattle.standby_core.specs.Slots.{slot_answered, there_among, AreUnused};
-ghost use Rattle.standby_core.specs.MirrorSets.{slots_of, dial_faults};
+ghost use Rattle.standby_core.specs.MirrorSets.{slots_of, dial_faults, DialsLie, DialsSilent};
 ghost use Rattle.standby_core.specs.Users.{frame_user, texts_for};
 ghost use Rattle.standby_core.specs.Doors.{KeepsDoors, KeepsCalls};
 
@@ -37,9 +37,11 @@ pub fn mirrors_for<L: Links>(
         map (slot_texts L.Dial.name L.Dial.address) (slots_of mirrors)
         ≡ map (texts_for header.now address.now directory.now) users.now) }
     ensures unused { IfOk result (λ mirrors.
-        AreUnused L.tells L.Dial.faults L.Dial.exchanged (slots_of mirrors)) }
+        AreUnused L.Dial.tells L.Dial.faults L.Dial.exchanged (slots_of mirrors)) }
     ensures fresh { IfOk result
         (λ mirrors. (name : List ℕ) → dial_faults L.Dial.faults mirrors name ≡ 0) }
+    ensures silent { IfOk result
+        (λ mirrors. DialsSilent L.Dial.tells L.Dial.exchanged mirrors) }
     ensures dialling { IfOk result
         (λ mirrors. L.dialling links.new ≡ L.dialling links.old + length (slots_of mirrors)) }
     ensures none { OnErr result (L.dialling links.new ≡ L.dialling links.old) }
@@ -75,7 +77,7 @@ fn slot_for<L: Links>(
     ensures made { IfOk result (λ slot. slot_texts L.Dial.name L.Dial.address slot
         ≡ texts_for header.now address.now directory.now user.now) }
     ensures unused { IfOk result
-        (λ slot. IsUnused L.tells L.Dial.faults L.Dial.exchanged slot.place) }
+        (λ slot. IsUnused L.Dial.tells L.Dial.faults L.Dial.exchanged slot.place) }
     ensures dialling { IfOk result (λ slot. L.dialling links.new ≡ L.dialling links.old + 1) }
     ensures none { OnErr result (L.dialling links.new ≡ L.dialling links.old) }
     ensures calls { KeepsCalls L.Links links.old links.new }
@@ -119,7 +121,8 @@ pub fn hang_up_all<L: Links>(links: &mut L, mirrors: Mirrors<L::Dial>)
     // last answered was answered in one of these exchanges.
     ensures exchanged { L.tells
         → IsFromAmong (map (slot_texts L.Dial.name L.Dial.address) (slots_of mirrors))
-        (map (slot_answered L.Dial.answered) (slots_of mirrors)) (L.exchanged links.old)
+        (map (slot_answered L.Dial.answered) (slots_of mirrors))
+        (DialsLie L.Dial.tells L.Dial.exchanged mirrors) (L.exchanged links.old)
         (L.exchanged links.new) }
     ensures doors { KeepsDoors L.Links links.old links.new }
 {

@@ -2,6 +2,7 @@
 ghost use Rattle.std.specs.Prelude.{◌≡◌, ◌<◌, ◌≤◌, ◌+◌, ◌^◌, [], All, Some, None, length};
 ghost use Rattle.std.specs.Prelude.{string_bytes, OnOk, OnErr};
 ghost use Rattle.outside.specs.Dials.{IsNext, MayBeNext};
+ghost use Rattle.outside.specs.Disk.{HearsAtMost};
 ghost use Rattle.outside.specs.Faults.{HasCause};
 ghost use Rattle.standby_core.specs.Calls.{IsExchangeOf, telling_of, greatest_answer};
 ghost use Rattle.standby_core.specs.CallProps.{AreExchangesOf-prop};
@@ -30,6 +31,7 @@ pub struct Mirror<C: Dial> {
 
 impl<C: Dial> Mirror<C> {
     ghost use Rattle.standby_core.specs.Mirrors.{dial_of, header_of, user_of};
+    ghost use Rattle.standby_core.specs.MirroredDisks.{heard_by};
 
     /// A mirror with a dial that has exchanged nothing yet. A standby refuses the frames of a user
     /// without a name.
@@ -72,6 +74,9 @@ impl<C: Dial> Mirror<C> {
             (record { name = user_of self.old; number = number; kind = kind; text = text.now })
             None)
             (C.exchanged (dial_of self.old)) (C.exchanged (dial_of self.new))) }
+        ensures heard { HearsAtMost number (kind, text.now)
+            (heard_by C.tells C.exchanged (Some self.old))
+            (heard_by C.tells C.exchanged (Some self.new)) }
         ensures address { C.address (dial_of self.new) ≡ C.address (dial_of self.old) }
         ensures name { C.name (dial_of self.new) ≡ C.name (dial_of self.old) }
         ensures header { header_of self.new ≡ header_of self.old }

@@ -1,5 +1,6 @@
 //! A disk of which a standby has a copy.
 ghost use Rattle.std.specs.Prelude.{◌≡◌, ◌<◌, ◌≤◌, ◌+◌, ◌^◌, List, ℕ, length, OnOk};
+ghost use Rattle.outside.specs.Disk.{HearsAtMost};
 ghost use Rattle.outside.specs.Faults.{HasCause};
 
 use crate::Mirror;
@@ -17,7 +18,7 @@ pub struct MirroredDisk<D, C: Dial> {
 
 impl<D, C: Dial> MirroredDisk<D, C> {
     ghost use Rattle.standby_core.specs.MirroredDisks.{inner_of, mirror_of, mirrored};
-    ghost use Rattle.standby_core.specs.MirroredDisks.{told_by, faults_by, origin_with};
+    ghost use Rattle.standby_core.specs.MirroredDisks.{told_by, faults_by, origin_with, heard_by};
 
     /// A disk with a mirror, or without one.
     pub fn new(inner: D, mirror: Option<Mirror<C>>) -> Self
@@ -47,6 +48,9 @@ impl<D, C: Dial> MirroredDisk<D, C> {
         ensures above { OnOk result (number < told_by C.answered (mirror_of self.new)) }
         ensures told { told_by C.answered (mirror_of self.old)
             ≤ told_by C.answered (mirror_of self.new) }
+        ensures heard { HearsAtMost number (kind, text.now)
+            (heard_by C.tells C.exchanged (mirror_of self.old))
+            (heard_by C.tells C.exchanged (mirror_of self.new)) }
         ensures cause { HasCause (faults_by C.faults (mirror_of self.old))
             (faults_by C.faults (mirror_of self.new)) result }
     {
@@ -59,7 +63,7 @@ impl<D, C: Dial> MirroredDisk<D, C> {
 
 impl<D: Disk, C: Dial> Disk for MirroredDisk<D, C> {
     ghost use Rattle.standby_core.specs.MirroredDisks.{inner_of, mirror_of, told_by, faults_by};
-    ghost use Rattle.standby_core.specs.MirroredDisks.{origin_with};
+    ghost use Rattle.standby_core.specs.MirroredDisks.{origin_with, heard_by};
 
     ghost tells = { D.tells };
 
@@ -74,6 +78,8 @@ impl<D: Disk, C: Dial> Disk for MirroredDisk<D, C> {
     ghost faults = { λ disk. D.faults (inner_of disk) + faults_by C.faults (mirror_of disk) };
 
     ghost told = { λ disk. told_by C.answered (mirror_of disk) };
+
+    ghost heard = { λ disk. heard_by C.tells C.exchanged (mirror_of disk) };
 
     ghost origin = { λ disk. origin_with C.name C.address (mirror_of disk)
         (D.origin (inner_of disk)) };

@@ -35,6 +35,8 @@ impl<C: Dial + Drop> Mirrors<C> {
             ≡ Some (texts_of C.name C.address mirror)) }
         ensures made { SameMade C.name C.address (slots_of self.old) (slots_of self.new) }
         ensures faultless { IfSome result (λ mirror. C.faults (dial_of mirror) ≡ 0) }
+        ensures silent { IfSome result
+            (λ mirror. C.tells → length (C.exchanged (dial_of mirror)) ≡ 0) }
     {
         let Some(place) = slot_place(self.slots.as_slice(), name) else {
             return None;
@@ -47,6 +49,7 @@ impl<C: Dial + Drop> Mirrors<C> {
     pub(crate) fn put_new(&mut self, name: &str, mirror: Mirror<C>)
         requires there { IsSome (place_at (slots_of self.old) name.now) }
         requires faultless { C.faults (dial_of mirror) ≡ 0 }
+        requires silent { C.tells → length (C.exchanged (dial_of mirror)) ≡ 0 }
         requires own { made_at C.name C.address (slots_of self.old) name.now
             ≡ Some (texts_of C.name C.address mirror) }
         ensures put { place_at (slots_of self.new) name.now ≡ Some (Place.New mirror) }

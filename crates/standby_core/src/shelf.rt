@@ -1,8 +1,8 @@
 //! A shelf whose disks a standby copies.
-ghost use Rattle.std.specs.Prelude.{◌≡◌, ◌+◌, List, ℕ, false, map};
+ghost use Rattle.std.specs.Prelude.{◌≡◌, ◌+◌, List, ℕ, false, map, None};
 ghost use Rattle.outside.specs.Shelf.{NoneOut};
-ghost use Rattle.standby_core.specs.Places.{faults_in, is_away};
-ghost use Rattle.standby_core.specs.MirrorSets.{slots_of};
+ghost use Rattle.standby_core.specs.Places.{faults_in, count_in, is_away};
+ghost use Rattle.standby_core.specs.MirrorSets.{slots_of, DialsSilent};
 ghost use Rattle.standby_core.specs.Slots.{slot_texts, place_at, made_at, mirrored_at};
 ghost use Rattle.standby_core.specs.Slots.{mirrored_lent, HavePlaces, HaveMirrors};
 
@@ -14,7 +14,8 @@ use std::alloc::Global;
 /// mirror has no disk here, and a disk is given once: each other call of `take_disk` answers that
 /// memory was wanting.
 ///
-/// The count of faults of a name is there that of its disk and that of its dial together. What the
+/// The count of faults of a name is there that of its disk and that of its dial together. Where the
+/// shelf holds no disk under a name, its dial has exchanged nothing. What the
 /// shelf holds under a name is the disk that the lent shelf holds, with the mirror.
 #[derive(Drop)]
 pub struct MirroredShelf<'a, F: Shelf, C: Dial> {
@@ -22,6 +23,9 @@ pub struct MirroredShelf<'a, F: Shelf, C: Dial> {
     mirrors: &'a mut Mirrors<C>,
     ghost there: { HavePlaces (F.is_out shelf.now) (slots_of mirrors.now) },
     ghost back: { HaveMirrors (F.is_out shelf.now) (slots_of mirrors.now) },
+    ghost unused: { F.tells → C.tells → (name : List ℕ) → F.disk shelf.now name ≡ None
+        → F.is_out shelf.now name ≡ false
+        → count_in C.exchanged (place_at (slots_of mirrors.now) name) ≡ 0 },
 }
 
 impl<'a, F: Shelf, C: Dial> MirroredShelf<'a, F, C> {
@@ -29,6 +33,7 @@ impl<'a, F: Shelf, C: Dial> MirroredShelf<'a, F, C> {
     pub fn new(shelf: &'a mut F, mirrors: &'a mut Mirrors<C>) -> Self
         requires inside { NoneOut (F.is_out shelf.old) }
         requires there { (name : List ℕ) → is_away (place_at (slots_of mirrors.old) name) ≡ false }
+        requires silent { DialsSilent C.tells C.exchanged mirrors.old }
         ensures same_shelf { result.shelf.ghost_name ≡ shelf.entry.ghost_name }
         ensures same_mirrors { result.mirrors.ghost_name ≡ mirrors.entry.ghost_name }
         ensures shelf { result.shelf.now ≡ shelf.old }

@@ -1,7 +1,7 @@
 //! A place among the mirrors, under the name of its disk.
-ghost use Rattle.std.specs.Prelude.{◌≡◌, Some, IfSome, IfNone, string_bytes};
+ghost use Rattle.std.specs.Prelude.{◌≡◌, Some, IfSome, IfNone, length, string_bytes};
 ghost use Rattle.standby_core.specs.Mirrors.{dial_of, texts_of};
-ghost use Rattle.standby_core.specs.MirroredDisks.{faults_by};
+ghost use Rattle.standby_core.specs.MirroredDisks.{faults_by, exchanged_by};
 ghost use Rattle.standby_core.specs.Places.{mirror_in, new_in, texts_or};
 
 use crate::Mirror;
@@ -25,6 +25,7 @@ pub(crate) struct Slot<C: Dial> {
     pub(crate) place: Place<C>,
     pub(crate) made: Snapshot<Mirror<C>>,
     ghost fresh: { faults_by C.faults (new_in (Some place)) ≡ 0 },
+    ghost silent: { C.tells → length (exchanged_by C.exchanged (new_in (Some place))) ≡ 0 },
     ghost named: { C.name (dial_of made.value) ≡ string_bytes journal },
     ghost same: { texts_or C.name C.address (texts_of C.name C.address made.value)
         (mirror_in (Some place)) ≡ texts_of C.name C.address made.value },
@@ -44,6 +45,8 @@ impl<C: Dial + Drop> Slot<C> {
         ensures own { IfSome result (λ mirror. texts_of C.name C.address mirror
             ≡ slot_texts C.name C.address self.old) }
         ensures faultless { IfSome result (λ mirror. C.faults (dial_of mirror) ≡ 0) }
+        ensures silent { IfSome result
+            (λ mirror. C.tells → length (C.exchanged (dial_of mirror)) ≡ 0) }
     {
         match mem::replace(&mut self.place, Place::Out) {
             Place::New(mirror) => Some(mirror),
@@ -58,6 +61,7 @@ impl<C: Dial + Drop> Slot<C> {
     /// Puts its mirror back, which wasn't used.
     pub(crate) fn put_new(&mut self, mirror: Mirror<C>)
         requires faultless { C.faults (dial_of mirror) ≡ 0 }
+        requires silent { C.tells → length (C.exchanged (dial_of mirror)) ≡ 0 }
         requires own { texts_of C.name C.address mirror ≡ slot_texts C.name C.address self.old }
         ensures put { self.new.place ≡ Place.New mirror }
         ensures name { slot_name self.new ≡ slot_name self.old }

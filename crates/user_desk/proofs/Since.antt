@@ -10,6 +10,7 @@ use Rattle.cqe_base.specs.Schema.{DatabaseSchema}
 use Rattle.cqe_base.specs.Facts.{FactSet}
 use Rattle.cqe_base.specs.History.{UserProfile, AnsweredQuery, History}
 use Rattle.log_journal.specs.Records.{Recorded, KeepsOrAdds}
+use Rattle.log_journal.specs.Walk.{AreThere}
 use Rattle.user_desk.specs.Entries.{StandsWithin}
 use Rattle.user_desk.specs.Standings.{is_sealed}
 use Rattle.user_desk.specs.Kept.{IsConsistentDesk, StandsSince}
@@ -48,12 +49,13 @@ module _ {D : Type 0} (moment : D → ℕ) (since : D → ℕ → List ℕ → T
       (λ now. inr (all c now))
       (time.nothing_else (moment first) c (subst (λ d. moment first ≤ moment d) (sym same) le) (subst (λ d. since new (moment d) c) begun here))
 
-  module _ (faults : D → ℕ) (origin : D → List (List ℕ)) where
+  module _ (tells : Type 0) (reads : D → List ℕ) (faults : D → ℕ) (heard : D → ℕ → Recorded → Type 0) (origin : D → List (List ℕ)) where
     -- at the opening
     pub goes_first : (image : D → List ℕ → Type 0) → ((disk : D) (t : ℕ) (c : List ℕ) → t ≤ moment disk → image disk c → since disk t c)
         → ((disk : D) (c : List ℕ) → since disk (moment disk) c → image disk c)
         → (disk : D) (has_journal has_failed : Bool) (room : ℕ) → has_failed ≡ false
-        → GoesOn moment since faults origin (record { disk = disk; opened = disk; has_journal = has_journal; has_failed = has_failed; room = room })
+        → GoesOn tells reads moment since faults heard origin
+        (record { disk = disk; opened = disk; has_journal = has_journal; has_failed = has_failed; room = room })
     goes_first image counts_now only_now disk has_journal has_failed room whole = record {
       time = record {
         later = omega arith;
@@ -65,32 +67,39 @@ module _ {D : Type 0} (moment : D → ℕ) (since : D → ℕ → List ℕ → T
       cause = λ broken. let e : false ≡ true = sym whole ∙ broken in absurd cc;
       idle = λ none. refl;
       comes = refl;
+      there = λ told all. all;
     }
 
     -- where the disk stays
-    pub goes_still : (store : Stored D) (disk : D) (has_journal has_failed : Bool) (room : ℕ) → GoesOn moment since faults origin store → disk ≡ store.disk
+    pub goes_still : (store : Stored D) (disk : D) (has_journal has_failed : Bool) (room : ℕ) → GoesOn tells reads moment since faults heard origin store → disk
+        ≡ store.disk
         → has_journal ≡ store.has_journal → has_failed ≡ store.has_failed
-        → GoesOn moment since faults origin (record { disk = disk; opened = store.opened; has_journal = has_journal; has_failed = has_failed; room = room })
+        → GoesOn tells reads moment since faults heard origin
+        (record { disk = disk; opened = store.opened; has_journal = has_journal; has_failed = has_failed; room = room })
     goes_still store disk has_journal has_failed room goes same same_journal same_failed = record {
       time = subst (λ d. Elapses (moment store.opened) (moment d) (since store.opened) (since d)) (sym same) goes.time;
       count = subst (λ d. faults store.opened ≤ faults d) (sym same) goes.count;
       cause = λ broken. subst (λ d. Rose (faults store.opened) (faults d)) (sym same) (goes.cause (sym same_failed ∙ broken));
       idle = λ none. same ∙ goes.idle (sym same_journal ∙ none);
       comes = ap origin same ∙ goes.comes;
+      there = λ told all. subst (λ d. AreThere (heard d) (reads d)) (sym same) (goes.there told all);
     }
 
     -- after an append
     pub goes_appended : {T E : Type 0} (result : Result T E) (store : Stored D) (disk : D) (has_journal has_failed : Bool) (room : ℕ)
-        → GoesOn moment since faults origin store → has_journal ≡ true
+        → GoesOn tells reads moment since faults heard origin store → has_journal ≡ true
         → Elapses (moment store.disk) (moment disk) (since store.disk) (since disk) → faults store.disk ≤ faults disk → OnOk result (has_failed ≡ false)
         → OnErr result (Rose (faults store.disk) (faults disk)) → origin disk ≡ origin store.disk
-        → GoesOn moment since faults origin (record { disk = disk; opened = store.opened; has_journal = has_journal; has_failed = has_failed; room = room })
-    goes_appended result store disk has_journal has_failed room goes journal time count whole cause comes = record {
+        → (tells → AreThere (heard store.disk) (reads store.disk) → AreThere (heard disk) (reads disk))
+        → GoesOn tells reads moment since faults heard origin
+        (record { disk = disk; opened = store.opened; has_journal = has_journal; has_failed = has_failed; room = room })
+    goes_appended result store disk has_journal has_failed room goes journal time count whole cause comes there = record {
       time = elapses_on store.opened store.disk disk goes.time time;
       count = omega (arith, goes.count, count);
       cause = by_result result whole cause;
       idle = λ none. let e : true ≡ false = sym journal ∙ none in absurd cc;
       comes = comes ∙ goes.comes;
+      there = λ told all. there told (goes.there told all);
     }
       where
         by_result : {T E : Type 0} (r : Result T E) → OnOk r (has_failed ≡ false) → OnErr r (Rose (faults store.disk) (faults disk)) → has_failed ≡ true

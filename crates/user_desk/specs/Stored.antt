@@ -2,6 +2,8 @@
 use Rattle.std.specs.Prelude.{◌≡◌, ℕ, ◌+◌, ◌≤◌, Bool, true, false, List}
 use Rattle.outside.specs.Disk.{Elapses}
 use Rattle.outside.specs.Faults.{Rose}
+use Rattle.log_journal.specs.Records.{Recorded}
+use Rattle.log_journal.specs.Walk.{AreThere}
 
 -- a disk now and as a desk was opened on it; whether it has a journal, whether an append of that
 -- failed, and how many bytes of room that has
@@ -33,10 +35,12 @@ module _ {D : Type 0} where
   abbrev pub HasRoomFor : Stored D → ℕ → Type 0
   HasRoomFor store size = size + 4 ≤ store.room
 
-module _ {D : Type 0} (moment : D → ℕ) (since : D → ℕ → List ℕ → Type 0) (faults : D → ℕ)
+module _ {D : Type 0} (tells : Type 0) (reads : D → List ℕ) (moment : D → ℕ)
+    (since : D → ℕ → List ℕ → Type 0) (faults : D → ℕ) (heard : D → ℕ → Recorded → Type 0)
     (origin : D → List (List ℕ)) where
   -- Since the opening the clock has gone on, and the count of faults hasn't fallen; it rose where
-  -- an append failed, and without a journal the disk is as it was. It comes from where it came.
+  -- an append failed, and without a journal the disk is as it was. It comes from where it came. And
+  -- what was told of is a record that lies there, where it was so.
   pub record GoesOn (store : Stored D) : Type 0 where
     pub time : Elapses (moment store.opened) (moment store.disk) (since store.opened)
         (since store.disk)
@@ -44,3 +48,5 @@ module _ {D : Type 0} (moment : D → ℕ) (since : D → ℕ → List ℕ → T
     pub cause : store.has_failed ≡ true → Rose (faults store.opened) (faults store.disk)
     pub idle : store.has_journal ≡ false → store.disk ≡ store.opened
     pub comes : origin store.disk ≡ origin store.opened
+    pub there : tells → AreThere (heard store.opened) (reads store.opened)
+        → AreThere (heard store.disk) (reads store.disk)

@@ -10,6 +10,7 @@ ghost use Rattle.cqe_base.specs.Limits.{KeepsLimits, KeepsSizes};
 ghost use Rattle.cqe_base.specs.Censor.{IsLegal, admitted};
 ghost use Rattle.cqe_base.specs.Run.{UserState, after_event, stop};
 ghost use Rattle.log_journal.specs.Opening.{header_bytes};
+ghost use Rattle.log_journal.specs.Walk.{AreThere};
 ghost use Rattle.user_log.specs.UserLogs.{kept_schema, kept_world, kept_user, kept_history};
 ghost use Rattle.user_desk.specs.Entries.{IsNoLonger};
 ghost use Rattle.user_desk.specs.Kept.{IsConsistentDesk, IsConsistentDesk-prop, StandsSince};
@@ -159,6 +160,11 @@ impl<'w, D: Disk> Desk<'w, D> {
 
         // The marks of all entries may be told.
         ensures told { D.tells → length (desk_history self.now) ≤ D.told (desk_disk self.now) }
+
+        // What was told of is a record that lies there, where it was so at the opening.
+        ensures heard { D.tells
+            → AreThere (D.heard (opening_disk self.now)) (D.reads (opening_disk self.now))
+            → AreThere (D.heard (desk_disk self.now)) (D.reads (desk_disk self.now)) }
 
         // The clock has gone on since, the count of faults hasn't fallen, and it rose where an
         // append failed.

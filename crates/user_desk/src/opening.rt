@@ -7,6 +7,7 @@ ghost use Rattle.cqe_base.specs.Run.{UserState};
 ghost use Rattle.log_journal.specs.Opening.{header_bytes};
 ghost use Rattle.censors.specs.Admitting.{admission_of};
 ghost use Rattle.log_journal.specs.Journal.{disk_of, is_broken};
+ghost use Rattle.log_journal.specs.Walk.{AreThere};
 ghost use Rattle.user_log.specs.UserLogs.{kept_history};
 ghost use Rattle.user_desk.specs.Replays.{IsLogOf};
 ghost use Rattle.user_desk.specs.Causes.{Opens, IsStanding};
@@ -78,6 +79,8 @@ pub fn open_desk<'w, D: Disk>(
     ensures reads { D.reads (disk_opened result) ≡ D.reads disk }
     ensures origin { D.origin (disk_opened result) ≡ D.origin disk }
     ensures still_told { D.told disk ≤ D.told (disk_opened result) }
+    ensures heard { D.tells → AreThere (D.heard disk) (D.reads disk)
+        → AreThere (D.heard (disk_opened result)) (D.reads (disk_opened result)) }
     ensures durable { IfOk result (λ desk. is_sealed (desk_standing desk) ≡ false
         → Only (D.reads disk) (D.image (desk_disk desk))) }
     ensures images { (c : List ℕ) → D.image (disk_opened result) c → D.image disk c }

@@ -36,7 +36,8 @@ impl<D: Disk> Model for Store<D> {
     ghost view = { λ s. stored_in s.medium s.opened.value };
 
     ghost invariant = { λ s.
-        GoesOn D.moment D.image_since D.faults D.origin (stored_in s.medium s.opened.value) };
+        GoesOn D.tells D.reads D.moment D.image_since D.faults D.heard D.origin
+        (stored_in s.medium s.opened.value) };
 }
 
 impl<D: Disk> Store<D> {
@@ -58,7 +59,7 @@ impl<D: Disk> Store<D> {
 
     /// What is known of the disk since the opening. It computes nothing.
     pub(crate) fn known(&self)
-        ensures { GoesOn D.moment D.image_since D.faults D.origin self.now }
+        ensures { GoesOn D.tells D.reads D.moment D.image_since D.faults D.heard D.origin self.now }
     {
         let _medium = &self.medium;
     }

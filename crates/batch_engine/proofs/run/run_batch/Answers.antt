@@ -12,7 +12,8 @@ use Rattle.batch_engine.proofs.Running.{Stay, stay_run, runs_then}
 use Rattle.batch_engine.proofs.Failing.{run_broken, all_weaker}
 use Rattle.desk_crew.proofs.Lasting.{keeps_same, keeps_all}
 use Rattle.desk_crew.proofs.Rising.{some_rose}
-use Rattle.desk_crew.specs.Shelved.{AreBack}
+use Rattle.desk_crew.specs.Shelved.{AreBack, StaysThere}
+use Rattle.desk_crew.proofs.Hearing.{there_first, all_there}
 use Rattle.desk_crew.proofs.Giving.{AllReturned}
 use Rattle.desk_crew.proofs.Taking.{seats_limits, AllSeated, all_seated, all_returned}
 use Rattle.batch_engine.proofs.Ending.{batch_begins, all_of, Finishes, finishes, some_alone, to_alone, told_all}
@@ -55,6 +56,18 @@ returns-in_default-clause-ends g c = λ shelf_told source_told sink_told. inl (r
 pub returns-in_default-clause-journals : goal.returns-in_default-clause-journals
 returns-in_default-clause-journals g c = λ shelf_told. inl (same g c.args.registry.now.directory.now c.args.shelf.now)
 
+pub returns-in-Refused-clause-there : goal.returns-in-Refused-clause-there
+returns-in-Refused-clause-there g c = λ shelf_told tells name there. there
+
+pub returns-in-Fault-clause-there : goal.returns-in-Fault-clause-there
+returns-in-Fault-clause-there g c = λ shelf_told tells name there. there
+
+pub returns-in-Memory-clause-there : goal.returns-in-Memory-clause-there
+returns-in-Memory-clause-there g c = λ shelf_told tells name there. there
+
+pub returns-in_default-clause-there : goal.returns-in_default-clause-there
+returns-in_default-clause-there g c = λ shelf_told tells name there. there
+
 -- and where an opening was given up
 pub returns-in-Err-Shelf-clause-ends : goal.returns-in-Err-Shelf-clause-ends
 returns-in-Err-Shelf-clause-ends g c = λ shelf_told source_told sink_told. (
@@ -87,6 +100,12 @@ returns-in-Err-Memory-clause-journals g c = λ shelf_told.
     inl (keeps_all g.F.D.Disk c.args.registry.now.directory.now (g.F.Shelf.disk c.args.shelf.now) (g.F.Shelf.disk c.open_all.new.shelf)
     (g.F.Shelf.disk_faults c.args.shelf.now) (g.F.Shelf.disk_faults c.open_all.new.shelf) (c.in-Err-Memory.ensures.refused_bytes shelf_told)
     (c.in-Err-Memory.ensures.refused_images shelf_told) (c.in-Err-Memory.ensures.refused_moments shelf_told))
+
+pub returns-in-Err-Shelf-clause-there : goal.returns-in-Err-Shelf-clause-there
+returns-in-Err-Shelf-clause-there g c = c.in-Err-Shelf.ensures.refused_there
+
+pub returns-in-Err-Memory-clause-there : goal.returns-in-Err-Memory-clause-there
+returns-in-Err-Memory-clause-there g c = c.in-Err-Memory.ensures.refused_there
 
 -- ---- what follows from the opening of all journals
 
@@ -180,7 +199,28 @@ given g c at new stay back =
           c.answer_all.ensures.counts;
     })
 
+-- what was told of their disks lies there
+lying : (g : Over) (c : After-answer_all g) → Begun g c → (new : _) (stay : Stay c.args.registry.now.schema.now c.args.registry.now.world.now
+    (header_bytes c.args.registry.now.header.now) g.F.D.Disk c.in-Ok-open_all.seats.items new)
+    → AreBack g.F.Shelf.tells g.F.D.Disk (g.F.Shelf.disk c.answer_all.new.shelf) (g.F.Shelf.disk_faults c.answer_all.new.shelf) new
+    → g.F.Shelf.tells → StaysThere g.F.D.Disk (g.F.Shelf.disk c.args.shelf.now) (g.F.Shelf.disk c.answer_all.new.shelf)
+lying g c at new stay back told tells name there =
+    let beside = (given g c at new stay back).disks in
+    all_there g.F.D.Disk tells g.F.Shelf.tells told (g.F.Shelf.disk c.args.shelf.now) (g.F.Shelf.disk c.answer_all.new.shelf)
+    (g.F.Shelf.disk_faults c.answer_all.new.shelf) new back
+    (subst (λ ns. SameBeside ns (g.F.Shelf.disk c.args.shelf.now) (g.F.Shelf.disk c.answer_all.new.shelf)) (sym (stay.names ∙ at.journals_are)) beside)
+    (stay.there tells
+    (there_first g.F.D.Disk tells g.F.Shelf.tells c.args.registry.now.schema.now c.args.registry.now.world.now
+    (header_bytes c.args.registry.now.header.now) c.args.registry.now.directory.now (g.F.Shelf.disk c.args.shelf.now)
+    (g.F.Shelf.disk_faults c.args.shelf.now) c.args.registry.now.users.now c.in-Ok-open_all.seats.items c.in-Ok-open_all.ensures.opened)) name there
+
 -- ---- where all items were answered
+
+pub returns-in-All-clause-there : goal.returns-in-All-clause-there
+returns-in-All-clause-there g c =
+    let at = goal.at.returns-in-All-clause-there g c in
+    let all = c.in-All.ensures.answered in
+    lying g at.After-answer_all (seated g at.In-Ok-open_all) all.0 (stay_run _ _ _ _ _ _ _ _ _ all.1.runs) all.2
 
 pub returns-in-All-clause-inside : goal.returns-in-All-clause-inside
 returns-in-All-clause-inside g c =
@@ -246,6 +286,13 @@ returns-in-All-clause-disk_cause g c = λ broken.
 
 -- ---- where a write failed
 
+pub returns-in-Cut-clause-there : goal.returns-in-Cut-clause-there
+returns-in-Cut-clause-there g c =
+    let at = goal.at.returns-in-Cut-clause-there g c in
+    let some = c.in-Cut.ensures.answered in
+    lying g at.After-answer_all (seated g at.In-Ok-open_all) some.0
+    (stay_run _ _ _ _ _ _ _ _ _ (runs_then _ _ _ _ _ _ _ _ _ _ _ _ _ some.1.first some.1.last)) some.2
+
 pub returns-in-Cut-clause-inside : goal.returns-in-Cut-clause-inside
 returns-in-Cut-clause-inside g c =
     let at = goal.at.returns-in-Cut-clause-inside g c in
@@ -299,6 +346,13 @@ returns-in-Cut-clause-ends g c = λ shelf_told source_told sink_told.
     )
 
 -- ---- where memory was wanting as a stretch began or ended
+
+pub returns-clause-there : goal.returns-clause-there
+returns-clause-there g c =
+    let at = goal.at.returns-clause-there g c in
+    let left = c.in-Memory-answer_all.ensures.answered in
+    lying g at.After-answer_all (seated g at.In-Ok-open_all) left.0
+    (stay_run _ _ _ _ _ _ _ _ _ (runs_then _ _ _ _ _ _ _ _ _ _ _ _ _ left.1.0.first left.1.0.last)) left.2
 
 pub returns-clause-disks : goal.returns-clause-disks
 returns-clause-disks g c =

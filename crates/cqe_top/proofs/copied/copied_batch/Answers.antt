@@ -1,16 +1,16 @@
 use Rattle.std.proofs.Common.{◌≡◌, ◌≤◌, ◌+◌, false, sym, ap, subst, ◌∙◌, length, map, rules}
 use Rattle.outside.specs.Faults.{Rose}
-use Rattle.outside.specs.Shelf.{SameNames, SameBeside, NoneOut, NoneFell, SomeRose, Lent}
+use Rattle.outside.specs.Shelf.{SameNames, SameBeside, NoneOut, NoneFell, SomeRose, Lent, bytes_on}
 use Rattle.batch_engine.specs.Batch as batch
 use Rattle.desk_crew.specs.Crew.{named_user}
 use Rattle.desk_crew.specs.Registered.{registered_journals}
 use Rattle.log_journal.specs.Opening.{header_bytes}
 use Rattle.standby_core.specs.Places.{faults_in, is_away}
-use Rattle.standby_core.specs.MirrorSets.{slots_of, dial_faults, dial_marks}
+use Rattle.standby_core.specs.MirrorSets.{slots_of, dial_faults, dial_marks, DialsLie}
 use Rattle.standby_core.specs.Slots.{place_at, slot_texts, there_among}
 use Rattle.standby_core.proofs.There.{all_there}
 use Rattle.cqe_top.specs.Steps.{copied_counts, copied_journals}
-use Rattle.cqe_top.proofs.Copying.{same_copied, disks_under, counts_under, all_counts_under, some_rose_under, none_fell_under}
+use Rattle.cqe_top.proofs.Copying.{same_copied, dials_lie, disks_under, counts_under, all_counts_under, some_rose_under, none_fell_under}
 use Rattle.cqe_top.proofs.Copying.{shelf_back, mirrors_back, lent_one, lent_two}
 use Rattle.cqe_top.proofs.copied.copied_batch.Goals as goal
 
@@ -180,3 +180,18 @@ returns-clause-none_away g c name =
     subst (λ mirrors. is_away (place_at (slots_of mirrors) name) ≡ false)
     (sym (mirrors_back c.mirrors-1.given.0 c.run_batch.new.shelf.mirrors.now _ _ c.run_batch.ensures.lent (search rules)))
     (c.run_batch.new.shelf.back name (c.run_batch.ensures.inside name))
+
+-- ---- what was told of
+
+pub returns-clause-lie : goal.returns-clause-lie
+returns-clause-lie g c = λ told.
+    lent_two (λ shelf mirrors. DialsLie g.C.Dial.tells g.C.Dial.exchanged mirrors (λ name. bytes_on g.F.D.Disk.reads (g.F.Shelf.disk shelf name)))
+    _ c.run_batch.new.shelf.shelf.now c.mirrors-1.given.0 c.run_batch.new.shelf.mirrors.now
+    (shelf_back _ c.run_batch.new.shelf.shelf.now _ _ c.run_batch.ensures.lent (search rules))
+    (mirrors_back c.mirrors-1.given.0 c.run_batch.new.shelf.mirrors.now _ _ c.run_batch.ensures.lent (search rules))
+    (dials_lie g.F.Shelf g.F.D.Disk g.C.Dial.faults c.new-mirrored.result.shelf.now c.args.shelf.now c.run_batch.new.shelf.shelf.now
+    c.new-mirrored.ensures.shelf
+    (slots_of c.new-mirrored.result.mirrors.now) (slots_of c.args.mirrors.now) (slots_of c.run_batch.new.shelf.mirrors.now)
+    (ap slots_of c.new-mirrored.ensures.mirrors) c.requires.fresh g.C.Dial.tells g.C.Dial.exchanged c.requires.silent
+    (λ dials_told name none. c.run_batch.new.shelf.unused told dials_told name none (c.run_batch.ensures.inside name))
+    (c.run_batch.ensures.there told (g.met.F.Shelf.tells_disks told)))

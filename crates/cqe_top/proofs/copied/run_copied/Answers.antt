@@ -1,6 +1,7 @@
 use Rattle.std.proofs.Common.{◌≡◌, ◌⊎◌, ◌≤◌, ◌++◌, ◌∷◌, [], ℕ, ◌+◌, Some, inr, refl, sym, ap, subst, ◌∙◌, map, arith}
 use Rattle.std.specs.Prelude.{string_bytes}
 use Rattle.outside.proofs.Rises.{rose_since}
+use Rattle.outside.specs.Shelf.{bytes_on}
 use Rattle.cqe_base.specs.Schema.{Text, has_duplicate}
 use Rattle.command_words.specs.Readings.{names_of_files}
 use Rattle.desk_crew.specs.Crew.{named_user}
@@ -46,13 +47,19 @@ pub mirrors_for-requires-after_bounds : goal.mirrors_for-requires-after_bounds
 mirrors_for-requires-after_bounds g c κs within =
     ap has_duplicate (ap (λ users. map (λ user. string_bytes user.name) users) c.as_slice.ensures.value) ∙ c.in-Ok.ensures.names
 
+pub copied_batch-end-requires-clause-silent : goal.copied_batch-end-requires-clause-silent
+copied_batch-end-requires-clause-silent g c κs within = c.in-Ok-mirrors_for.ensures.silent
+
 pub copied_batch-end-requires-clause-there : goal.copied_batch-end-requires-clause-there
 copied_batch-end-requires-clause-there g c κs within =
-    unused_there g.L.Links.tells g.L.Dial.Dial.faults g.L.Dial.Dial.exchanged (slots_of c.in-Ok-mirrors_for.mirrors) c.in-Ok-mirrors_for.ensures.unused
+    unused_there g.L.Dial.Dial.tells g.L.Dial.Dial.faults g.L.Dial.Dial.exchanged (slots_of c.in-Ok-mirrors_for.mirrors) c.in-Ok-mirrors_for.ensures.unused
+
+pub copied_serve-end-requires-clause-silent : goal.copied_serve-end-requires-clause-silent
+copied_serve-end-requires-clause-silent g c κs within = c.in-Ok-mirrors_for.ensures.silent
 
 pub copied_serve-end-requires-clause-there : goal.copied_serve-end-requires-clause-there
 copied_serve-end-requires-clause-there g c κs within =
-    unused_there g.L.Links.tells g.L.Dial.Dial.faults g.L.Dial.Dial.exchanged (slots_of c.in-Ok-mirrors_for.mirrors) c.in-Ok-mirrors_for.ensures.unused
+    unused_there g.L.Dial.Dial.tells g.L.Dial.Dial.faults g.L.Dial.Dial.exchanged (slots_of c.in-Ok-mirrors_for.mirrors) c.in-Ok-mirrors_for.ensures.unused
 
 pub hang_up_all-requires-after_bounds : goal.hang_up_all-requires-after_bounds
 hang_up_all-requires-after_bounds g c κs within =
@@ -210,7 +217,9 @@ returns-in-Batch g c = record {
         header_bytes inputs.header,
         read.read told,
         calls_from inputs.header c.args.standby.now files.directory (policy_value_of inputs.policy) c.as_slice.result.now
-            (ap (map policy_user_of) c.as_slice.ensures.value) scene.links inputs.world marks _ _ (g.L.Links.exchanged c.mirrors_for.new.links)
+            (ap (map policy_user_of) c.as_slice.ensures.value) scene.links inputs.world marks (λ name. bytes_on g.F.D.Disk.reads (g.F.Shelf.disk new name)) _ _
+            _
+            (g.L.Links.exchanged c.mirrors_for.new.links) (ran.lie told)
             (ran.made ∙ c.in-Ok-mirrors_for.ensures.made) (made.calls.exchanged links_told) (hung.exchanged links_told)
             (marks_answered g.L.Dial.Dial.name g.L.Dial.Dial.address g.L.Dial.Dial.answered (g.F.Shelf.disk new) (slots_of c.copied_batch-end.new.mirrors)
             ran.none_away (λ slot. slot.named) IsCallBy (hung.exchanged links_told).exchanges c.copied_batch-end.new.mirrors.distinct
@@ -353,7 +362,9 @@ returns g c = record {
         header_bytes inputs.header,
         read.read told,
         calls_from inputs.header c.args.standby.now files.directory (policy_value_of inputs.policy) c.as_slice.result.now
-            (ap (map policy_user_of) c.as_slice.ensures.value) scene.links inputs.world marks _ _ (g.L.Links.exchanged links)
+            (ap (map policy_user_of) c.as_slice.ensures.value) scene.links inputs.world marks (λ name. bytes_on g.F.D.Disk.reads (g.F.Shelf.disk new name)) _ _
+            _
+            (g.L.Links.exchanged links) (ran.lie told)
             (ran.made ∙ c.in-Ok-mirrors_for.ensures.made) (ran.exchanged links_told ∙ made.calls.exchanged links_told) (hung.exchanged links_told)
             (marks_answered g.L.Dial.Dial.name g.L.Dial.Dial.address g.L.Dial.Dial.answered (g.F.Shelf.disk new) (slots_of c.copied_serve-end.new.mirrors)
             ran.none_away (λ slot. slot.named) IsCallBy (hung.exchanged links_told).exchanges c.copied_serve-end.new.mirrors.distinct

@@ -22,6 +22,9 @@ returns-in_default-clause-refused_moments g c = λ told.
     same_moments g.F.D.Disk (g.met.F.D.Disk g.world.𝓛 g.world.𝓜 g.world.𝓡 ((λ s x. x), (λ x. x), (λ x. x), λ x. x)).only_now
     (g.F.Shelf.disk c.args.shelf.now) (g.F.Shelf.disk c.args.shelf.now) (λ name. refl)
 
+pub returns-in_default-clause-refused_there : goal.returns-in_default-clause-refused_there
+returns-in_default-clause-refused_there g c = λ told tells name there. there
+
 pub take_one-requires : goal.take_one-requires
 take_one-requires g c =
     next_in c.args.registry.now.directory.now g.F.Shelf.tells g.F.D.Disk (g.F.Shelf.disk c.args.shelf.now) (g.F.Shelf.disk_faults c.args.shelf.now)
@@ -108,6 +111,11 @@ pub returns-in-Err-clause-refused_moments : goal.returns-in-Err-clause-refused_m
 returns-in-Err-clause-refused_moments g c =
     let at = goal.at.returns-in-Err-clause-refused_moments g c in
     λ told name. ((left g at.After-return_all (still g at.In-Err)).same told name).2
+
+pub returns-in-Err-clause-refused_there : goal.returns-in-Err-clause-refused_there
+returns-in-Err-clause-refused_there g c =
+    let at = goal.at.returns-in-Err-clause-refused_there g c in
+    λ told tells name. ((left g at.After-return_all (still g at.In-Err)).same told name).3 tells
 
 pub returns-in-Err-clause-disks : goal.returns-in-Err-clause-disks
 returns-in-Err-clause-disks g c =
@@ -314,6 +322,9 @@ returns-in-None-clause-refused_images g c = λ told name. ((unopened g c).same t
 
 pub returns-in-None-clause-refused_moments : goal.returns-in-None-clause-refused_moments
 returns-in-None-clause-refused_moments g c = λ told name. ((unopened g c).same told name).2
+
+pub returns-in-None-clause-refused_there : goal.returns-in-None-clause-refused_there
+returns-in-None-clause-refused_there g c = λ told tells name. ((unopened g c).same told name).3 tells
 
 pub returns-in-None-clause-disks : goal.returns-in-None-clause-disks
 returns-in-None-clause-disks g c = (unopened g c).disks

@@ -19,6 +19,7 @@ returns-clause-taken g c =
         journal_is = named;
         from = λ told. subst (λ n. IsTaken g.F.D.Disk.reads g.F.D.Disk.image (g.F.Shelf.disk c.args.shelf.now n) c.in-Ok-take_disk.disk) under
             (c.in-Ok-take_disk.ensures.taken told);
+        unheard = c.in-Ok-take_disk.ensures.unheard;
         counted = c.in-Ok-take_disk.ensures.count ∙ ap (g.F.Shelf.disk_faults c.args.shelf.now) under;
       };
     }

@@ -5,6 +5,7 @@ use Rattle.log_journal.specs.Records.{Adds, KeepsOrAdds}
 use Rattle.log_journal.specs.Walk.{records}
 use Rattle.log_journal.specs.Bytes.{EndsAt}
 use Rattle.log_journal.proofs.Counts.{few_records, grown, one_more_record, added_numbered}
+use Rattle.log_journal.proofs.Hearing.{there_put, there_told}
 use Rattle.log_journal.proofs.journal.put_told.Goals as goal
 
 pub tell_record-requires-clause-there : goal.tell_record-requires-clause-there
@@ -69,3 +70,20 @@ returns-clause-fits g c told =
     one_more_record R c.args.gate (c.requires.ends told) (c.args.kind, c.args.text.now) R' (c.in_ok-put_record.ensures.added told) in
     let few : length (records R') + 2 < 2 ^ 64 = few_records R' (c.args.gate + 4 + length c.args.text.now) (c.in_ok-put_record.ensures.ends told) in
     on_ok_weaker c.tell_record.result (λ may. omega (arith, more, few, c.requires.counted told)) c.tell_record.ensures.may_be_told
+
+pub returns-in_err-put_record-clause-heard : goal.returns-in_err-put_record-clause-heard
+returns-in_err-put_record-clause-heard g c told there =
+    there_put (g.D.Disk.reads c.args.disk.now) c.args.gate (c.requires.ends told) (c.args.kind, c.args.text.now) (g.D.Disk.reads c.put_record.new.disk)
+    (c.put_record.ensures.images told (g.D.Disk.reads c.put_record.new.disk) (g.met.D.Disk.read_is_image c.put_record.new.disk told))
+    (g.D.Disk.heard c.args.disk.now) (g.D.Disk.heard c.put_record.new.disk) c.put_record.ensures.heard there
+
+pub returns-clause-heard : goal.returns-clause-heard
+returns-clause-heard g c told there =
+    there_told (g.D.Disk.heard c.put_record.new.disk) (g.D.Disk.heard c.tell_record.new.disk) (g.D.Disk.reads c.put_record.new.disk)
+    (g.D.Disk.reads c.tell_record.new.disk) c.tell_record.ensures.only.reads
+    (there_put (g.D.Disk.reads c.args.disk.now) c.args.gate (c.requires.ends told) (c.args.kind, c.args.text.now) (g.D.Disk.reads c.put_record.new.disk)
+    (c.put_record.ensures.images told (g.D.Disk.reads c.put_record.new.disk) (g.met.D.Disk.read_is_image c.put_record.new.disk told))
+    (g.D.Disk.heard c.args.disk.now) (g.D.Disk.heard c.put_record.new.disk) c.put_record.ensures.heard there)
+    c.args.number (c.args.kind, c.args.text.now) c.tell_record.ensures.heard
+    (added_numbered (g.D.Disk.reads c.args.disk.now) c.args.gate (c.requires.ends told) (c.args.kind, c.args.text.now)
+    (g.D.Disk.reads c.put_record.new.disk) (c.in_ok-put_record.ensures.added told) c.args.number (c.requires.counted told))

@@ -22,6 +22,7 @@ loop-init g c =
           (λ t d le is. g.met.D.Disk.counts_now c.args.disk.now t d le is) (λ d is. g.met.D.Disk.only_now c.args.disk.now d is);
       origin = refl;
       still_told = omega arith;
+      heard = λ number one is. is;
     }
 
 pub returns-in_err-record-clause-refused : goal.returns-in_err-record-clause-refused
@@ -73,4 +74,5 @@ loop-preserved g c =
           c.loop.invariant.only c.record_at.ensures.only;
       origin = c.record_at.ensures.origin ∙ c.loop.invariant.origin;
       still_told = omega (arith, c.loop.invariant.still_told, c.record_at.ensures.still_told);
+      heard = λ number one is. c.loop.invariant.heard number one (c.record_at.ensures.heard number one is);
     }

@@ -1,4 +1,5 @@
 use Rattle.std.proofs.Common.{◌≡◌, ◌≤◌, All, map, drop}
+use Rattle.outside.specs.Disk.{HearsNoMore}
 use Rattle.log_journal.specs.Opening.{recorded, IsRecord, IsOnlyRead}
 use Rattle.log_journal.proofs.Reading.{SoFar}
 use Rattle.log_journal.proofs.opening.read_records.Given as goal
@@ -12,4 +13,5 @@ invariant-loop g l = record {
       (g.D.Disk.faults l.initial.disk) (g.D.Disk.faults l.disk);
   origin : g.D.Disk.origin l.disk ≡ g.D.Disk.origin l.initial.disk;
   still_told : g.D.Disk.told l.initial.disk ≤ g.D.Disk.told l.disk;
+  heard : HearsNoMore (g.D.Disk.heard l.initial.disk) (g.D.Disk.heard l.disk);
 }

@@ -1,6 +1,7 @@
 use Rattle.std.proofs.Common.{◌≤◌, List, ℕ, length, refl, sym, subst, ◌∙◌, ap, arith}
 use Rattle.log_journal.specs.Walk.{records, IsNumbered}
 use Rattle.log_journal.proofs.Counts.{numbered, record_there}
+use Rattle.log_journal.proofs.Hearing.{there_told}
 use Rattle.log_journal.proofs.Windows.{only_none, only_then}
 use Rattle.log_journal.proofs.tell.tell_all.Goals as goal
 
@@ -8,6 +9,7 @@ pub loop-number-init : goal.loop-number-init
 loop-number-init g c = record {
   told = omega arith;
   still_told = omega arith;
+  heard = λ told there. there;
   only = only_none (g.D.Disk.reads c.args.disk.now) (g.D.Disk.image c.args.disk.now) (g.D.Disk.moment c.args.disk.now)
       (g.D.Disk.image_since c.args.disk.now) (g.D.Disk.faults c.args.disk.now)
       (λ t d le is. g.met.D.Disk.counts_now c.args.disk.now t d le is) (λ d is. g.met.D.Disk.only_now c.args.disk.now d is);
@@ -42,6 +44,13 @@ pub loop-number-preserved : goal.loop-number-preserved
 loop-number-preserved g c = record {
   told = omega (arith, c.in_ok-tell_record.ensures.may_be_told);
   still_told = omega (arith, c.loop-number.invariant.still_told, c.tell_record.ensures.told);
+  heard = λ told there.
+      there_told (g.D.Disk.heard c.loop-number.disk) (g.D.Disk.heard c.tell_record.new.disk) (g.D.Disk.reads c.loop-number.disk)
+      (g.D.Disk.reads c.tell_record.new.disk) c.tell_record.ensures.only.reads (c.loop-number.invariant.heard told there) c.loop-number.number
+      (c.index-all-number.result.kind, c.deref.result.now) c.tell_record.ensures.heard
+      (subst (λ (t : List ℕ). IsNumbered (g.D.Disk.reads c.loop-number.disk) c.loop-number.number (c.index-all-number.result.kind, t))
+      (sym c.deref.ensures.value) (numbered (g.D.Disk.reads c.loop-number.disk) c.args.all.now c.loop-number.number c.index-all-number.result
+      (ap records c.loop-number.invariant.only.reads ∙ c.requires.there told) c.index-all-number.is c.loop-number-test.true));
   only = only_then (g.D.Disk.reads c.args.disk.now) (g.D.Disk.reads c.loop-number.disk) (g.D.Disk.reads c.tell_record.new.disk)
       (g.D.Disk.image c.args.disk.now) (g.D.Disk.image c.loop-number.disk) (g.D.Disk.image c.tell_record.new.disk)
       (g.D.Disk.moment c.args.disk.now) (g.D.Disk.moment c.loop-number.disk) (g.D.Disk.moment c.tell_record.new.disk)
@@ -59,3 +68,12 @@ returns-in_err-tell_record-clause-only g c =
     (g.D.Disk.image_since c.args.disk.now) (g.D.Disk.image_since c.loop-number.disk) (g.D.Disk.image_since c.tell_record.new.disk)
     (g.D.Disk.faults c.args.disk.now) (g.D.Disk.faults c.loop-number.disk) (g.D.Disk.faults c.tell_record.new.disk)
     c.loop-number.invariant.only c.tell_record.ensures.only
+
+pub returns-in_err-tell_record-clause-heard : goal.returns-in_err-tell_record-clause-heard
+returns-in_err-tell_record-clause-heard g c told there =
+    there_told (g.D.Disk.heard c.loop-number.disk) (g.D.Disk.heard c.tell_record.new.disk) (g.D.Disk.reads c.loop-number.disk)
+    (g.D.Disk.reads c.tell_record.new.disk) c.tell_record.ensures.only.reads (c.loop-number.invariant.heard told there) c.loop-number.number
+    (c.index-all-number.result.kind, c.deref.result.now) c.tell_record.ensures.heard
+    (subst (λ (t : List ℕ). IsNumbered (g.D.Disk.reads c.loop-number.disk) c.loop-number.number (c.index-all-number.result.kind, t))
+    (sym c.deref.ensures.value) (numbered (g.D.Disk.reads c.loop-number.disk) c.args.all.now c.loop-number.number c.index-all-number.result
+    (ap records c.loop-number.invariant.only.reads ∙ c.requires.there told) c.index-all-number.is c.loop-number-test.true))

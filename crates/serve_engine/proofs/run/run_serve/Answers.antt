@@ -113,6 +113,12 @@ returns-clause-few_ended g c =
 
 -- ---- where nothing was listened to, all journals are kept
 
+pub returns-in-Err-Failed-clause-there : goal.returns-in-Err-Failed-clause-there
+returns-in-Err-Failed-clause-there g c = λ shelf_told tells name there. there
+
+pub returns-in-Err-Memory-clause-there : goal.returns-in-Err-Memory-clause-there
+returns-in-Err-Memory-clause-there g c = λ shelf_told tells name there. there
+
 pub returns-in-Err-Failed-clause-ends : goal.returns-in-Err-Failed-clause-ends
 returns-in-Err-Failed-clause-ends g c = λ shelf_told links_told.
     inl (record {

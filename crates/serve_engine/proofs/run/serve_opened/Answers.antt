@@ -5,12 +5,15 @@ use Rattle.desk_crew.specs.Shelved.{journals_on}
 use Rattle.desk_crew.proofs.Lasting.{keeps_same, keeps_all}
 use Rattle.desk_crew.proofs.Rising.{some_rose, any_failed}
 use Rattle.desk_crew.proofs.Giving.{CanGive, AllReturned}
+use Rattle.desk_crew.proofs.Hearing.{there_first, all_there}
+use Rattle.outside.specs.Shelf.{SameBeside}
 use Rattle.desk_crew.proofs.Taking.{AllSeated, all_seated}
 use Rattle.serve_engine.specs.Serving.{HaveServed, EndsDoors, IsDone, IsBroken}
 use Rattle.serve_engine.specs.Served.{Served}
 use Rattle.serve_engine.specs.Sharing.{seat_member, IsServedAt}
 use Rattle.serve_engine.proofs.Apart.{served_still, apart_own}
-use Rattle.serve_engine.proofs.Histories.{broken_end, have_served, all_in_world, broke_at, later_on_seats, own_on_seats, doors_many, doors_gave, doors_left}
+use Rattle.serve_engine.proofs.Histories.{broken_end, have_served, all_in_world, broke_at, later_on_seats, own_on_seats, there_on_seats, journals_on_same}
+use Rattle.serve_engine.proofs.Histories.{doors_many, doors_gave, doors_left}
 use Rattle.serve_engine.proofs.Histories.{ended_at, failed_at, ends_at, own_from, all_told, AreReady, all_ready, served_can, served_returned}
 use Rattle.serve_engine.proofs.run.serve_opened.Given.{Over}
 use Rattle.serve_engine.proofs.run.serve_opened.Goals as goal
@@ -51,6 +54,15 @@ returns-in-Err-Memory-clause-ends g c = λ shelf_told.
           (g.F.Shelf.disk_faults c.args.shelf.now) (g.F.Shelf.disk_faults c.open_all.new.shelf) (c.in-Err-Memory.ensures.refused_bytes shelf_told)
           (c.in-Err-Memory.ensures.refused_images shelf_told) (c.in-Err-Memory.ensures.refused_moments shelf_told);
     })
+
+pub returns-in_default-clause-there : goal.returns-in_default-clause-there
+returns-in_default-clause-there g c = λ shelf_told tells name there. there
+
+pub returns-in-Err-Shelf-clause-there : goal.returns-in-Err-Shelf-clause-there
+returns-in-Err-Shelf-clause-there g c = c.in-Err-Shelf.ensures.refused_there
+
+pub returns-in-Err-Memory-clause-there : goal.returns-in-Err-Memory-clause-there
+returns-in-Err-Memory-clause-there g c = c.in-Err-Memory.ensures.refused_there
 
 -- ---- what follows from the opening of all journals
 
@@ -127,6 +139,19 @@ returns-clause-counts g c = (returned g c).counts
 
 pub returns-clause-other_counts : goal.returns-clause-other_counts
 returns-clause-other_counts g c = (returned g c).other_counts
+
+pub returns-clause-there : goal.returns-clause-there
+returns-clause-there g c = λ shelf_told tells name there.
+    let first = seated g (goal.at.returns-clause-there g c).In-Ok-open_all in
+    let seats = c.serve_seats-outcome.result.1.items in
+    let names = journals_on_same c.in-Ok-open_all.seats.items seats c.serve_seats-outcome.ensures.on ∙ first.journals_are in
+    all_there g.F.D.Disk tells g.F.Shelf.tells shelf_told (g.F.Shelf.disk c.args.shelf.now) (g.F.Shelf.disk c.give_back-is_broken.new.shelf)
+    (g.F.Shelf.disk_faults c.give_back-is_broken.new.shelf) seats c.give_back-is_broken.ensures.back
+    (subst (λ ns. SameBeside ns (g.F.Shelf.disk c.args.shelf.now) (g.F.Shelf.disk c.give_back-is_broken.new.shelf)) (sym names) (returned g c).disks)
+    (there_on_seats g.F.D.Disk c.in-Ok-open_all.seats.items seats c.serve_seats-outcome.ensures.on
+    (there_first g.F.D.Disk tells g.F.Shelf.tells c.args.registry.now.schema.now c.args.registry.now.world.now
+    (header_bytes c.args.registry.now.header.now) c.args.registry.now.directory.now (g.F.Shelf.disk c.args.shelf.now)
+    (g.F.Shelf.disk_faults c.args.shelf.now) c.args.registry.now.users.now c.in-Ok-open_all.seats.items c.in-Ok-open_all.ensures.opened)) name there
 
 pub returns-clause-ends : goal.returns-clause-ends
 returns-clause-ends g c shelf_told =

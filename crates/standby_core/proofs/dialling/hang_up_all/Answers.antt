@@ -1,5 +1,5 @@
 use Rattle.std.proofs.Common.{◌∙◌, ap, ◌+◌}
-use Rattle.standby_core.proofs.Hanging.{faults_once, calls_among, last_among}
+use Rattle.standby_core.proofs.Hanging.{faults_once, calls_among, last_among, lies_all}
 use Rattle.standby_core.specs.Slots.{exchanged_among}
 use Rattle.standby_core.proofs.dialling.hang_up_all.Goals as goal
 
@@ -18,4 +18,8 @@ returns-clause-exchanged g c told = record {
   answered = last_among g.L.Dial.Dial.name g.L.Dial.Dial.address g.L.Dial.Dial.answered g.L.Dial.Dial.exchanged
       (λ mirror. mirror.calls (g.met.L.Links.tells_dials told)) (λ slot. slot.same) (λ mirror. mirror.greatest (g.met.L.Links.tells_dials told))
       c.args.mirrors.slots.items;
+  lie = λ bytes lie.
+      lies_all g.L.Dial.Dial.tells (g.met.L.Links.tells_dials told) g.L.Dial.Dial.name g.L.Dial.Dial.address g.L.Dial.Dial.exchanged
+      (λ mirror. mirror.calls (g.met.L.Links.tells_dials told)) (λ slot. slot.same) (λ slot. slot.named) c.args.mirrors.slots.items bytes lie
+      c.args.mirrors.distinct;
 }

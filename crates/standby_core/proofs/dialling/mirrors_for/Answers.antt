@@ -9,7 +9,7 @@ use Rattle.standby_core.specs.Places.{IsUnused}
 use Rattle.standby_core.specs.Slots.{slot_name, slot_texts, AreUnused}
 use Rattle.standby_core.specs.Users.{texts_for}
 use Rattle.standby_core.proofs.Keeping.{keeps_all, keeps_then, calls_all, calls_then}
-use Rattle.standby_core.proofs.Making.{all_more, each_more, own_journals, all_there, all_silent, all_faultless, none_failed}
+use Rattle.standby_core.proofs.Making.{all_more, each_more, own_journals, all_there, all_silent, all_faultless, none_failed, none_exchanged}
 use Rattle.standby_core.proofs.dialling.mirrors_for.Goals as goal
 
 pub returns-in_err-reserve-clause-doors : goal.returns-in_err-reserve-clause-doors
@@ -25,7 +25,7 @@ loop-user-init g c =
     record {
       made = ap (map (slot_texts g.L.Dial.Dial.name g.L.Dial.Dial.address)) empty;
       names = ap (map slot_name) empty;
-      unused = subst (AreUnused g.L.Links.tells g.L.Dial.Dial.faults g.L.Dial.Dial.exchanged) (sym empty) tt;
+      unused = subst (AreUnused g.L.Dial.Dial.tells g.L.Dial.Dial.faults g.L.Dial.Dial.exchanged) (sym empty) tt;
       count = omega (arith, c.reserve.new.self.ok.0, ap length c.in_ok-reserve.ensures.items, none);
       room = omega (arith, c.in_ok-reserve.ensures.ok);
       dialling = omega arith;
@@ -46,8 +46,8 @@ loop-user-preserved g c =
       names = each_more slot_name (λ (u : User). journal_name c.args.directory.now (string_bytes u.name)) c.loop-user.slots.items
           c.push_reserved.new.self.items c.in-Ok.slot c.args.users.now c.loop-user.user-index c.user-item.result added one.name c.loop-user-test.true
           c.user-item.is before.names;
-      unused = subst (AreUnused g.L.Links.tells g.L.Dial.Dial.faults g.L.Dial.Dial.exchanged) (sym added)
-          (all_more (λ s. IsUnused g.L.Links.tells g.L.Dial.Dial.faults g.L.Dial.Dial.exchanged s.place) c.loop-user.slots.items c.in-Ok.slot before.unused
+      unused = subst (AreUnused g.L.Dial.Dial.tells g.L.Dial.Dial.faults g.L.Dial.Dial.exchanged) (sym added)
+          (all_more (λ s. IsUnused g.L.Dial.Dial.tells g.L.Dial.Dial.faults g.L.Dial.Dial.exchanged s.place) c.loop-user.slots.items c.in-Ok.slot before.unused
           one.unused);
       count = omega (arith, before.count, c.push_reserved.ensures.len);
       room = omega (arith, before.room, c.push_reserved.ensures.capacity);
@@ -61,7 +61,7 @@ loop-user-preserved g c =
 pub hang_up_slots-requires-after_bounds : goal.hang_up_slots-requires-after_bounds
 hang_up_slots-requires-after_bounds g c κs within =
     let before = c.loop-user.invariant in
-    let there = all_there g.L.Links.tells g.L.Dial.Dial.faults g.L.Dial.Dial.exchanged c.loop-user.slots.items before.unused in
+    let there = all_there g.L.Dial.Dial.tells g.L.Dial.Dial.faults g.L.Dial.Dial.exchanged c.loop-user.slots.items before.unused in
     let len = c.loop-user.slots.ok.0 in
     let same = c.in-Err.ensures.none in
     omega (arith, before.dialling, before.count, there, len, same)
@@ -69,7 +69,7 @@ hang_up_slots-requires-after_bounds g c κs within =
 pub returns-in-Err-clause-none : goal.returns-in-Err-clause-none
 returns-in-Err-clause-none g c =
     let before = c.loop-user.invariant in
-    let there = all_there g.L.Links.tells g.L.Dial.Dial.faults g.L.Dial.Dial.exchanged c.loop-user.slots.items before.unused in
+    let there = all_there g.L.Dial.Dial.tells g.L.Dial.Dial.faults g.L.Dial.Dial.exchanged c.loop-user.slots.items before.unused in
     let len = c.loop-user.slots.ok.0 in
     let same = c.in-Err.ensures.none in
     let hung = c.hang_up_slots.ensures.dialling in
@@ -84,11 +84,11 @@ returns-in-Err-clause-calls g c =
       exchanged = λ told.
           hung.exchanged told
           ∙ ap (λ (l : List Exchange). g.L.Links.exchanged c.slot_for.new.links ++ l)
-          (all_silent g.L.Links.tells g.L.Dial.Dial.faults g.L.Dial.Dial.exchanged told c.loop-user.slots.items before.unused)
+          (all_silent g.L.Dial.Dial.tells g.L.Dial.Dial.faults g.L.Dial.Dial.exchanged (g.met.L.Links.tells_dials told) c.loop-user.slots.items before.unused)
           ∙ append-nil (g.L.Links.exchanged c.slot_for.new.links) ∙ so_far.exchanged told;
       exchange_faults = λ name.
           let more = hung.exchange_faults name in
-          let none = all_faultless g.L.Links.tells g.L.Dial.Dial.faults g.L.Dial.Dial.exchanged c.loop-user.slots.items before.unused name in
+          let none = all_faultless g.L.Dial.Dial.tells g.L.Dial.Dial.faults g.L.Dial.Dial.exchanged c.loop-user.slots.items before.unused name in
           let same = so_far.exchange_faults name in
           omega (arith, more, none, same);
     }
@@ -116,7 +116,7 @@ returns-clause-made g c =
 
 pub returns-clause-fresh : goal.returns-clause-fresh
 returns-clause-fresh g c name =
-    none_failed g.L.Links.tells g.L.Dial.Dial.faults g.L.Dial.Dial.exchanged c.loop-user.slots.items c.loop-user.invariant.unused name
+    none_failed g.L.Dial.Dial.tells g.L.Dial.Dial.faults g.L.Dial.Dial.exchanged c.loop-user.slots.items c.loop-user.invariant.unused name
 
 pub returns-clause-dialling : goal.returns-clause-dialling
 returns-clause-dialling g c =
@@ -125,3 +125,7 @@ returns-clause-dialling g c =
     let count = so_far.count in
     let len = c.loop-user.slots.ok.0 in
     omega (arith, dialled, count, len)
+
+pub returns-clause-silent : goal.returns-clause-silent
+returns-clause-silent g c told name =
+    none_exchanged g.L.Dial.Dial.tells g.L.Dial.Dial.faults g.L.Dial.Dial.exchanged told c.loop-user.slots.items c.loop-user.invariant.unused name

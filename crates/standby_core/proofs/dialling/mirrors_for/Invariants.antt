@@ -13,7 +13,7 @@ invariant-loop-user g l = record {
   made : map (slot_texts g.L.Dial.Dial.name g.L.Dial.Dial.address) l.slots.items
       ≡ map (texts_for l.header l.address l.directory) (take l.user-index l.users);
   names : map slot_name l.slots.items ≡ map (λ (u : User). journal_name l.directory (string_bytes u.name)) (take l.user-index l.users);
-  unused : AreUnused g.L.Links.tells g.L.Dial.Dial.faults g.L.Dial.Dial.exchanged l.slots.items;
+  unused : AreUnused g.L.Dial.Dial.tells g.L.Dial.Dial.faults g.L.Dial.Dial.exchanged l.slots.items;
   count : vec_len l.slots ≡ l.user-index;
   room : length l.users ≤ vec_capacity l.slots;
   dialling : g.L.Links.dialling l.links ≡ g.L.Links.dialling l.fn.links + l.user-index;

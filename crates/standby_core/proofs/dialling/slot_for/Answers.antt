@@ -1,4 +1,4 @@
-use Rattle.std.proofs.Common.{◌∷◌, [], refl, sym, ap, ◌∙◌}
+use Rattle.std.proofs.Common.{◌∷◌, [], length, refl, sym, ap, ◌∙◌}
 use Rattle.log_journal.specs.Names.{journal_name}
 use Rattle.standby_core.specs.Mirrors.{dial_of, texts_of}
 use Rattle.standby_core.specs.Users.{frame_user}
@@ -53,6 +53,7 @@ returns-clause-made g c =
 pub invariant_of-result : goal.invariant_of-result
 invariant_of-result g c = record {
   fresh = ap g.L.Dial.Dial.faults c.new-mirror.ensures.dial ∙ c.in_ok-dial.ensures.whole;
+  silent = λ told. ap length (ap g.L.Dial.Dial.exchanged c.new-mirror.ensures.dial ∙ c.in_ok-dial.ensures.fresh told);
   named = ap (λ (m : Mirror _ _). g.L.Dial.Dial.name (dial_of m)) c.of-made.ensures ∙ ap g.L.Dial.Dial.name c.new-mirror.ensures.dial
       ∙ c.in_ok-dial.ensures.name
       ∙ c.as_str-3.ensures.value;
@@ -63,7 +64,7 @@ pub returns-clause-unused : goal.returns-clause-unused
 returns-clause-unused g c = record {
   there = refl;
   faultless = ap g.L.Dial.Dial.faults c.new-mirror.ensures.dial ∙ c.in_ok-dial.ensures.whole;
-  silent = λ told. ap g.L.Dial.Dial.exchanged c.new-mirror.ensures.dial ∙ c.in_ok-dial.ensures.fresh (g.met.L.Links.tells_dials told);
+  silent = λ told. ap g.L.Dial.Dial.exchanged c.new-mirror.ensures.dial ∙ c.in_ok-dial.ensures.fresh told;
 }
 
 pub returns-clause-doors : goal.returns-clause-doors

@@ -1,6 +1,7 @@
 use Rattle.std.proofs.Common.{ap, sym, ◌∙◌, subst, ◌≡◌, ◌≤◌, length}
 use Rattle.outside.specs.Disk.{Elapses}
 use Rattle.cqe_base.specs.History.{History}
+use Rattle.log_journal.specs.Walk.{AreThere}
 use Rattle.user_desk.specs.Standings.{is_sealed}
 use Rattle.user_desk.specs.declared.desk.Desk.{Desk}
 use Rattle.user_desk.specs.Desks.{desk_history, desk_disk, entry_in_flight}
@@ -61,6 +62,8 @@ returns-clause-closed g c =
       still = λ opened. closed_still desk kept pairs same history flies known.begins known.still opened.count opened.none;
       since = closed_since desk kept pairs same history flies g.D.Disk known.begins known.since;
       comes = known.origin ∙ ap (λ (f : Fixed g.row.D.Denot). g.D.Disk.origin f.disk) same;
+      there = λ tells. subst (λ (f : Fixed g.row.D.Denot). AreThere (g.D.Disk.heard f.disk) (g.D.Disk.reads f.disk)
+          → AreThere (g.D.Disk.heard (desk_disk desk)) (g.D.Disk.reads (desk_disk desk))) same (known.heard tells);
       time = subst (λ (f : Fixed g.row.D.Denot). Elapses (g.D.Disk.moment f.disk) (g.D.Disk.moment (desk_disk desk))
           (g.D.Disk.image_since f.disk) (g.D.Disk.image_since (desk_disk desk))) same known.time;
     }

@@ -4,7 +4,8 @@ use Rattle.standby_core.specs.MirroredDisks.{inner_of, mirror_of, mirrored, faul
 use Rattle.standby_core.specs.Mirrors.{texts_of}
 use Rattle.standby_core.specs.Places.{faults_in, is_away}
 use Rattle.standby_core.specs.Slots.{made_at, mirrored_at, mirrored_lent}
-use Rattle.standby_core.proofs.Slotting.{kept_places, kept_mirrors, back_mirrored, own_parts, made_some}
+use Rattle.standby_core.proofs.Slotting.{kept_places, kept_mirrors, kept_unused, back_mirrored, own_parts, made_some}
+use Rattle.std.proofs.lemmas.Option.{none-some}
 use Rattle.standby_core.proofs.shelf.MirroredShelfShelf.give_disk.Given.{Over}
 use Rattle.standby_core.proofs.shelf.MirroredShelfShelf.give_disk.Goals as goal
 use Rattle.standby_core.proofs.shelf.MirroredShelfShelf.give_disk.Goals.{In-Some}
@@ -46,6 +47,11 @@ invariant_of-self g c = record {
   back = kept_mirrors c.args.name.now (g.F.Shelf.is_out c.args.self.now.shelf.now) (g.F.Shelf.is_out c.give_disk.new.self)
       c.args.self.now.mirrors.now.slots.items c.put_back.new.self.slots.items c.args.self.now.back c.give_disk.ensures.others_out
       c.put_back.ensures.others (λ out. ap is_away c.put_back.ensures.put);
+  unused = λ told dials_told.
+      kept_unused g.C.Dial.exchanged c.args.name.now (g.F.Shelf.disk c.args.self.now.shelf.now) (g.F.Shelf.disk c.give_disk.new.self)
+      (g.F.Shelf.is_out c.args.self.now.shelf.now) (g.F.Shelf.is_out c.give_disk.new.self) c.args.self.now.mirrors.now.slots.items
+      c.put_back.new.self.slots.items (c.args.self.now.unused told dials_told) c.give_disk.ensures.disks c.give_disk.ensures.others_out
+      c.put_back.ensures.others (λ none inside. absurd (none-some _ (sym none ∙ c.give_disk.ensures.held told)));
 }
 
 pub returns-clause-held : goal.returns-clause-held

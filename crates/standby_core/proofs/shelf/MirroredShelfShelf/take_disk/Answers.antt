@@ -1,11 +1,13 @@
-use Rattle.std.proofs.Common.{◌≡◌, ◌+◌, ◌++◌, Some, sym, ap, subst, ◌∙◌}
+use Rattle.std.proofs.Common.{◌≡◌, ◌+◌, ◌++◌, Some, true, false, sym, ap, subst, ◌∙◌}
 use Rattle.std.specs.Prelude.{is_some}
+use Rattle.outside.specs.Disk.{HeardNothing}
 use Rattle.outside.specs.Shelf.{IsTaken}
-use Rattle.standby_core.specs.MirroredDisks.{inner_of, mirror_of, faults_by, origin_with}
+use Rattle.standby_core.specs.MirroredDisks.{inner_of, mirror_of, faults_by, origin_with, heard_by}
 use Rattle.standby_core.specs.Mirrors.{texts_of}
-use Rattle.standby_core.specs.Places.{faults_in, mirror_in}
+use Rattle.standby_core.specs.Places.{faults_in, count_in, is_away, mirror_in}
 use Rattle.standby_core.specs.Slots.{place_at, mirrored_at, mirrored_lent, with_made}
-use Rattle.standby_core.proofs.Slotting.{new_is, restored, taken_count, taken_mirrored}
+use Rattle.standby_core.proofs.Slotting.{new_is, restored, taken_count, taken_mirrored, silent_heard}
+use Rattle.standby_core.proofs.Slotting.{kept_places, kept_mirrors, kept_unused}
 use Rattle.standby_core.proofs.shelf.MirroredShelfShelf.take_disk.Goals as goal
 
 -- ---- a name without a mirror
@@ -107,3 +109,48 @@ returns-in-Err-clause-refused_disks g c name =
     let same = restored c.args.name.now c.args.self.now.mirrors.now.slots.items c.take.new.self.slots.items c.put_new.new.self.slots.items c.in-Some.mirror
     c.in-Some.ensures.taken c.take.ensures.others c.put_new.ensures.put c.put_new.ensures.others name in
     λ i. mirrored_at (c.in-Err.ensures.refused_disks name i) (same i)
+
+-- ---- what was told of
+
+pub returns-in-Ok-clause-unheard : goal.returns-in-Ok-clause-unheard
+returns-in-Ok-clause-unheard g c =
+    subst (λ d. HeardNothing (heard_by g.C.Dial.tells g.C.Dial.exchanged (mirror_of d))) (sym c.new.ensures)
+    (silent_heard g.C.Dial.tells g.C.Dial.exchanged c.in-Some.mirror c.in-Some.ensures.silent)
+
+-- ---- the shelf as it is left
+
+pub invariant_of-self-in_default : goal.invariant_of-self-in_default
+invariant_of-self-in_default g c = record {
+  there = λ name is. ap is_some (c.in_default.ensures.none name) ∙ c.args.self.now.there name is;
+  back = λ name is. ap is_away (c.in_default.ensures.none name) ∙ c.args.self.now.back name is;
+  unused = λ told dials_told name none inside.
+      ap (count_in g.C.Dial.exchanged) (c.in_default.ensures.none name) ∙ c.args.self.now.unused told dials_told name none inside;
+}
+
+-- a disk that is out has no mirror to speak of
+pub invariant_of-self-in-Ok : goal.invariant_of-self-in-Ok
+invariant_of-self-in-Ok g c = record {
+  there = kept_places c.args.name.now (g.F.Shelf.is_out c.args.self.now.shelf.now) (g.F.Shelf.is_out c.take_disk.new.self)
+      c.args.self.now.mirrors.now.slots.items c.take.new.self.slots.items c.args.self.now.there c.take_disk.ensures.others_out
+      c.take.ensures.others (ap is_some c.in-Some.ensures.out);
+  back = kept_mirrors c.args.name.now (g.F.Shelf.is_out c.args.self.now.shelf.now) (g.F.Shelf.is_out c.take_disk.new.self)
+      c.args.self.now.mirrors.now.slots.items c.take.new.self.slots.items c.args.self.now.back c.take_disk.ensures.others_out
+      c.take.ensures.others (λ inside. let clash : true ≡ false = sym c.in-Ok.ensures.out ∙ inside in absurd cc);
+  unused = λ told dials_told.
+      kept_unused g.C.Dial.exchanged c.args.name.now (g.F.Shelf.disk c.args.self.now.shelf.now) (g.F.Shelf.disk c.take_disk.new.self)
+      (g.F.Shelf.is_out c.args.self.now.shelf.now) (g.F.Shelf.is_out c.take_disk.new.self) c.args.self.now.mirrors.now.slots.items
+      c.take.new.self.slots.items (c.args.self.now.unused told dials_told) c.take_disk.ensures.disks c.take_disk.ensures.others_out
+      c.take.ensures.others (λ none inside. let clash : true ≡ false = sym c.in-Ok.ensures.out ∙ inside in absurd cc);
+}
+
+pub invariant_of-self-in-Err : goal.invariant_of-self-in-Err
+invariant_of-self-in-Err g c =
+    let same = restored c.args.name.now c.args.self.now.mirrors.now.slots.items c.take.new.self.slots.items c.put_new.new.self.slots.items c.in-Some.mirror
+    c.in-Some.ensures.taken c.take.ensures.others c.put_new.ensures.put c.put_new.ensures.others in
+    record {
+      there = λ name is. ap is_some (same name) ∙ c.args.self.now.there name (sym (c.in-Err.ensures.refused_out name) ∙ is);
+      back = λ name is. ap is_away (same name) ∙ c.args.self.now.back name (sym (c.in-Err.ensures.refused_out name) ∙ is);
+      unused = λ told dials_told name none inside.
+          ap (count_in g.C.Dial.exchanged) (same name) ∙ c.args.self.now.unused told dials_told name (sym (c.in-Err.ensures.refused_disks name) ∙ none)
+          (sym (c.in-Err.ensures.refused_out name) ∙ inside);
+    }
