@@ -19,9 +19,10 @@ use Rattle.cqe_base.proofs.Outcomes.{refutation_entails}
 use Rattle.entailment.specs.Certificates.{clauses_of_probe}
 use Rattle.audit_text.specs.Text.{world_text}
 use Rattle.audit_print.specs.Said.{world_said}
-use Rattle.dossier.specs.Small.{is_small_literal, is_small_number, is_small_line}
+use Rattle.entailment.specs.Small.{is_small_literal, is_small_number, is_small_line}
 use Rattle.dossier.specs.Words.{line_in, world_of}
-use Rattle.dossier.specs.Written.{literal_text, number_text, line_text, follows_text, open_text, IsRightBlock, AreBlocks}
+use Rattle.dossier.specs.Written.{literal_text, number_text, line_text, follows_text, open_text, IsRightBlock}
+use Rattle.dossier.specs.Right.{AreRightBlocks}
 use Rattle.dossier.specs.Checked.{Task, admitting, asking, adding, Showing, Awaited, block, step, is_countermodel, behind_task, awaited_for, behind_block}
 use Rattle.dossier.specs.Checked.{open_block, follows_block, refutation_line, block_line, step_line}
 use Rattle.dossier.specs.declared.error.DossierError.{DossierError}
@@ -177,7 +178,7 @@ module _ (schema : DatabaseSchema) (world : FactSet) (name : Text) (user : UserP
         (follows-leads valid s lines (asks-there valid s s.task s.probe s.more may yes) small right))
 
     -- the blocks of probes lead on to what follows on their verdicts
-    pub blocks-lead : (entries : History) (task : Task) (probes : List Probe) (shown : List Bool) (text : Text) → AreBlocks schema probes text
+    pub blocks-lead : (entries : History) (task : Task) (probes : List Probe) (shown : List Bool) (text : Text) → AreRightBlocks schema probes text
         → Allows task probes
         → LeadsOn (awaited_for schema world name user entries task probes shown) text
         (behind_task schema world name user entries task (shown ++ map follows probes))
@@ -193,5 +194,5 @@ module _ (schema : DatabaseSchema) (world : FactSet) (name : Text) (user : UserP
         (append_assoc shown (follows probe ∷ []) (map follows more))
         (leads-both schema world name user (Ok (block s)) (behind_block schema world name user s (follows probe))
         (behind_task schema world name user entries task (shown ++ follows probe ∷ [] ++ map follows more)) first rest
-        (block-leads s first is_block.0 may)
+        (block-leads s first is_block may)
         (blocks-lead entries task more (shown ++ follows probe ∷ []) rest others (allows-rest task probe more may))))

@@ -26,7 +26,7 @@ use Rattle.soundness.specs.Sound.{IsSoundItem, IsSound, is_settled}
 use Rattle.soundness.proofs.Marking.{verdicts_give_marks}
 use Rattle.dossier.specs.Fields.{FieldSaid}
 use Rattle.dossier.specs.Words.{mark_named}
-use Rattle.dossier.specs.Written.{AreBlocks, IsItem, AreItems}
+use Rattle.dossier.specs.Right.{AreRightBlocks, IsRightItem, AreRightItems}
 use Rattle.dossier.specs.Checked.{asking, adding, Awaited, item, addition_probe, behind_item, mark_shown, behind_task, awaited_for, sentence_in, asked}
 use Rattle.dossier.specs.Checked.{ask_line, added, protect_line, item_line}
 use Rattle.dossier.specs.declared.error.DossierError.{DossierError}
@@ -127,7 +127,7 @@ module _ (schema : DatabaseSchema) (world : FactSet) (name : Text) (user : UserP
 
       -- right verdicts show the mark
       settled-leads : is_settled mark ≡ true → IsSoundItem schema world user entries (one query mark (length said)) → (n : ℕ) (blocks : Text)
-          → AreBlocks schema (probes (user_at user entries) (log user entries) query) blocks
+          → AreRightBlocks schema (probes (user_at user entries) (log user entries) query) blocks
           → LeadsOn
           (awaited_for schema world name user entries (asking n mark query (length said)) (probes (user_at user entries) (log user entries) query) [])
           blocks (Ok (behind_item entries query mark (length said)))
@@ -159,7 +159,7 @@ module _ (schema : DatabaseSchema) (world : FactSet) (name : Text) (user : UserP
 
     added-leads : is_beyond schema user entries Protecting (length said) query ≡ false
         → IsSoundItem schema world user entries (one query Protected (length said)) → (blocks : Text)
-        → AreBlocks schema (addition_probe user entries query ∷ []) blocks
+        → AreRightBlocks schema (addition_probe user entries query ∷ []) blocks
         → LeadsOn (Ok (item entries)) (codes "protect" ++ 32 ∷ said ++ codes "\n" ++ blocks)
         (Ok (behind_item entries query Protected (length said)))
     added-leads fits sound blocks are =
@@ -177,7 +177,7 @@ module _ (schema : DatabaseSchema) (world : FactSet) (name : Text) (user : UserP
 
     item-by : (mark : Mark) → KeepsSizesAt schema user entries (one query mark (length said))
         → IsSoundItem schema world user entries (one query mark (length said))
-        → (text : Text) → IsItem schema user entries (one query mark (length said)) said text
+        → (text : Text) → IsRightItem schema user entries (one query mark (length said)) said text
         → LeadsOn (Ok (item entries)) text (Ok (behind_item entries query mark (length said)))
     item-by Yes sizes sound text (blocks, are, is) =
         subst (λ t. LeadsOn (Ok (item entries)) t (Ok (behind_item entries query Yes (length said)))) (sym is)
@@ -210,21 +210,21 @@ module _ (schema : DatabaseSchema) (world : FactSet) (name : Text) (user : UserP
         (added-leads (not-beyond schema user entries (length said) query Protected sizes) sound blocks are)
 
   item-leads : (entries : History) (entry : AnsweredQuery) (said text : Text) → HasRecord schema said entry → length said ≤ 4096
-      → KeepsSizesAt schema user entries entry → IsSoundItem schema world user entries entry → IsItem schema user entries entry said text
+      → KeepsSizesAt schema user entries entry → IsSoundItem schema world user entries entry → IsRightItem schema user entries entry said text
       → LeadsOn (Ok (item entries)) text (Ok (item (entries ++ entry ∷ [])))
   item-leads entries entry said text has short sizes sound is =
       let same : entry ≡ one entry.query entry.mark (length said) =
       λ i. record { query = entry.query; mark = entry.mark; length = sym has.sized i } in
       subst (λ e. LeadsOn (Ok (item entries)) text (Ok (item (entries ++ e ∷ [])))) (sym same)
       (item-by entries entry.query said has.reads short entry.mark (subst (KeepsSizesAt schema user entries) same sizes)
-      (subst (IsSoundItem schema world user entries) same sound) text (subst (λ e. IsItem schema user entries e said text) same is))
+      (subst (IsSoundItem schema world user entries) same sound) text (subst (λ e. IsRightItem schema user entries e said text) same is))
 
   -- ---- items
 
   -- those of records that stand for a sound history within the limits
   pub items-lead : (all : History) → KeepsSizes schema user all → IsSound schema world user all → (before entries : History) → all ≡ before ++ entries
       → (records : List Recorded) (text : Text) → list_all (is_record 5) records ≡ true → map (entry_of schema) records ≡ map Some entries
-      → AreItems schema user before records text → LeadsOn (Ok (item before)) text (Ok (item all))
+      → AreRightItems schema user before records text → LeadsOn (Ok (item before)) text (Ok (item all))
   items-lead all sizes sound before [] parts [] text kept stands none =
       subst (λ t. LeadsOn (Ok (item before)) t (Ok (item all))) (sym none)
       (subst (λ e. LeadsOn (Ok (item before)) [] (Ok (item e))) (sym (parts ∙ append-nil before)) (leads-none schema world name user (Ok (item before))))
@@ -242,6 +242,6 @@ module _ (schema : DatabaseSchema) (world : FactSet) (name : Text) (user : UserP
       subst (λ t. LeadsOn (Ok (item before)) t (Ok (item all))) (sym text_is)
       (leads-both schema world name user (Ok (item before)) (Ok (item (before ++ e ∷ []))) (Ok (item all)) first rest
       (item-leads before e next.1 first has short (sizes before e entries parts) (sound before e entries parts)
-      (subst (λ x. IsItem schema user before x next.1 first) same is_item))
+      (subst (λ x. IsRightItem schema user before x next.1 first) same is_item))
       (items-lead all sizes sound (before ++ e ∷ []) entries further more rest (and_second _ _ kept) tails
-      (subst (λ x. AreItems schema user (before ++ x ∷ []) more rest) same others)))
+      (subst (λ x. AreRightItems schema user (before ++ x ∷ []) more rest) same others)))

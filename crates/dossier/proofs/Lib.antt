@@ -6,6 +6,13 @@ mod SchemaNames
 mod FactTexts
 mod FactLists
 mod RefLines
+mod LinesBack
+mod RefLinesBack
+mod ListedBack
+mod RightTexts
+mod Traced
+mod ItemsTraced
+mod CheckedDossiers
 mod Feeds
 mod Leads
 mod BlocksLead

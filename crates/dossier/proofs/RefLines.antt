@@ -8,8 +8,8 @@ use Rattle.std.proofs.lemmas.Bool.{leb-true}
 use Rattle.cqe_base.specs.Schema.{Text}
 use Rattle.cqe_base.specs.Literal.{Literal, Positive, Negative, variable_of}
 use Rattle.cqe_base.proofs.Truths.{and_first, and_second}
-use Rattle.dossier.specs.Words.{with_first, all_some, greatest_number, number_of, literal_of, is_colon, line_by, line_of_words, words_of, line_in}
-use Rattle.dossier.specs.Small.{is_small_literal, is_small_number}
+use Rattle.dossier.specs.Words.{with_first, all_some, number_of, literal_of, is_colon, line_by, line_of_words, words_of, line_in}
+use Rattle.entailment.specs.Small.{greatest_number, is_small_literal, is_small_number}
 use Rattle.dossier.specs.Written.{sign_text, literal_text, number_text}
 use Rattle.dossier.proofs.Ended.{before-at, after-at, split-at, split-none, none-both}
 use Rattle.dossier.proofs.Numerals.{number-read, decimal-lacks}
@@ -19,7 +19,7 @@ abbrev is_space : ℕ → Bool
 is_space b = b == 32
 
 -- a literal without the blank behind it
-abbrev word_of : Literal → Text
+abbrev pub word_of : Literal → Text
 word_of literal = sign_text literal ++ decimal (variable_of literal)
 
 small_variable : (literal : Literal) → is_small_literal literal ≡ true → variable_of literal ≤ greatest_number

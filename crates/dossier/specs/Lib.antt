@@ -1,6 +1,5 @@
 pub mod Fields
 pub mod Words
-pub mod Small
 pub mod Checked
 pub mod Promised
 pub mod Reading
@@ -8,6 +7,7 @@ pub mod Logs
 pub mod Blocks
 pub mod Items
 pub mod Written
+pub mod Right
 pub mod Accepted
 pub mod Told
 pub mod Adding

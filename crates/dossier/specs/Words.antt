@@ -14,6 +14,7 @@ use Rattle.cqe_base.specs.Facts.{FactSet, fact_cmp, is_fact_of}
 use Rattle.cqe_base.specs.FactText.{stated_fact}
 use Rattle.cqe_base.specs.Literal.{Literal, Positive, Negative}
 use Rattle.cqe_base.specs.Refutation.{RefutationLine}
+use Rattle.entailment.specs.Small.{greatest_number}
 use Rattle.line_protocol.specs.Words.{number_in}
 use Rattle.audit_text.specs.Text.{world_text}
 use Rattle.audit_print.specs.Said.{world_said}
@@ -32,10 +33,6 @@ all_some [] = Some []
 all_some (x ∷ xs) = with_first x (all_some xs)
 
 -- ---- numbers and literals
-
--- the greatest number of a variable or a clause
-abbrev pub greatest_number : ℕ
-greatest_number = 2147483646
 
 -- whether digits begin with a 0 that isn't alone
 abbrev pub has_leading_zero : Text → Bool

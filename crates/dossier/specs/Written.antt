@@ -21,11 +21,11 @@ use Rattle.cqe_base.specs.Transcript.{mark_text}
 use Rattle.log_journal.specs.Records.{Recorded}
 use Rattle.entailment.specs.Certificates.{clauses_of_probe}
 use Rattle.entailment.specs.Budgets.{variables_of}
+use Rattle.entailment.specs.Small.{is_small_line}
 use Rattle.audit_text.specs.Text.{world_text}
 use Rattle.audit_print.specs.Said.{IsListing, world_said, method_word}
 use Rattle.user_desk.specs.Entries.{entry_of}
 use Rattle.dossier.specs.Words.{world_of}
-use Rattle.dossier.specs.Small.{is_small_line}
 use Rattle.dossier.specs.Checked.{is_countermodel, addition_probe}
 
 -- ---- blocks

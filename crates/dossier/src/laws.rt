@@ -3,6 +3,7 @@ ghost use Rattle.soundness.specs.Sound.{SoundHistoriesHide};
 ghost use Rattle.dossier.specs.Promised.{CheckedAreSound};
 ghost use Rattle.dossier.specs.Accepted.{DossiersAreAccepted, ServedAreAccepted};
 ghost use Rattle.dossier.specs.Accepted.{NamesHaveNoFeed, DossiersAreOne};
+ghost use Rattle.dossier.specs.Right.{DossiersAreChecked};
 
 use cqe_base::laws::law_entailment;
 use cqe_base::machine_laws::{law_machine_has_one_end, law_refutation_entails};
@@ -34,6 +35,18 @@ pub fn law_dossiers_are_accepted()
     ensures served { ServedAreAccepted }
     ensures names { NamesHaveNoFeed }
 {}
+
+/// A text shows a history exactly where the user is admissible, the history is sound and within the
+/// limits, and the text, perhaps without its last line feed, is a dossier of it with right blocks,
+/// whoever wrote it. So nothing else is accepted.
+pub fn law_dossiers_are_checked()
+    ensures { DossiersAreChecked }
+{
+    law_entailment();
+    law_refutation_entails();
+    law_sound_grows();
+    law_verdicts();
+}
 
 /// A user with these records has at most one dossier. So it shows no fact that the schema, the user
 /// and the records don't.

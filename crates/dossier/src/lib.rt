@@ -6,18 +6,19 @@
 //! legal history. `check_dossier` goes through a text line by line; `specs/Checked.antt` says which
 //! history it shows, or which line is refused first. Of a text that is accepted the user is
 //! admissible and the history sound, and so it hides soundly, whoever wrote it (`soundness`). What
-//! is written of a legal history is accepted (`law_dossiers_are_accepted`). Each block that is
-//! written is that of the machine's end on the probe's clauses, so a user with these records has
-//! at most one dossier (`law_dossiers_are_one`). `fields` parts a text into its lines and their
-//! first words.
+//! is written of a legal history is accepted (`law_dossiers_are_accepted`). A text is accepted
+//! exactly where it is a dossier of a sound history, with any right blocks
+//! (`law_dossiers_are_checked`). Each block that is written is that of the machine's end on the
+//! probe's clauses, so a user with these records has at most one dossier (`law_dossiers_are_one`).
+//! `fields` parts a text into its lines and their first words.
 //!
-//! Read `specs/Fields.antt`, `specs/Words.antt`, `specs/Checked.antt` and `specs/Written.antt`,
-//! then `cut`, `words` and `listed`; `past` is what was read so far, `blocks`, `items` and
-//! `checking` read on, and `printed` and `writing` write (`bounded`: numbers that are read).
+//! Read `specs/Fields.antt`, `specs/Words.antt`, `specs/Written.antt` and `specs/Right.antt`, which
+//! says what is accepted, and `specs/Checked.antt`, which says it line by line; then `cut`, `words`
+//! and `listed`; `past` is what was read so far, `blocks`, `items` and `checking` read on, and
+//! `printed` and `writing` write.
 #![tactic(auto)]
 
 mod blocks;
-mod bounded;
 mod checking;
 mod cut;
 mod error;
@@ -32,5 +33,8 @@ mod writing;
 pub use checking::check_dossier;
 pub use cut::{Field, FieldIter, fields};
 pub use error::DossierError;
-pub use laws::{law_checked_is_sound, law_dossiers_are_accepted, law_dossiers_are_one, law_sound};
+pub use laws::{
+    law_checked_is_sound, law_dossiers_are_accepted, law_dossiers_are_checked,
+    law_dossiers_are_one, law_sound,
+};
 pub use writing::{write_dossier, write_unserved};

@@ -15,11 +15,9 @@ ghost use Rattle.dossier.specs.Blocks.{probe_over};
 ghost use Rattle.audit_text.specs.Text.{world_text};
 ghost use Rattle.dossier.specs.Written.{sign_text, literal_text, number_text, line_text};
 ghost use Rattle.dossier.specs.Written.{follows_text};
-ghost use Rattle.dossier.specs.Small.{is_small_line};
 ghost use Rattle.dossier.specs.Written.{IsOpenListing, IsBlock};
 ghost use Rattle.dossier.specs.Adding.{Grows};
 
-use crate::bounded::are_small;
 use audit_print::fact_texts;
 use audit_text::push_facts;
 use clause_store::literal::Lit;
@@ -69,21 +67,8 @@ pub(crate) fn push_block(
     }
 }
 
-/// Appends the lines of a refutation as a block. That no number of one that a search found is too
-/// great to be read is seen by reading; if one were, this would be an end for want of memory.
-fn push_follows(text: &mut String, refutation: &Refutation) -> Result<(), AllocError>
-    ensures { OnOk result ((list_all is_small_line (lines_of refutation.now) ≡ true)
-        × (string_bytes text.new
-        ≡ string_bytes text.old ++ follows_text (lines_of refutation.now))) }
-{
-    if !are_small(&refutation.lines) {
-        return Err(AllocError);
-    }
-    push_refutation(text, refutation)
-}
-
 /// Appends the lines of a refutation as a block.
-fn push_refutation(text: &mut String, refutation: &Refutation) -> Result<(), AllocError>
+fn push_follows(text: &mut String, refutation: &Refutation) -> Result<(), AllocError>
     ensures { OnOk result (string_bytes text.new
         ≡ string_bytes text.old ++ follows_text (lines_of refutation.now)) }
 {

@@ -6,12 +6,14 @@ ghost use Rattle.dossier.specs.Words.{all_some, has_leading_zero, number_of, lit
 ghost use Rattle.dossier.specs.Words.{words_of, line_by, line_of_words, line_in, mark_named};
 ghost use Rattle.dossier.specs.Told.{is_undecided};
 
-use crate::bounded::GREATEST;
 use clause_store::literal::Lit;
 use clause_store::refutation::Line;
 use cqe_base::user::Mark;
 use line_protocol::words::number_in;
 use std::alloc::{AllocError, Global};
+
+/// The greatest number of a variable or a clause.
+const GREATEST: u32 = 2_147_483_646;
 
 /// The text of a sentence has at most so many bytes.
 const TEXT: usize = 4_096;

@@ -7,5 +7,6 @@ mod LogBeginnings
 mod OpenViews
 mod KeptClauses
 mod CostBounds
+mod SmallNumbers
 mod Verdicts
 pub mod Crossing

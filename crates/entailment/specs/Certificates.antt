@@ -1,5 +1,6 @@
 -- What shows what a probe found: a refutation of its clauses, or a world.
 use Rattle.std.specs.Prelude.{◌≡◌, true, ℕ, Bool, List, ◌++◌, Option, Some}
+use Rattle.std.specs.List.{list_all}
 use Rattle.cqe_base.specs.Schema.{DatabaseSchema}
 use Rattle.cqe_base.specs.Entailment.{Signed}
 use Rattle.cqe_base.specs.Literal.{Literal}
@@ -11,6 +12,7 @@ use Rattle.cqe_base.specs.Outcome.{grounded_probe}
 use Rattle.clause_store.specs.PlainLines.{lines_of}
 use Rattle.clause_form.specs.Forms.{Form, form_of}
 use Rattle.entailment.specs.Forms.{form_of_log, with_negated}
+use Rattle.entailment.specs.Small.{is_small_line}
 use Rattle.entailment.specs.Verdicts.{searched_end}
 use Rattle.entailment.specs.declared.probes.Verdict.{Verdict}
 use Rattle.entailment.specs.declared.probes.Verdict.TheVariants.{Follows, Open, Spent}
@@ -59,3 +61,10 @@ abbrev pub IsMachinesOf : DatabaseSchema → (premise : List Signed) (goal : Sig
 IsMachinesOf schema premise goal budget form found =
     (log : List Signed) → form ≡ form_of_log schema log → IsMachines
     (searched_end (form_of_log schema (with_negated (log ++ premise) goal)) budget) found
+
+-- the numbers of a refutation that was found are small
+abbrev pub HasSmallNumbers : Certified → Type 0
+HasSmallNumbers (certified.Follows refutation) =
+    list_all is_small_line (lines_of refutation) ≡ true
+HasSmallNumbers (certified.Open world) = Unit {0}
+HasSmallNumbers certified.Spent = Unit {0}

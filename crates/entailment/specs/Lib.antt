@@ -8,4 +8,5 @@ pub mod Inside
 pub mod ViewsInside
 pub mod Budgets
 pub mod Verdicts
+pub mod Small
 pub mod Certificates

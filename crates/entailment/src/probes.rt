@@ -17,6 +17,7 @@ ghost use Rattle.entailment.specs.Verdicts.{verdict_of_probe, checked_verdict, s
 ghost use Rattle.entailment.specs.Verdicts.{as_wanted, IsCheckedOf, end_of_probe, searched_end};
 ghost use Rattle.entailment.specs.Certificates.{as_verdict, clauses_of_probe, IsRightFor};
 ghost use Rattle.entailment.specs.Certificates.{IsRightOf, IsMachines, IsMachinesOf};
+ghost use Rattle.entailment.specs.Certificates.{HasSmallNumbers};
 ghost use Rattle.entailment.specs.GroundSentences.{IsGroundOver};
 ghost use Rattle.entailment.specs.Probes.{premise_of, goal_of, outcome_of, outcome_found};
 ghost use Rattle.entailment.specs.Probes.{IsTrueOutcome, IsTrueVerdict, IsGroundPremise};
@@ -133,7 +134,8 @@ pub fn test(
 
 /// The same, with the refutation where the goal follows: that with which the machine ends. It is
 /// right for the probe's clauses, those of the log, of the premise and of the negated goal, and its
-/// lines are numbered on from them; so `confirm` says yes of it.
+/// lines are numbered on from them; so `confirm` says yes of it. Each number in it is at most
+/// 2,147,483,646.
 pub fn certify(
     alloc: Global,
     view: &mut View<'_>,
@@ -162,6 +164,7 @@ pub fn certify(
     ensures lines { IfOk result
         (IsMachines (end_of_probe (schema_of view.old) (log_of view.old ++ premise_of probe.now)
         (goal_of probe.now) budget)) }
+    ensures small { IfOk result HasSmallNumbers }
     ensures same { view.new ≡ view.old }
 {
     run(alloc, view, probe, budget, Wanted::World)
@@ -234,6 +237,7 @@ fn run(
     ensures lines { IfOk result
         (IsMachines (end_of_probe (schema_of view.old) (log_of view.old ++ premise_of probe.now)
         (goal_of probe.now) budget)) }
+    ensures small { IfOk result HasSmallNumbers }
     ensures spent { IfOk result (λ found.
         IsSpentByCost (schema_of view.old) (log_of view.old ++ premise_of probe.now)
         (goal_of probe.now) budget (as_verdict found)) }
@@ -295,6 +299,7 @@ fn probed(
         (IsRightOf schema.now (premise_of probe.now) (goal_of probe.now) former.old) }
     ensures lines { IfOk result
         (IsMachinesOf schema.now (premise_of probe.now) (goal_of probe.now) budget former.old) }
+    ensures small { IfOk result HasSmallNumbers }
     ensures more { GoesOn former.old former.new }
     ensures kept { IsBeginning kept.new former.old.clauses }
 {
@@ -305,6 +310,7 @@ fn probed(
     law_clause_form_has_no_repeat();
     law_numbered_facts_are_few();
     law_numbered_facts_are_of_schema();
+    law_budget_is_whole_cost();
     schema.known();
     kept.keep(alloc, former.clauses(), former.variables())?;
     add_probe(alloc, former, probe)?;

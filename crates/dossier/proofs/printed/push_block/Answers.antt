@@ -1,4 +1,5 @@
 use Rattle.std.proofs.Common.{◌≡◌, ◌++◌, true, Some, inl, inr, refl, sym, subst}
+use Rattle.std.specs.List.{list_all}
 use Rattle.std.proofs.lemmas.Result.{on_ok_weaker}
 use Rattle.cqe_base.specs.Facts.{IsWorldOf}
 use Rattle.cqe_base.specs.Refutation.{is_refutation}
@@ -7,6 +8,7 @@ use Rattle.cqe_base.specs.Machine.{Refuted}
 use Rattle.clause_store.specs.PlainLines.{lines_of}
 use Rattle.entailment.specs.Views.{schema_of, log_of}
 use Rattle.entailment.specs.Probes.{premise_of, goal_of}
+use Rattle.entailment.specs.Small.{is_small_line}
 use Rattle.entailment.specs.Certificates.{clauses_of_probe}
 use Rattle.entailment.specs.Verdicts.{end_of_probe, verdict_of_probe}
 use Rattle.entailment.specs.declared.probes.Verdict.TheVariants.{Open}
@@ -31,7 +33,8 @@ returns-in-Follows-clause-block c =
     subst (λ s. end_of_probe s premises (goal_of probe) c.args.budget ≡ Some (Refuted lines)) c.requires.schema found in
     let shown = end-shown c.law_budget_is_whole_cost.ensures c.args.schema.now premises (goal_of probe) c.args.budget (Refuted lines) (follows_text lines)
     machines refl in
-    on_ok_weaker c.push_follows.result (λ both. (follows_text lines, (inr (lines, here, both.0, refl), shown), both.1)) c.push_follows.ensures
+    let small : list_all is_small_line lines ≡ true = rw c.in-Follows.is at c.in_ok-refutation.ensures.small in
+    on_ok_weaker c.push_follows.result (λ is. (follows_text lines, (inr (lines, here, small, refl), shown), is)) c.push_follows.ensures
 
 -- a world
 pub push_world-requires : goal.push_world-requires

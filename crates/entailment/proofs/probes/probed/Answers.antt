@@ -7,6 +7,7 @@ use Rattle.entailment.specs.Probes.{premise_of, goal_of, added_by}
 use Rattle.entailment.specs.Verdicts.{as_wanted, searched_end, searched_verdict}
 use Rattle.entailment.specs.Certificates.{IsRightFor, IsMachines}
 use Rattle.entailment.proofs.LogForms.{probe-searchable, own-searchable, probe-room, probe-added}
+use Rattle.entailment.proofs.SmallNumbers.{small-result}
 use Rattle.entailment.proofs.KeptClauses.{none-begins, all-begin, stays-begins, begins-more, form-begins}
 use Rattle.entailment.proofs.probes.probed.Goals as goal
 
@@ -82,3 +83,16 @@ returns-clause-lines c =
     (probe-added c.args.schema.now log (premise_of c.args.probe.now) (goal_of c.args.probe.now) (added_by c.args.probe.now) c.args.former.now
     c.add_probe.new.former c.requires.added c.in_ok-add_probe.ensures.added at) machines)
     c.certificate_of.ensures.lines
+
+pub returns-clause-small : goal.returns-clause-small
+returns-clause-small c =
+    let log = c.requires.form.0 in
+    let can = c.requires.form.1 in
+    small-result c.law_budget_is_whole_cost.ensures c.args.schema.now c.add_probe.new.former c.args.budget c.certificate_of.result
+    (probe-searchable c.law_variables_are_few.ensures c.law_grounded_nodes.ensures c.law_clause_form_uses_its_variables.ensures
+    c.law_clause_form_has_no_repeat.ensures c.law_numbered_facts_are_few.ensures c.law_numbered_facts_are_of_schema.ensures
+    c.args.schema.now log (premise_of c.args.probe.now) (goal_of c.args.probe.now) c.add_probe.new.former
+    (probe-added c.args.schema.now log (premise_of c.args.probe.now) (goal_of c.args.probe.now) (added_by c.args.probe.now) c.args.former.now
+    c.add_probe.new.former c.requires.added c.in_ok-add_probe.ensures.added can.form_is)
+    c.known.ensures can.sentences can.premise_sentence can.goal_sentence can.all_nodes)
+    c.requires.budget c.certificate_of.ensures.right c.certificate_of.ensures.lines

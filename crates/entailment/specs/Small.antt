@@ -1,11 +1,14 @@
--- Numbers that the lines of a refutation can have in a dossier.
+-- Numbers that the lines of a refutation have.
 use Rattle.std.specs.Prelude.{ℕ, Bool, ◌&&◌, nat_le}
 use Rattle.std.specs.List.{list_all}
 use Rattle.cqe_base.specs.Literal.{Literal, variable_of}
 use Rattle.cqe_base.specs.Refutation.{RefutationLine}
-use Rattle.dossier.specs.Words.{greatest_number}
 
--- whether a number is at most the greatest one that is read
+-- the greatest number of a variable or a clause
+abbrev pub greatest_number : ℕ
+greatest_number = 2147483646
+
+-- whether a number is at most that
 abbrev pub is_small_number : ℕ → Bool
 is_small_number n = nat_le n greatest_number
 
