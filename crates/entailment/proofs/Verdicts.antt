@@ -7,7 +7,7 @@ use Rattle.cqe_base.specs.Entailment.{Signed, are_sentences_of}
 use Rattle.cqe_base.specs.ClauseForm.{clause_form, numbering_of, world_of}
 use Rattle.cqe_base.specs.Literal.{sign_at}
 use Rattle.cqe_base.specs.Refutation.{is_refutation, is_model}
-use Rattle.cqe_base.specs.Machine.{End, Model, Refuted, end_within_budget}
+use Rattle.cqe_base.specs.Machine.{End, Model, Refuted}
 use Rattle.cqe_base.specs.Outcome as told
 use Rattle.cqe_base.specs.Outcome.{Outcome, outcome, ground_outcome, outcome_of_end, is_right_end, grounded_probe}
 use Rattle.cqe_base.specs.MachineLaws.{RefutationEntails, ModelIsCountermodel, ClauseFormUsesItsVariables, ClauseFormHasNoRepeat, BudgetIsWholeCost}
@@ -19,18 +19,26 @@ use Rattle.entailment.specs.Forms.{form_of_log, with_negated}
 use Rattle.entailment.specs.Probes.{outcome_of, IsTrueOutcome, IsTrueVerdict}
 use Rattle.entailment.specs.declared.probes.Wanted.{Wanted}
 use Rattle.entailment.specs.declared.probes.Wanted.TheVariants as wanted
-use Rattle.entailment.specs.Verdicts.{as_wanted, end_of_probe, verdict_of_end, verdict_of_probe, checked_verdict}
+use Rattle.entailment.specs.Verdicts.{as_wanted, end_of_probe, verdict_of_end, verdict_of_probe, checked_verdict, searched_verdict}
 use Rattle.entailment.proofs.LogForms.{probe-form}
 
+-- the checked verdict of what the machine finds for a probe
+abbrev pub searched : DatabaseSchema → List Signed → Signed → ℕ → Verdict
+searched schema premises goal budget = searched_verdict (form_of_log schema (with_negated premises goal)) budget
+
+-- that is told of the probe, as it is wanted
+pub record IsTold (schema : DatabaseSchema) (premises : List Signed) (goal : Signed) (budget : ℕ) (aim : Wanted) (verdict : Verdict) : Type 0 where
+  pub is : verdict ≡ as_wanted aim (searched schema premises goal budget)
+
 -- a world or none, the outcome is the same
-pub wanted-outcome : (wanted : Wanted) (verdict : Verdict) → outcome_of (as_wanted wanted verdict) ≡ outcome_of verdict
+wanted-outcome : (wanted : Wanted) (verdict : Verdict) → outcome_of (as_wanted wanted verdict) ≡ outcome_of verdict
 wanted-outcome wanted.World verdict = refl
 wanted-outcome wanted.Outcome Follows = refl
 wanted-outcome wanted.Outcome (Open world) = refl
 wanted-outcome wanted.Outcome Spent = refl
 
 -- a true verdict is a true outcome
-pub true-outcome : (schema : DatabaseSchema) (premises : List Signed) (goal : Signed) (verdict : Verdict) → IsTrueVerdict schema premises goal verdict
+true-outcome : (schema : DatabaseSchema) (premises : List Signed) (goal : Signed) (verdict : Verdict) → IsTrueVerdict schema premises goal verdict
     → IsTrueOutcome schema premises goal (outcome_of verdict)
 true-outcome schema premises goal Follows is = is
 true-outcome schema premises goal (Open world) is = (world, is)
@@ -110,36 +118,44 @@ module _ (schema : DatabaseSchema) (premises : List Signed) (goal : Signed) wher
       right (clause_form formulas) variables (record { end = e; cost = found.0 })
       (below formulas) (no_repeat formulas) found.1
 
-  -- what a form was checked to be, where it is that of the probe
-  module _
-      (budget : ℕ) (form : Form) (is : form ≡ form_of_log schema (with_negated premises goal))
-      (verdict : Verdict)
-      (checked : verdict
-      ≡ checked_verdict form (end_within_budget form.clauses form.numbering.variables budget)) where
-    -- the verdict is the checked one of the probe's form
-    own : verdict ≡ checked_verdict own_form (end_of_probe schema premises goal budget)
-    own =
-        checked
-        ∙ ap (λ f. checked_verdict f (end_within_budget f.clauses f.numbering.variables budget))
-        (is ∙ probe-form schema premises goal)
+  -- what is told of the probe is that of its form
+  module _ (budget : ℕ) where
+    own : searched schema premises goal budget ≡ checked_verdict own_form (end_of_probe schema premises goal budget)
+    own = ap (λ form. searched_verdict form budget) (probe-form schema premises goal)
 
-    pub outcome-is : outcome_of verdict ≡ outcome schema premises goal budget
-    unfolding outcome ground_outcome
-    outcome-is =
-        ap outcome_of own ∙ checked-outcome own_form (end_of_probe schema premises goal budget)
-
-    pub verdict-is : ClauseFormUsesItsVariables → ClauseFormHasNoRepeat
-        → BudgetIsWholeCost → MachineEndsAreRight
-        → verdict ≡ verdict_of_probe schema premises goal budget
-    verdict-is below no_repeat cost right =
-        own
-        ∙ right-verdict own_form (end_of_probe schema premises goal budget)
-        (right-end below no_repeat cost right budget)
-
-    pub true-verdict : RefutationEntails → ModelIsCountermodel
+    pub searched-true : RefutationEntails → ModelIsCountermodel
         → is_valid_schema schema ≡ true → are_sentences_of schema premises ≡ true
         → is_sentence_of schema goal.0 ≡ true
-        → IsTrueVerdict schema premises goal verdict
-    true-verdict follows refutes valid all well =
+        → IsTrueVerdict schema premises goal (searched schema premises goal budget)
+    searched-true follows refutes valid all well =
         subst (IsTrueVerdict schema premises goal) (sym own)
         (checked-true follows refutes valid all well (end_of_probe schema premises goal budget))
+
+module _ {schema : DatabaseSchema} {premises : List Signed} {goal : Signed} {budget : ℕ} {aim : Wanted} {verdict : Verdict}
+    (it : IsTold schema premises goal budget aim verdict) where
+  told-so : outcome_of verdict ≡ outcome_of (searched schema premises goal budget)
+  told-so = ap outcome_of it.is ∙ wanted-outcome aim (searched schema premises goal budget)
+
+  pub told-outcome : outcome_of verdict ≡ outcome schema premises goal budget
+  unfolding outcome ground_outcome
+  told-outcome =
+      told-so ∙ ap outcome_of (own schema premises goal budget)
+      ∙ checked-outcome (own_form schema premises goal) (end_of_probe schema premises goal budget)
+
+  pub told-verdict : ClauseFormUsesItsVariables → ClauseFormHasNoRepeat → BudgetIsWholeCost → MachineEndsAreRight
+      → verdict ≡ as_wanted aim (verdict_of_probe schema premises goal budget)
+  told-verdict below no_repeat cost right =
+      it.is
+      ∙ ap (as_wanted aim) (own schema premises goal budget
+      ∙ right-verdict (own_form schema premises goal) (end_of_probe schema premises goal budget)
+      (right-end schema premises goal below no_repeat cost right budget))
+
+  -- where that is true, the outcome is, and so is the verdict that has a world
+  module _ (true_one : IsTrueVerdict schema premises goal (searched schema premises goal budget)) where
+    pub told-true-outcome : IsTrueOutcome schema premises goal (outcome_of verdict)
+    told-true-outcome =
+        subst (IsTrueOutcome schema premises goal) (sym told-so) (true-outcome schema premises goal (searched schema premises goal budget) true_one)
+
+    pub told-true : aim ≡ wanted.World → IsTrueVerdict schema premises goal verdict
+    told-true is =
+        subst (IsTrueVerdict schema premises goal) (sym (it.is ∙ ap (λ w. as_wanted w (searched schema premises goal budget)) is)) true_one

@@ -1,4 +1,4 @@
-use Rattle.std.proofs.Common.{◌≡◌, ◌≤◌, ◌++◌, true, length, map, take, refl, ap, sym, subst, ◌∙◌}
+use Rattle.std.proofs.Common.{◌≡◌, ◌++◌, true, map, take, ap, sym, subst, ◌∙◌}
 use Rattle.std.proofs.lemmas.Result.{IfOk-weaker}
 use Rattle.cqe_base.specs.Schema.{is_valid_schema}
 use Rattle.cqe_base.specs.Outcome.{grounded_signed}
@@ -6,29 +6,26 @@ use Rattle.clause_form.specs.Forms.{Form, form_of, size_of}
 use Rattle.clause_solver.specs.Beginnings.{IsBeginning}
 use Rattle.entailment.specs.Logs.{told_log}
 use Rattle.entailment.specs.Views.{schema_of, log_of}
-use Rattle.entailment.specs.Forms.{form_of_log, with_negated, IsForProbe}
-use Rattle.entailment.specs.GroundSentences.{IsGroundOver}
-use Rattle.entailment.specs.Probes.{premise_of, goal_of, outcome_of, IsTrueOutcome, IsGroundPremise}
-use Rattle.entailment.proofs.LogForms.{premises-sentences, probe-sentences, added-is, probe-form}
-use Rattle.entailment.proofs.KeptClauses.{taken-begins}
-use Rattle.entailment.proofs.OpenViews.{schema-is, own-small, own-form, own-verdict, own-right, own-lines}
-use Rattle.entailment.specs.Verdicts.{as_wanted, searched_end, searched_verdict}
+use Rattle.entailment.specs.Forms.{with_negated, IsForProbe}
+use Rattle.entailment.specs.Probes.{premise_of, goal_of, outcome_of, IsTrueVerdict}
+use Rattle.entailment.specs.Verdicts.{IsCheckedOf, searched_end}
 use Rattle.entailment.specs.Certificates.{as_verdict, IsRightFor, IsMachines}
-use Rattle.entailment.proofs.Verdicts.{wanted-outcome, outcome-is, verdict-is, true-outcome, true-verdict}
+use Rattle.entailment.specs.declared.probes.Certified.{Certified}
+use Rattle.entailment.proofs.LogForms.{premises-sentences, probe-sentences, added-is, probe-form}
+use Rattle.entailment.proofs.OpenViews.{kept-on, sound-on, IsOwn, own, own-told, own-right, own-lines}
+use Rattle.entailment.proofs.Verdicts.{IsTold, searched, searched-true, told-outcome, told-verdict, told-true-outcome, told-true}
 use Rattle.entailment.proofs.CostBounds.{spent-by-cost}
 use Rattle.entailment.proofs.probes.run.Goals as goal
+use Rattle.entailment.proofs.probes.run.Goals.{After-cut}
 
 pub probed-found-requires-clause-form : goal.probed-found-requires-clause-form
 probed-found-requires-clause-form c =
-    let view = c.args.view.now in
-    let same = schema-is c.view.inside _ c.view.view_is c.view.invariant in
-    let small = own-small c.view.inside _ c.view.view_is c.view.invariant in
-    subst (λ s. IsForProbe s (premise_of c.args.probe.now) (goal_of c.args.probe.now) c.form_rest.new.former) (sym same) (
-      log_of view,
+    let ours = own c.view.view_is c.view.invariant c.as_slice.ensures.value c.in_ok-form_rest.ensures.whole in
+    subst (λ s. IsForProbe s (premise_of c.args.probe.now) (goal_of c.args.probe.now) c.form_rest.new.former) (sym ours.schema_is) (
+      log_of c.args.view.now,
       record {
-        form_is = own-form c.view.inside _ c.view.view_is c.view.invariant c.as_slice.result.now c.as_slice.ensures.value
-            c.form_rest.new.former c.in_ok-form_rest.ensures.whole;
-        sentences = small.sentences;
+        form_is = ours.form_is;
+        sentences = ours.small.sentences;
         premise_sentence = c.requires.premise;
         goal_sentence = c.requires.goal;
         all_nodes = c.requires.all_nodes;
@@ -37,179 +34,121 @@ probed-found-requires-clause-form c =
 
 pub probed-found-requires-clause-added : goal.probed-found-requires-clause-added
 probed-found-requires-clause-added c =
-    let probe = c.args.probe.now in
-    let same = schema-is c.view.inside _ c.view.view_is c.view.invariant in
-    added-is c.view.inside.schema.now probe
-    (subst (λ s. IsGroundPremise s probe.premise) (sym same) c.requires.grounded_premise)
-    (subst (λ s. IsGroundOver s probe.goal.0.now) (sym same) c.requires.grounded_goal)
+    let same : c.view.inside.schema.now ≡ schema_of c.args.view.now = ap schema_of c.view.view_is in
+    rw same (added-is (schema_of c.args.view.now) c.args.probe.now c.requires.grounded_premise c.requires.grounded_goal)
 
 pub cut-requires : goal.cut-requires
 cut-requires c =
-    let v = c.view.inside in
-    let formulas = map (grounded_signed v.schema.now) (told_log c.as_slice.result.now) in
+    let formulas = map (grounded_signed c.view.inside.schema.now) (told_log c.as_slice.result.now) in
     let more = c.probed-found.ensures.more formulas c.in_ok-form_rest.ensures.whole in
     (formulas, more.0, more.1, c.mark-before.ensures ∙ ap size_of c.in_ok-form_rest.ensures.whole)
 
 pub probed-found-requires-clause-kept : goal.probed-found-requires-clause-kept
 probed-found-requires-clause-kept c =
-    let v = c.view.inside in
-    let was = c.view.invariant.form ∙ ap (λ items. form_of_log v.schema.now (take v.formed (told_log items))) (sym c.as_slice.ensures.value) in
-    taken-begins c.law_clause_form_is_prefix.ensures v.schema.now (told_log c.as_slice.result.now) v.formed c.form_rest.new.formed v.kept
-    v.former c.form_rest.new.former c.form_rest.ensures.grows was c.form_rest.ensures.form c.view.invariant.kept
+    kept-on c.law_clause_form_is_prefix.ensures c.view.invariant c.as_slice.ensures.value c.form_rest.ensures.grows c.form_rest.ensures.form
 
 pub invariant_of-view : goal.invariant_of-view
 invariant_of-view c =
-    let v = c.view.inside in
-    let same = c.as_slice.ensures.value in
-    let was = c.view.invariant.form ∙ ap (λ items. form_of_log v.schema.now (take v.formed (told_log items))) (sym same) in
-    record {
-      small = c.view.invariant.small;
-      within = subst (λ items. c.form_rest.new.formed ≤ length (told_log items)) same c.form_rest.ensures.within;
-      form = c.form_rest.ensures.form ∙ ap (λ items. form_of_log v.schema.now (take c.form_rest.new.formed (told_log items))) same;
-      kept = taken-begins c.law_clause_form_is_prefix.ensures v.schema.now (told_log c.as_slice.result.now) v.formed c.form_rest.new.formed v.kept
-          v.former c.form_rest.new.former c.form_rest.ensures.grows was c.form_rest.ensures.form c.view.invariant.kept;
-    }
+    sound-on c.view.invariant c.as_slice.ensures.value c.form_rest.ensures.within c.form_rest.ensures.form c.view.inside.kept
+    (kept-on c.law_clause_form_is_prefix.ensures c.view.invariant c.as_slice.ensures.value c.form_rest.ensures.grows c.form_rest.ensures.form)
 
 pub invariant_of-view-2 : goal.invariant_of-view-2
 invariant_of-view-2 c =
-    let v = c.view.inside in
-    let same = c.as_slice.ensures.value in
-    let formulas = map (grounded_signed v.schema.now) (take c.form_rest.new.formed (told_log c.as_slice.result.now)) in
+    let formulas = map (grounded_signed c.view.inside.schema.now) (take c.form_rest.new.formed (told_log c.as_slice.result.now)) in
     let more = c.probed-found.ensures.more formulas c.form_rest.ensures.form in
     let back : c.cut.new.self ≡ form_of formulas =
     c.cut.ensures formulas more.0 more.1 (c.mark-before.ensures ∙ ap size_of c.form_rest.ensures.form) in
-    record {
-      small = c.view.invariant.small;
-      within = subst (λ items. c.form_rest.new.formed ≤ length (told_log items)) same c.form_rest.ensures.within;
-      form = back ∙ ap (λ items. form_of_log v.schema.now (take c.form_rest.new.formed (told_log items))) same;
-      kept = subst (λ (f : Form). IsBeginning c.probed-found.new.kept f.clauses) (c.form_rest.ensures.form ∙ sym back) c.probed-found.ensures.kept;
-    }
+    sound-on c.view.invariant c.as_slice.ensures.value c.form_rest.ensures.within back c.probed-found.new.kept
+    (subst (λ (f : Form). IsBeginning c.probed-found.new.kept f.clauses) (c.form_rest.ensures.form ∙ sym back) c.probed-found.ensures.kept)
+
+-- ---- what is told
+
+ours : (c : After-cut) → IsOwn c.view.inside c.args.view.now c.form_rest.new.former
+ours c = own c.view.view_is c.view.invariant c.as_slice.ensures.value c.in_ok-form_rest.ensures.whole
+
+told : (c : After-cut) (found : Certified)
+    → IsCheckedOf c.view.inside.schema.now (premise_of c.args.probe.now) (goal_of c.args.probe.now) c.args.budget c.args.wanted c.form_rest.new.former
+    (as_verdict found)
+    → IsTold (schema_of c.args.view.now) (log_of c.args.view.now ++ premise_of c.args.probe.now) (goal_of c.args.probe.now) c.args.budget c.args.wanted
+    (as_verdict found)
+told c found = own-told (ours c) (premise_of c.args.probe.now) (goal_of c.args.probe.now) c.args.budget c.args.wanted (as_verdict found)
+
+valid : (c : After-cut) → is_valid_schema (schema_of c.args.view.now) ≡ true
+valid c = subst (λ s. is_valid_schema s ≡ true) (ours c).schema_is c.known.ensures
+
+-- the machine's verdict is true
+holds : (c : After-cut)
+    → IsTrueVerdict (schema_of c.args.view.now) (log_of c.args.view.now ++ premise_of c.args.probe.now) (goal_of c.args.probe.now)
+    (searched (schema_of c.args.view.now) (log_of c.args.view.now ++ premise_of c.args.probe.now) (goal_of c.args.probe.now) c.args.budget)
+holds c =
+    let view = c.args.view.now in
+    let premise = premise_of c.args.probe.now in
+    searched-true (schema_of view) (log_of view ++ premise) (goal_of c.args.probe.now) c.args.budget
+    c.law_refutation_entails.ensures c.law_model_is_countermodel.ensures (valid c)
+    (premises-sentences (schema_of view) (log_of view) premise (ours c).small.sentences c.requires.premise) c.requires.goal
 
 pub returns-clause-outcome : goal.returns-clause-outcome
 returns-clause-outcome c =
-    let view = c.args.view.now in
-    let probe = c.args.probe.now in
-    let premises = log_of view ++ premise_of probe in
-    IfOk-weaker c.probed-found.result _ _
-    (λ found checked.
-    let searched = searched_verdict (form_of_log (schema_of view) (with_negated premises (goal_of probe))) c.args.budget in
-    ap outcome_of
-    (own-verdict c.view.inside _ c.view.view_is c.view.invariant c.as_slice.result.now c.as_slice.ensures.value
-    c.form_rest.new.former c.in_ok-form_rest.ensures.whole
-    (premise_of probe) (goal_of probe) c.args.budget c.args.wanted (as_verdict found) checked)
-    ∙ wanted-outcome c.args.wanted searched
-    ∙ outcome-is (schema_of view) premises (goal_of probe) c.args.budget
-    (form_of_log (schema_of view) (with_negated premises (goal_of probe))) refl searched refl)
-    c.probed-found.ensures.verdict
+    let at = (goal.at.returns-clause-outcome c).After-cut in
+    IfOk-weaker c.probed-found.result _ _ (λ found checked. told-outcome (told at found checked)) c.probed-found.ensures.verdict
 
 pub returns-clause-end : goal.returns-clause-end
 returns-clause-end c =
-    let view = c.args.view.now in
-    let probe = c.args.probe.now in
-    let premises = log_of view ++ premise_of probe in
+    let at = (goal.at.returns-clause-end c).After-cut in
     IfOk-weaker c.probed-found.result _ _
     (λ found checked.
-    own-verdict c.view.inside _ c.view.view_is c.view.invariant c.as_slice.result.now c.as_slice.ensures.value
-    c.form_rest.new.former c.in_ok-form_rest.ensures.whole
-    (premise_of probe) (goal_of probe) c.args.budget c.args.wanted (as_verdict found) checked
-    ∙ ap (as_wanted c.args.wanted)
-    (verdict-is (schema_of view) premises (goal_of probe) c.args.budget
-    (form_of_log (schema_of view) (with_negated premises (goal_of probe))) refl
-    (searched_verdict (form_of_log (schema_of view) (with_negated premises (goal_of probe))) c.args.budget) refl
-    c.law_clause_form_uses_its_variables.ensures c.law_clause_form_has_no_repeat.ensures
-    c.law_budget_is_whole_cost.ensures c.law_machine_ends_are_right.ensures))
+    told-verdict (told at found checked) c.law_clause_form_uses_its_variables.ensures c.law_clause_form_has_no_repeat.ensures
+    c.law_budget_is_whole_cost.ensures c.law_machine_ends_are_right.ensures)
     c.probed-found.ensures.verdict
 
 pub returns-clause-sound : goal.returns-clause-sound
 returns-clause-sound c =
-    let view = c.args.view.now in
-    let probe = c.args.probe.now in
-    let premises = log_of view ++ premise_of probe in
-    let small = own-small c.view.inside _ c.view.view_is c.view.invariant in
-    let same = schema-is c.view.inside _ c.view.view_is c.view.invariant in
-    let searched = searched_verdict (form_of_log (schema_of view) (with_negated premises (goal_of probe))) c.args.budget in
-    IfOk-weaker c.probed-found.result _ _
-    (λ found checked.
-    subst (IsTrueOutcome (schema_of view) premises (goal_of probe))
-    (sym (ap outcome_of
-    (own-verdict c.view.inside _ c.view.view_is c.view.invariant c.as_slice.result.now c.as_slice.ensures.value
-    c.form_rest.new.former c.in_ok-form_rest.ensures.whole
-    (premise_of probe) (goal_of probe) c.args.budget c.args.wanted (as_verdict found) checked)
-    ∙ wanted-outcome c.args.wanted searched))
-    (true-outcome (schema_of view) premises (goal_of probe) searched
-    (true-verdict (schema_of view) premises (goal_of probe) c.args.budget
-    (form_of_log (schema_of view) (with_negated premises (goal_of probe))) refl searched refl
-    c.law_refutation_entails.ensures c.law_model_is_countermodel.ensures
-    (subst (λ s. is_valid_schema s ≡ true) same c.known.ensures)
-    (premises-sentences (schema_of view) (log_of view) (premise_of probe) small.sentences c.requires.premise)
-    c.requires.goal)))
-    c.probed-found.ensures.verdict
+    let at = (goal.at.returns-clause-sound c).After-cut in
+    IfOk-weaker c.probed-found.result _ _ (λ found checked. told-true-outcome (told at found checked) (holds at)) c.probed-found.ensures.verdict
 
 pub returns-clause-world : goal.returns-clause-world
 returns-clause-world c =
-    let view = c.args.view.now in
-    let probe = c.args.probe.now in
-    let premises = log_of view ++ premise_of probe in
-    let small = own-small c.view.inside _ c.view.view_is c.view.invariant in
-    let same = schema-is c.view.inside _ c.view.view_is c.view.invariant in
-    IfOk-weaker c.probed-found.result _ _
-    (λ found checked is.
-    let searched = searched_verdict (form_of_log (schema_of view) (with_negated premises (goal_of probe))) c.args.budget in
-    true-verdict (schema_of view) premises (goal_of probe) c.args.budget
-    (form_of_log (schema_of view) (with_negated premises (goal_of probe))) refl (as_verdict found)
-    (own-verdict c.view.inside _ c.view.view_is c.view.invariant c.as_slice.result.now c.as_slice.ensures.value
-    c.form_rest.new.former c.in_ok-form_rest.ensures.whole
-    (premise_of probe) (goal_of probe) c.args.budget c.args.wanted (as_verdict found) checked
-    ∙ ap (λ w. as_wanted w searched) is)
-    c.law_refutation_entails.ensures c.law_model_is_countermodel.ensures
-    (subst (λ s. is_valid_schema s ≡ true) same c.known.ensures)
-    (premises-sentences (schema_of view) (log_of view) (premise_of probe) small.sentences c.requires.premise)
-    c.requires.goal)
-    c.probed-found.ensures.verdict
+    let at = (goal.at.returns-clause-world c).After-cut in
+    IfOk-weaker c.probed-found.result _ _ (λ found checked. told-true (told at found checked) (holds at)) c.probed-found.ensures.verdict
 
 pub returns-clause-right : goal.returns-clause-right
 returns-clause-right c =
+    let at = (goal.at.returns-clause-right c).After-cut in
     let view = c.args.view.now in
-    let probe = c.args.probe.now in
+    let premise = premise_of c.args.probe.now in
+    let asked = goal_of c.args.probe.now in
     IfOk-weaker c.probed-found.result _ _
     (λ found right.
-    subst (λ (form : Form). IsRightFor form.clauses found) (probe-form (schema_of view) (log_of view ++ premise_of probe) (goal_of probe))
-    (own-right c.view.inside _ c.view.view_is c.view.invariant c.as_slice.result.now c.as_slice.ensures.value
-    c.form_rest.new.former c.in_ok-form_rest.ensures.whole
-    (premise_of probe) (goal_of probe) found right))
+    subst (λ (form : Form). IsRightFor form.clauses found) (probe-form (schema_of view) (log_of view ++ premise) asked)
+    (own-right (ours at) premise asked found right))
     c.probed-found.ensures.right
 
 pub returns-clause-lines : goal.returns-clause-lines
 returns-clause-lines c =
+    let at = (goal.at.returns-clause-lines c).After-cut in
     let view = c.args.view.now in
-    let probe = c.args.probe.now in
+    let premise = premise_of c.args.probe.now in
+    let asked = goal_of c.args.probe.now in
     IfOk-weaker c.probed-found.result _ _
     (λ found machines.
-    subst (λ form. IsMachines (searched_end form c.args.budget) found) (probe-form (schema_of view) (log_of view ++ premise_of probe) (goal_of probe))
-    (own-lines c.view.inside _ c.view.view_is c.view.invariant c.as_slice.result.now c.as_slice.ensures.value
-    c.form_rest.new.former c.in_ok-form_rest.ensures.whole
-    (premise_of probe) (goal_of probe) c.args.budget found machines))
+    subst (λ form. IsMachines (searched_end form c.args.budget) found) (probe-form (schema_of view) (log_of view ++ premise) asked)
+    (own-lines (ours at) premise asked c.args.budget found machines))
     c.probed-found.ensures.lines
 
 pub returns-clause-spent : goal.returns-clause-spent
 returns-clause-spent c =
-    let view = c.args.view.now in
-    let probe = c.args.probe.now in
     IfOk-weaker c.probed-found.result _ _
-    (λ found is. spent-by-cost c.law_spent_is_cost.ensures
-    (schema_of view) (log_of view ++ premise_of probe) (goal_of probe) c.args.budget (outcome_of (as_verdict found)) is)
+    (λ found is. spent-by-cost c.law_spent_is_cost.ensures (schema_of c.args.view.now) (log_of c.args.view.now ++ premise_of c.args.probe.now)
+    (goal_of c.args.probe.now) c.args.budget (outcome_of (as_verdict found)) is)
     (returns-clause-outcome c)
 
 pub returns-clause-models : goal.returns-clause-models
 returns-clause-models c =
+    let at = (goal.at.returns-clause-models c).After-cut in
     let view = c.args.view.now in
-    let probe = c.args.probe.now in
-    let small = own-small c.view.inside _ c.view.view_is c.view.invariant in
-    let same = schema-is c.view.inside _ c.view.view_is c.view.invariant in
+    let premise = premise_of c.args.probe.now in
+    let asked = goal_of c.args.probe.now in
     IfOk-weaker c.probed-found.result _ _
-    (λ found checked. c.law_models_are_worlds_of_schema.ensures
-    (schema_of view) (with_negated (log_of view ++ premise_of probe) (goal_of probe))
-    (subst (λ s. is_valid_schema s ≡ true) same c.known.ensures)
-    (probe-sentences (schema_of view) (log_of view) (premise_of probe) (goal_of probe)
-    small.sentences c.requires.premise c.requires.goal))
+    (λ found checked. c.law_models_are_worlds_of_schema.ensures (schema_of view) (with_negated (log_of view ++ premise) asked) (valid at)
+    (probe-sentences (schema_of view) (log_of view) premise asked (ours at).small.sentences c.requires.premise c.requires.goal))
     c.probed-found.ensures.verdict
