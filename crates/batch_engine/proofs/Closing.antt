@@ -25,7 +25,7 @@ use Rattle.desk_crew.specs.Openings.{OpensNone, OpensWith}
 use Rattle.batch_engine.specs.Lives.{RoseBy, is_opened, is_call, failures, IsStretchEnd}
 use Rattle.batch_engine.specs.Batch.{StandsAmid, StandsBehind, ServesUser, AnswersBatch, AreRefusals, AppendsAll, AppendsSome, IsStretch, StandsBetween}
 use Rattle.batch_engine.specs.Batch.{line_bytes, unopened, with_opening}
-use Rattle.desk_crew.specs.Crew.{named_user, seat_standing, seat_state, IsLeft}
+use Rattle.desk_crew.specs.Crew.{named_user, seat_standing, seat_state, IsLeftOpen}
 use Rattle.cqe_base.specs.Run.{Event}
 use Rattle.desk_crew.specs.Shelved.{Journals, journals_by, told_on, StandsAllAlong, ClosedBehind, IsBack, AreBack}
 use Rattle.batch_engine.proofs.Along.{Clock, IsAlongClosed, IsClosedBehind, BeginsLife, at_end, along_still}
@@ -132,7 +132,7 @@ module _ (schema : DatabaseSchema) (world : FactSet) (users : List NamedUser) (h
     now : D
     held : disk' (journal_name directory user.name) ≡ Some now
     closed : D
-    left : IsLeft Disk closed now
+    left : IsLeftOpen Disk closed now
     stays : Stays schema world user.profile header (bytes_of Disk.reads directory disk user.name) (count_of directory count user.name)
         (images_of Disk.image directory disk user.name) user.opened (own_events user.name script) (Disk.image now) (Disk.reads now)
     running : IsRunning schema world user.profile header (bytes_of Disk.reads directory disk user.name) (count_of directory count user.name)
@@ -146,7 +146,7 @@ module _ (schema : DatabaseSchema) (world : FactSet) (users : List NamedUser) (h
     opens_at : ℕ
     all_along : IsAlongClosed schema world user.profile header (images_of Disk.image directory disk user.name) user.opened began opens_at
         (own_events user.name script) (Disk.moment now) (Disk.image_since now)
-    told : list_any is_opened (own_events user.name script) ≡ true → length (state_after schema world user script).entries ≤ Disk.told now
+    told : list_any is_opened (own_events user.name script) ≡ true → length (state_after schema world user script).entries ≤ Disk.tellable now
 
   back : (user : NamedUser) (script : List ScriptEvent) (seat : DeskSeat D g h) → Seated user script seat → IsBack S Disk disk' count' seat
       → Back user script seat
@@ -194,7 +194,7 @@ module _ (schema : DatabaseSchema) (world : FactSet) (users : List NamedUser) (h
   closed_at : (user : NamedUser) (script : List ScriptEvent) (seat : DeskSeat D g h) (at : Back user script seat) (front rest : List Event)
       → IsClosedBehind schema world user.profile header (images_of Disk.image directory disk user.name) user.opened at.began at.opens_at front rest
       (Disk.moment at.now) (Disk.image_since at.now)
-      → ClosedBehind (journals_by Disk.reads Disk.image Disk.moment Disk.image_since Disk.told directory disk disk' count count') user.name at.opens_at
+      → ClosedBehind (journals_by Disk.reads Disk.image Disk.moment Disk.image_since Disk.tellable directory disk disk' count count') user.name at.opens_at
       (StandsAmid schema world header user front) (StandsBehind schema world header user front rest)
   closed_at user script seat at front rest closed = record {
     closing = closed.closed_at;
@@ -225,7 +225,7 @@ module _ (schema : DatabaseSchema) (world : FactSet) (users : List NamedUser) (h
           (Disk.moment at.now) (Disk.image_since at.now)) same (at.all_along.last (ap (list_any is_opened) same ∙ some)))
 
   all_moments : (user : NamedUser) (script : List ScriptEvent) (seat : DeskSeat D g h) → Back user script seat
-      → Moments schema world header (journals_by Disk.reads Disk.image Disk.moment Disk.image_since Disk.told directory disk disk' count count') user
+      → Moments schema world header (journals_by Disk.reads Disk.image Disk.moment Disk.image_since Disk.tellable directory disk disk' count count') user
       (own_events user.name script)
   all_moments user script seat at =
       let along = at.all_along.along in
@@ -269,7 +269,7 @@ module _ (schema : DatabaseSchema) (world : FactSet) (users : List NamedUser) (h
     serves : (user : NamedUser) (script : List ScriptEvent) (seat : DeskSeat D g h) → Finds users user → KeepsLimits schema user.profile
         → OpensWith schema world user.profile header (bytes_of Disk.reads directory disk user.name) user.opened
         → Seated user script seat → IsBack S Disk disk' count' seat
-        → ServesUser schema world header (journals_by Disk.reads Disk.image Disk.moment Disk.image_since Disk.told directory disk disk' count count') users
+        → ServesUser schema world header (journals_by Disk.reads Disk.image Disk.moment Disk.image_since Disk.tellable directory disk disk' count count') users
         script user
     serves user script seat found limits opening_is seated is =
         let at : Back user script seat = back user script seat seated is in
@@ -289,7 +289,7 @@ module _ (schema : DatabaseSchema) (world : FactSet) (users : List NamedUser) (h
               (λ o. IsNoLonger (bytes_of Disk.reads directory disk user.name) (state_after schema world user script).entries (bytes_on Disk.reads o))
               (sym at.held)
               (at.stays.size whole);
-          told = λ some. subst (λ o. length (state_after schema world user script).entries ≤ told_on Disk.told o) (sym at.held) (at.told some);
+          told = λ some. subst (λ o. length (state_after schema world user script).entries ≤ told_on Disk.tellable o) (sym at.held) (at.told some);
           kept =
               λ idle. (
                 ap (bytes_on Disk.reads) at.held ∙ (at.stays.kept idle).0,
@@ -322,7 +322,7 @@ module _ (schema : DatabaseSchema) (world : FactSet) (users : List NamedUser) (h
         → AllByRecursion (λ (u : NamedUser). OpensWith schema world u.profile header (bytes_of Disk.reads directory disk u.name) u.opened) us
         → AllSeated script us seats → AreBack S Disk disk' count' seats
         → AllByRecursion (ServesUser schema world header
-        (journals_by Disk.reads Disk.image Disk.moment Disk.image_since Disk.told directory disk disk' count count')
+        (journals_by Disk.reads Disk.image Disk.moment Disk.image_since Disk.tellable directory disk disk' count count')
         users script) us
     serves_all [] script [] found limits openings seated is = tt
     serves_all [] script (seat ∷ seats) found limits openings seated is = tt
@@ -332,7 +332,9 @@ module _ (schema : DatabaseSchema) (world : FactSet) (users : List NamedUser) (h
 
     refusals_all : (us : List NamedUser) (script : List ScriptEvent) (seats : List (DeskSeat D g h)) → AllSeated script us seats
         → AreBack S Disk disk' count' seats
-        → AreRefusals schema world header (journals_by Disk.reads Disk.image Disk.moment Disk.image_since Disk.told directory disk disk' count count') script us
+        → AreRefusals schema world header
+        (journals_by Disk.reads Disk.image Disk.moment Disk.image_since Disk.tellable directory disk disk' count count')
+        script us
         (map (λ (s : DeskSeat D g h). s.refusal) seats)
     refusals_all [] script [] seated is = tt
     refusals_all [] script (seat ∷ seats) seated is = absurd seated
@@ -355,7 +357,7 @@ module _ (schema : DatabaseSchema) (world : FactSet) (users : List NamedUser) (h
           (clock_of Disk only_now directory disk) (bytes_of Disk.reads directory disk) (count_of directory count)
           (images_of Disk.image directory disk) found opened items output seats is_broken
           → AreBack S Disk disk' count' seats
-          → AnswersBatch schema world header (journals_by Disk.reads Disk.image Disk.moment Disk.image_since Disk.told directory disk disk' count count')
+          → AnswersBatch schema world header (journals_by Disk.reads Disk.image Disk.moment Disk.image_since Disk.tellable directory disk disk' count count')
           policy items output
       answers items output seats is_broken so_far is = record {
         users = users;
@@ -371,7 +373,7 @@ module _ (schema : DatabaseSchema) (world : FactSet) (users : List NamedUser) (h
       -- all items were answered
       pub answered_all : (items : List BatchItem) (old new : List ℕ) (seats : List (DeskSeat D g h)) (is_broken : Bool) → Told items old new seats is_broken
           → AreBack S Disk disk' count' seats
-          → AppendsAll schema world header (journals_by Disk.reads Disk.image Disk.moment Disk.image_since Disk.told directory disk disk' count count')
+          → AppendsAll schema world header (journals_by Disk.reads Disk.image Disk.moment Disk.image_since Disk.tellable directory disk disk' count count')
           policy items old new
           (map (λ (s : DeskSeat D g h). s.refusal) seats) is_broken
       answered_all items old new seats is_broken (output, written, so_far) is = record {
@@ -393,7 +395,7 @@ module _ (schema : DatabaseSchema) (world : FactSet) (users : List NamedUser) (h
           (images_of Disk.image directory disk) found opened so_far.events (earlier ++ stretch) (length stretch) lines seats is_broken
           → AreBack S Disk disk' count' seats → new ≡ (old ++ output) ++ take n lines → all ≡ (earlier ++ stretch) ++ back → IsStretch stretch
           → StandsBetween earlier stretch back → (some : AppendsSome schema world header
-          (journals_by Disk.reads Disk.image Disk.moment Disk.image_since Disk.told directory disk disk' count count') policy all old new) × (some.part ≡ n)
+          (journals_by Disk.reads Disk.image Disk.moment Disk.image_since Disk.tellable directory disk disk' count count') policy all old new) × (some.part ≡ n)
       answered_some earlier stretch back all n old output lines new mid seats was is_broken so_far adds is appended split one between =
           let whole = transcript schema world users (with_opening found opened so_far.events) in
           let both = joined schema world users header directory Disk t read_is_image

@@ -160,7 +160,7 @@ module _ (schema : DatabaseSchema) (world : FactSet) (header directory : List �
   finish_all : (wrote : Type 0) → wrote → (items : List BatchItem) (new : List (DeskSeat D g h)) (is_broken : Bool) (before after : List ℕ)
       → RunsAll schema world header Disk wrote items seats new is_broken before after
       → AreBack S Disk disk' count' new
-      → AppendsAll schema world header (journals_by Disk.reads Disk.image Disk.moment Disk.image_since Disk.told directory disk disk' count count')
+      → AppendsAll schema world header (journals_by Disk.reads Disk.image Disk.moment Disk.image_since Disk.tellable directory disk disk' count count')
       (map named_user users)
       items before after
       (map (λ (x : DeskSeat D g h). x.refusal) new) is_broken
@@ -179,7 +179,8 @@ module _ (schema : DatabaseSchema) (world : FactSet) (header directory : List �
   finish_part : (wrote : Type 0) (w : wrote) (items : List BatchItem) (new : List (DeskSeat D g h)) (before after : List ℕ)
       (some : RunsSome schema world header Disk wrote items seats new before after)
       → AreBack S Disk disk' count' new
-      → (appends : AppendsSome schema world header (journals_by Disk.reads Disk.image Disk.moment Disk.image_since Disk.told directory disk disk' count count')
+      → (appends : AppendsSome schema world header
+      (journals_by Disk.reads Disk.image Disk.moment Disk.image_since Disk.tellable directory disk disk' count count')
       (map named_user users) items before after) × (appends.part ≡ (some.appended w).0)
   finish_part wrote w items new before after some back =
       let st = start in
@@ -198,7 +199,7 @@ module _ (schema : DatabaseSchema) (world : FactSet) (header directory : List �
   finish_some : (wrote : Type 0) → wrote → (items : List BatchItem) (new : List (DeskSeat D g h)) (before after : List ℕ)
       → RunsSome schema world header Disk wrote items seats new before after
       → AreBack S Disk disk' count' new
-      → AppendsSome schema world header (journals_by Disk.reads Disk.image Disk.moment Disk.image_since Disk.told directory disk disk' count count')
+      → AppendsSome schema world header (journals_by Disk.reads Disk.image Disk.moment Disk.image_since Disk.tellable directory disk disk' count count')
       (map named_user users) items before after
   finish_some wrote w items new before after some back = (finish_part wrote w items new before after some back).0
 
@@ -206,7 +207,7 @@ module _ (schema : DatabaseSchema) (world : FactSet) (header directory : List �
   finish_to : (wrote : Type 0) → wrote → (items : List BatchItem) (new : List (DeskSeat D g h)) (before after : List ℕ)
       → RunsTo schema world header Disk wrote items seats new before after
       → AreBack S Disk disk' count' new
-      → AppendsTo schema world header (journals_by Disk.reads Disk.image Disk.moment Disk.image_since Disk.told directory disk disk' count count')
+      → AppendsTo schema world header (journals_by Disk.reads Disk.image Disk.moment Disk.image_since Disk.tellable directory disk disk' count count')
       (map named_user users)
       items before after
   finish_to wrote w items new before after to back =
@@ -214,11 +215,12 @@ module _ (schema : DatabaseSchema) (world : FactSet) (header directory : List �
       (both.0, both.1 ∙ to.1 w)
 
   pub finishes : Finishes schema world header S Disk
-      (journals_by Disk.reads Disk.image Disk.moment Disk.image_since Disk.told directory disk disk' count count') (map named_user users) seats disk' count'
+      (journals_by Disk.reads Disk.image Disk.moment Disk.image_since Disk.tellable directory disk disk' count count') (map named_user users) seats disk' count'
   finishes = record {
     all = λ wrote items new is_broken before after refusals all back are.
         subst (λ l. AppendsAll schema world header
-        (journals_by Disk.reads Disk.image Disk.moment Disk.image_since Disk.told directory disk disk' count count') (map named_user users) items [] all.output
+        (journals_by Disk.reads Disk.image Disk.moment Disk.image_since Disk.tellable directory disk disk' count count')
+        (map named_user users) items [] all.output
         l
         is_broken) (sym are)
         (finish_all (Unit {0}) tt items new is_broken [] all.output

@@ -134,7 +134,7 @@ module _ (schema : DatabaseSchema) (world : FactSet) (header directory : List �
     pub fewer : is_sealed (seat_standing seat) ≡ false → HasFewer schema world user events (length (seat_kept seat).opening)
     -- where his journal is refused and an opening of it held before, the marks of all his entries may be told
     pub marks : is_sealed (seat_standing seat) ≡ true → list_any is_opened events ≡ true
-        → length (after_events schema world user.profile (opening schema world user.profile user.opened) events).entries ≤ Disk.told (seat_disk seat)
+        → length (after_events schema world user.profile (opening schema world user.profile user.opened) events).entries ≤ Disk.tellable (seat_disk seat)
 
   -- all do, behind the events of a script
   abbrev pub AreSeated : List ScriptEvent → List NamedUser → List (DeskSeat D g h) → Type 0
@@ -199,7 +199,7 @@ module _ (schema : DatabaseSchema) (world : FactSet) (header directory : List �
               (seat_standing old) (seat_state old) shut purpose text asked.ending seated.living.is_in in
               let was = seated.marks shut (sym still.0 ∙ some) in
               let same = ap (λ (s : UserState). length s.entries) still.1 in
-              let disk = ap (λ (f : Fixed D). Disk.told f.disk) kept in
+              let disk = ap (λ (f : Fixed D). Disk.tellable f.disk) kept in
               omega (arith, was, same, disk);
         };
       }
@@ -309,21 +309,21 @@ module _ (schema : DatabaseSchema) (world : FactSet) (header directory : List �
   -- so the marks of all his entries may be told, where an opening held
   pub told_at : (user : NamedUser) (events : List Event) (seat : DeskSeat D g h) (disk : D) → IsSeated user events seat
       → IsClosed Disk seat.desk disk → list_any is_opened events ≡ true
-      → length (after_events schema world user.profile (opening schema world user.profile user.opened) events).entries ≤ Disk.told disk
+      → length (after_events schema world user.profile (opening schema world user.profile user.opened) events).entries ≤ Disk.tellable disk
   told_at user events seat disk seated closed some = by (is_sealed (seat_standing seat)) refl
     where
       state : UserState
       state = after_events schema world user.profile (opening schema world user.profile user.opened) events
 
-      by : (b : Bool) → is_sealed (seat_standing seat) ≡ b → length state.entries ≤ Disk.told disk
+      by : (b : Bool) → is_sealed (seat_standing seat) ≡ b → length state.entries ≤ Disk.tellable disk
       by true sealed =
           let was = seated.marks sealed some in
-          let same = ap Disk.told (closed.shut sealed) in
+          let same = ap Disk.tellable (closed.shut sealed) in
           omega (arith, was, same)
       by false served =
           let is : length state.entries ≡ length (seat_history seat) = ap (λ (s : UserState). length s.entries)
           (shown_at (seat_standing seat) (seat_state seat) state served seated.living.is_in) in
-          let most : length (seat_history seat) ≤ Disk.told disk = closed.told t in
+          let most : length (seat_history seat) ≤ Disk.tellable disk = closed.told t in
           omega (arith, is, most)
 
   -- what each crash could leave up to a close

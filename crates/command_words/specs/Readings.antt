@@ -39,9 +39,9 @@ pub data Reading : Type 0 where
   -- the check of a dossier of the user of this name, over a policy file and a facts file
   runs_check : List ℕ → List ℕ → List ℕ → Reading
   -- the same batch, with a standby at this address that copies the journals
-  runs_copied_batch : FileNames → ℕ → List ℕ → Reading
+  runs_mirrored_batch : FileNames → ℕ → List ℕ → Reading
   -- the same server, with a standby at the last address
-  runs_copied_serve : FileNames → List ℕ → ℕ → ℕ → List ℕ → Reading
+  runs_mirrored_serve : FileNames → List ℕ → ℕ → ℕ → List ℕ → Reading
   -- a standby over these files, at this address, for so many connections
   runs_standby : FileNames → List ℕ → ℕ → Reading
 
@@ -77,7 +77,7 @@ files_said _ _ _ = None
 -- a batch over these files, with so many workers, and a standby if there is an address
 abbrev pub batch_reading : FileNames → ℕ → Option (List ℕ) → Reading
 batch_reading files workers None = runs_batch files workers
-batch_reading files workers (Some standby) = runs_copied_batch files workers standby
+batch_reading files workers (Some standby) = runs_mirrored_batch files workers standby
 
 -- a batch over these files, where all is said but perhaps a standby
 abbrev pub batch_said : Option FileNames → Option ℕ → Option (List ℕ) → Option Reading
@@ -99,7 +99,7 @@ selfrun_said _ _ _ = None
 abbrev pub serve_reading : FileNames → List ℕ → ℕ → ℕ → Option (List ℕ) → Reading
 serve_reading files address workers sessions None = runs_serve files address workers sessions
 serve_reading files address workers sessions (Some standby) =
-    runs_copied_serve files address workers sessions standby
+    runs_mirrored_serve files address workers sessions standby
 
 -- a server over these files, where all is said but perhaps a standby
 abbrev pub serve_said : Option FileNames → Option (List ℕ) → Option ℕ → Option ℕ

@@ -10,10 +10,10 @@ use Rattle.cqe_base.specs.Reading.{Refusal}
 use Rattle.cqe_base.specs.Formula.{Formula, verum, falsum, atom, equality, inequality, negation, conjunction, disjunction, implication, biconditional}
 use Rattle.cqe_base.specs.Formula.{universal, existential}
 use Rattle.cqe_base.specs.Schema.{DatabaseSchema, domain_named, relation_named}
-use Rattle.cqe_base.specs.Tokens.{Token, symbol_of, number_of}
+use Rattle.cqe_base.specs.Tokens.{Token, symbol_of, symbol_number}
 use Rattle.cqe_base.specs.Reading
-use Rattle.cqe_base.specs.Reading.{◌>>=◌, Reader, Scope, Binder, TypedTerm, Level, column_domains, term_named, known, is_symbol, is_next, chain}
-use Rattle.cqe_base.specs.Grammar.{unary, both, either, implied, whole, IsSymbol, IsTerm, Columns, no_column, last_column, next_column, MayEndQuantified}
+use Rattle.cqe_base.specs.Reading.{◌>>=◌, Reader, Scope, Binder, TypedTerm, Level, column_domains, term_named, named, is_symbol, is_next, chain}
+use Rattle.cqe_base.specs.Grammar.{unary, both, either, conditional, whole, IsSymbol, IsTerm, Columns, no_column, last_column, next_column, MayEndQuantified}
 use Rattle.cqe_base.specs.Grammar.{IsQuantifier, Begins, is_true, is_false, is_atom, is_equal, is_differs, is_not, in_parentheses, is_forall, is_exists}
 use Rattle.cqe_base.specs.Grammar.{one_and, more_and, one_or, more_or, no_arrow, one_arrow, no_double_arrow, one_double_arrow}
 
@@ -39,9 +39,9 @@ typed-same x a d term domain =
     let make : Term → ℕ → TypedTerm = λ a d. record { term = a; domain = d } in
     ap (λ (y : Term). make y x.domain) term ∙ ap (make a) domain
 
-pub known_ok : {A : Type 0} (t : Token) (o : Option A) (x : A) → known t o ≡ Ok x → o ≡ Some x
-known_ok t (Some y) x h = cc
-known_ok t None x h = absurd (cc)
+pub named_ok : {A : Type 0} (t : Token) (o : Option A) (x : A) → named t o ≡ Ok x → o ≡ Some x
+named_ok t (Some y) x h = cc
+named_ok t None x h = absurd (cc)
 
 -- what is read is what is said to be read
 pub moved : {A : Type 0} (P : A → List Token → Type 0) (x y : A × List Token) → ◌≡◌ {A = Result (A × List Token) Refusal} (Ok x) (Ok y) → P x.0 x.1 → P y.0 y.1
@@ -51,7 +51,7 @@ all_symbols : List Symbol
 all_symbols = symbols.Name ∷ symbols.Not ∷ symbols.And ∷ symbols.Or ∷ symbols.True ∷ symbols.False ∷ symbols.Forall ∷ symbols.Exists ∷ symbols.Open
     ∷ symbols.Close ∷ symbols.Comma ∷ symbols.Colon ∷ symbols.Dot ∷ symbols.Equal ∷ symbols.Differs ∷ symbols.Arrow ∷ symbols.DoubleArrow ∷ []
 
-numbered : (s : Symbol) → get_or all_symbols (number_of s) symbols.Name ≡ s
+numbered : (s : Symbol) → get_or all_symbols (symbol_number s) symbols.Name ≡ s
 unfolding all_symbols
 numbered symbols.Name = refl
 numbered symbols.Not = refl
@@ -73,7 +73,7 @@ numbered symbols.DoubleArrow = refl
 
 pub is_symbol-IsSymbol : (s : Symbol) (t : Token) → is_symbol s t ≡ true → IsSymbol s t
 is_symbol-IsSymbol s t h =
-    let same : number_of s ≡ number_of (symbol_of t.text) = grind (arith, nat_tests) in
+    let same : symbol_number s ≡ symbol_number (symbol_of t.text) = grind (arith, nat_tests) in
     sym (numbered (symbol_of t.text)) ∙ (ap (λ n. get_or all_symbols n symbols.Name) (sym same) ∙ numbered s)
 
 module _ (schema : DatabaseSchema) (end : Refusal) where
@@ -96,7 +96,7 @@ module _ (schema : DatabaseSchema) (end : Refusal) where
   unfolding Reading.term_of
   term-sound scope d ts rest a h =
       let s = bind_ok (Reading.name schema end ts) _ (a, rest) h in
-      let k = bind_ok (known s.0.0 (term_named schema scope s.0.0.text)) _ (a, rest) s.2 in
+      let k = bind_ok (named s.0.0 (term_named schema scope s.0.0.text)) _ (a, rest) s.2 in
       let g = if_ok (k.0.domain == d) (k.0.term, s.0.1) (a, rest) _ k.2 in
       let n = name-sound ts s.0.1 s.0.0 s.1 in
       let domain : k.0.domain ≡ d = grind (arith, nat_tests) in (
@@ -105,7 +105,7 @@ module _ (schema : DatabaseSchema) (end : Refusal) where
         record {
           is_name = n.1;
           stands_for =
-              known_ok s.0.0 (term_named schema scope s.0.0.text) k.0 k.1 ∙ ap Some (typed-same k.0 a d (ap (λ (x : Term × List Token). x.0) g.1) domain);
+              named_ok s.0.0 (term_named schema scope s.0.0.text) k.0 k.1 ∙ ap Some (typed-same k.0 a d (ap (λ (x : Term × List Token). x.0) g.1) domain);
         },
       )
 
@@ -114,13 +114,13 @@ module _ (schema : DatabaseSchema) (end : Refusal) where
   unfolding Reading.domain
   domain-sound ts rest d h =
       let s = bind_ok (Reading.name schema end ts) _ (d, rest) h in
-      let k = bind_ok (known s.0.0 (domain_named schema s.0.0.text)) _ (d, rest) s.2 in
+      let k = bind_ok (named s.0.0 (domain_named schema s.0.0.text)) _ (d, rest) s.2 in
       let n = name-sound ts s.0.1 s.0.0 s.1 in
       let e : (k.0, s.0.1) ≡ (d, rest) = cc in (
         s.0.0,
         n.0 ∙ ap (λ (x : ℕ × List Token). s.0.0 ∷ x.1) e,
         n.1,
-        known_ok s.0.0 (domain_named schema s.0.0.text) k.0 k.1 ∙ ap (λ (x : ℕ × List Token). Some x.0) e,
+        named_ok s.0.0 (domain_named schema s.0.0.text) k.0 k.1 ∙ ap (λ (x : ℕ × List Token). Some x.0) e,
       )
 
   pub after_column-sound : (last : Bool) (ts rest : List Token) → Reading.after_column schema end last ts ≡ Ok rest → (t : Token) × (ts ≡ t ∷ rest)
@@ -206,11 +206,11 @@ module _ (schema : DatabaseSchema) (end : Refusal) where
       → Reading.comparison schema end scope t ts ≡ Ok (a, rest) → Begins schema unary room scope (t ∷ ts) a rest
   unfolding Reading.comparison
   comparison-sound scope t room ts rest a name h =
-      let k = bind_ok (known t (term_named schema scope t.text)) _ (a, rest) h in
+      let k = bind_ok (named t (term_named schema scope t.text)) _ (a, rest) h in
       let s = bind_ok (Reading.comparison_sign schema end ts) _ (a, rest) k.2 in
       let u = bind_ok (Reading.term_of schema end scope k.0.domain s.0.1) _ (a, rest) s.2 in
       let b = term-sound scope k.0.domain s.0.1 u.0.1 u.0.0 u.1 in
-      let first : IsTerm schema scope t k.0.term k.0.domain = record { is_name = name; stands_for = known_ok t (term_named schema scope t.text) k.0 k.1 } in
+      let first : IsTerm schema scope t k.0.term k.0.domain = record { is_name = name; stands_for = named_ok t (term_named schema scope t.text) k.0 k.1 } in
       moved (λ a rest. Begins schema unary room scope (t ∷ ts) a rest) (s.0.0 k.0.term u.0.0, u.0.1) (a, rest) u.2
       (sign-sound scope t room ts s.0.1 u.0.1 s.0.0 k.0.term u.0.0 k.0.domain b.0 first b.2 b.1 s.1)
 
@@ -219,10 +219,10 @@ module _ (schema : DatabaseSchema) (end : Refusal) where
       → Begins schema unary room scope (t ∷ open_ ∷ ts) a rest
   unfolding Reading.relation_atom
   atom-sound scope t room open_ ts rest a name opens h =
-      let k = bind_ok (known t (relation_named schema t.text)) _ (a, rest) h in
+      let k = bind_ok (named t (relation_named schema t.text)) _ (a, rest) h in
       let c = bind_ok (Reading.arguments schema end scope (column_domains schema k.0) ts) _ (a, rest) k.2 in
       moved (λ a rest. Begins schema unary room scope (t ∷ open_ ∷ ts) a rest) (atom k.0 c.0.0, c.0.1) (a, rest) c.2
-      (is_atom name opens (known_ok t (relation_named schema t.text) k.0 k.1) (arguments-sound scope (column_domains schema k.0) ts c.0.1 c.0.0 c.1))
+      (is_atom name opens (named_ok t (relation_named schema t.text) k.0 k.1) (arguments-sound scope (column_domains schema k.0) ts c.0.1 c.0.0 c.1))
 
   named-sound : (scope : Scope) (t : Token) (room : ℕ) (ts rest : List Token) (a : Formula) → IsSymbol symbols.Name t
       → Reading.named schema end scope t ts ≡ Ok (a, rest) → Begins schema unary room scope (t ∷ ts) a rest
@@ -238,14 +238,14 @@ module _ (schema : DatabaseSchema) (end : Refusal) where
   unary_reader room scope = Reading.unary schema end (Reading.inside schema end room) scope
 
   abbrev pub implied_reader : ℕ → Scope → Reader Formula
-  implied_reader room scope = Reading.implied schema end (Reading.inside schema end room) scope
+  implied_reader room scope = Reading.conditional schema end (Reading.inside schema end room) scope
 
   -- what is read where so many constructs may still be opened is in the grammar
   pub record SoundAt (room : ℕ) : Type 0 where
     pub unary_sound : (scope : Scope) (ts rest : List Token) (a : Formula) → unary_reader room scope ts ≡ Ok (a, rest)
         → Begins schema unary room scope ts a rest
     pub implied_sound : (scope : Scope) (ts rest : List Token) (a : Formula) → implied_reader room scope ts ≡ Ok (a, rest)
-        → Begins schema implied room scope ts a rest
+        → Begins schema conditional room scope ts a rest
 
   abbrev SoundInside : ℕ → Type 0
   SoundInside zero = Unit {0}
@@ -287,24 +287,24 @@ module _ (schema : DatabaseSchema) (end : Refusal) where
         (λ a t us b rest p e read. more_or p e (both-sound us rest b read)) (length k.0.1) k.0.0 k.0.1 a rest (one_or (both-sound ts k.0.1 k.0.0 k.1)) k.2
 
   implying-sound : (room : ℕ) → SoundInside room → (scope : Scope) (ts after rest : List Token) (a b : Formula) → Begins schema either room scope ts a after
-      → Reading.implying schema end (Reading.inside schema end room) scope a after ≡ Ok (b, rest) → Begins schema implied room scope ts b rest
+      → Reading.implying schema end (Reading.inside schema end room) scope a after ≡ Ok (b, rest) → Begins schema conditional room scope ts b rest
   unfolding Reading.implying Reading.inside
-  implying-sound room below scope ts [] rest a b left h = moved (λ a rest. Begins schema implied room scope ts a rest) (a, []) (b, rest) h (no_arrow left)
+  implying-sound room below scope ts [] rest a b left h = moved (λ a rest. Begins schema conditional room scope ts a rest) (a, []) (b, rest) h (no_arrow left)
   implying-sound zero below scope ts (t ∷ us) rest a b left h = at (is_symbol symbols.Arrow t) refl
     where
-      at : (e : Bool) → is_symbol symbols.Arrow t ≡ e → Begins schema implied zero scope ts b rest
+      at : (e : Bool) → is_symbol symbols.Arrow t ≡ e → Begins schema conditional zero scope ts b rest
       at true e = let k = rw (e, Reading.implying) at h in absurd (cc)
-      at false e = moved (λ a rest. Begins schema implied zero scope ts a rest) (a, t ∷ us) (b, rest) (rw (e, Reading.implying) at h) (no_arrow left)
+      at false e = moved (λ a rest. Begins schema conditional zero scope ts a rest) (a, t ∷ us) (b, rest) (rw (e, Reading.implying) at h) (no_arrow left)
   implying-sound (suc room) below scope ts (t ∷ us) rest a b left h = at (is_symbol symbols.Arrow t) refl
     where
-      at : (e : Bool) → is_symbol symbols.Arrow t ≡ e → Begins schema implied (suc room) scope ts b rest
+      at : (e : Bool) → is_symbol symbols.Arrow t ≡ e → Begins schema conditional (suc room) scope ts b rest
       at true e =
           let k = bind_ok (implied_reader room scope us) _ (b, rest) (rw (e, Reading.implying) at h) in
-          moved (λ a rest. Begins schema implied (suc room) scope ts a rest) (implication a k.0.0, k.0.1) (b, rest) k.2
+          moved (λ a rest. Begins schema conditional (suc room) scope ts a rest) (implication a k.0.0, k.0.1) (b, rest) k.2
           (one_arrow left (is_symbol-IsSymbol symbols.Arrow t e) (below.implied_sound scope us k.0.1 k.0.0 k.1))
-      at false e = moved (λ a rest. Begins schema implied (suc room) scope ts a rest) (a, t ∷ us) (b, rest) (rw (e, Reading.implying) at h) (no_arrow left)
+      at false e = moved (λ a rest. Begins schema conditional (suc room) scope ts a rest) (a, t ∷ us) (b, rest) (rw (e, Reading.implying) at h) (no_arrow left)
 
-  equivalent-sound : (room : ℕ) → SoundAt room → (scope : Scope) (ts after rest : List Token) (a b : Formula) → Begins schema implied room scope ts a after
+  equivalent-sound : (room : ℕ) → SoundAt room → (scope : Scope) (ts after rest : List Token) (a b : Formula) → Begins schema conditional room scope ts a after
       → Reading.equivalent_to schema end (Reading.level_with schema end (Reading.inside schema end room)) scope a after ≡ Ok (b, rest)
       → Begins schema whole room scope ts b rest
   unfolding Reading.equivalent_to
@@ -454,13 +454,13 @@ module _ (schema : DatabaseSchema) (end : Refusal) where
   unary-sound room below scope [] rest a h = absurd (cc)
   unary-sound room below scope (t ∷ ts) rest a h = unary_by-sound room below (symbol_of t.text) scope t ts rest a refl h
 
-  pub implied-sound : (room : ℕ) → SoundInside room → (scope : Scope) (ts rest : List Token) (a : Formula) → implied_reader room scope ts ≡ Ok (a, rest)
-      → Begins schema implied room scope ts a rest
-  unfolding Reading.implied
-  implied-sound room below scope ts rest a h =
+  pub conditional-sound : (room : ℕ) → SoundInside room → (scope : Scope) (ts rest : List Token) (a : Formula) → implied_reader room scope ts ≡ Ok (a, rest)
+      → Begins schema conditional room scope ts a rest
+  unfolding Reading.conditional
+  conditional-sound room below scope ts rest a h =
       let k = bind_ok (Reading.either (unary_reader room scope) ts) _ (a, rest) h in
       implying-sound room below scope ts k.0.1 rest k.0.0 a (either-sound room scope (unary-sound room below scope) ts k.0.1 k.0.0 k.1) k.2
 
   pub sound : (room : ℕ) → SoundAt room
-  sound zero = record { unary_sound = unary-sound zero tt; implied_sound = implied-sound zero tt }
-  sound (suc room) = let here = sound room in record { unary_sound = unary-sound (suc room) here; implied_sound = implied-sound (suc room) here }
+  sound zero = record { unary_sound = unary-sound zero tt; implied_sound = conditional-sound zero tt }
+  sound (suc room) = let here = sound room in record { unary_sound = unary-sound (suc room) here; implied_sound = conditional-sound (suc room) here }

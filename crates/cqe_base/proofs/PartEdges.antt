@@ -7,7 +7,7 @@ use Rattle.cqe_base.specs.Schema.{DatabaseSchema}
 use Rattle.cqe_base.specs.Tokens.{Token}
 use Rattle.cqe_base.specs.Reading.{Scope}
 use Rattle.cqe_base.specs.Grammar
-use Rattle.cqe_base.specs.Grammar.{Part, unary, both, either, implied, whole, IsSymbol, IsQuantifier, MayEndQuantified, Begins, is_true, is_false, is_atom}
+use Rattle.cqe_base.specs.Grammar.{Part, unary, both, either, conditional, whole, IsSymbol, IsQuantifier, MayEndQuantified, Begins, is_true, is_false, is_atom}
 use Rattle.cqe_base.specs.Grammar.{is_equal, is_differs, is_not, is_forall, is_exists, one_and, more_and, one_or, more_or, no_arrow, one_arrow, no_double_arrow}
 use Rattle.cqe_base.specs.Grammar.{one_double_arrow}
 use Rattle.cqe_base.specs.Refusals.{behind_operand, OpensQuantifier, IsClosedPart, BreaksOff, in_not, in_body, in_first_and, behind_and, in_first_or, behind_or}
@@ -30,7 +30,7 @@ module _ (schema : DatabaseSchema) where
     pub breaks_off : (double open_ : Bool) → BreaksOff schema double open_ part room scope front (behind_operand inner (more double) open_)
 
   abbrev Edge : Part → ℕ → Scope → List Token → Formula → List Token → Type 0
-  Edge implied room scope ts a rest = MayEndQuantified rest → Behind implied room scope ts rest
+  Edge conditional room scope ts a rest = MayEndQuantified rest → Behind conditional room scope ts rest
   Edge whole room scope ts a rest = MayEndQuantified rest → Behind whole room scope ts rest
   Edge part room scope ts a rest = Closed part room scope ts a rest ⊎ (MayEndQuantified rest × Behind part room scope ts rest)
 
@@ -84,7 +84,7 @@ module _ (schema : DatabaseSchema) where
             },
           )
 
-      abbrev pub side-edge : Edge either room scope ts a rest → Behind implied room scope ts rest
+      abbrev pub side-edge : Edge either room scope ts a rest → Behind conditional room scope ts rest
       side-edge (inl f) = record { front = f.front; inner = room; more = λ double. double; split = f.split; breaks_off = λ double open_. behind_last f.closed }
       side-edge (inr b) =
           record {
@@ -149,12 +149,12 @@ module _ (schema : DatabaseSchema) where
           )
 
     module _ {t : Token} {ts us : List Token} {a : Formula} where
-      abbrev pub arrow-edge : Begins schema either (suc room) scope ts a (t ∷ us) → IsSymbol symbols.Arrow t → Behind implied room scope us rest
-          → Behind implied (suc room) scope ts rest
+      abbrev pub arrow-edge : Begins schema either (suc room) scope ts a (t ∷ us) → IsSymbol symbols.Arrow t → Behind conditional room scope us rest
+          → Behind conditional (suc room) scope ts rest
       arrow-edge left h x = let l = begins-before schema x.front rest left x.split in
           record { front = l.0; inner = x.inner; more = x.more; split = l.1; breaks_off = λ double open_. behind_arrow l.2 h (x.breaks_off double open_) }
 
-      double_arrow-edge : Begins schema implied room scope ts a (t ∷ us) → IsSymbol symbols.DoubleArrow t → Behind implied room scope us rest
+      double_arrow-edge : Begins schema conditional room scope ts a (t ∷ us) → IsSymbol symbols.DoubleArrow t → Behind conditional room scope us rest
           → Behind whole room scope ts rest
       double_arrow-edge left h x = let l = begins-before schema x.front rest left x.split in
           record {
@@ -166,7 +166,7 @@ module _ (schema : DatabaseSchema) where
                 λ double open_. behind_double_arrow l.2 h (x.breaks_off false open_);
           }
 
-    sentence-edge : {ts : List Token} → Behind implied room scope ts rest → Behind whole room scope ts rest
+    sentence-edge : {ts : List Token} → Behind conditional room scope ts rest → Behind whole room scope ts rest
     sentence-edge x =
         record {
           front = x.front;

@@ -15,7 +15,7 @@ use Rattle.cqe_base.proofs.GrammarSound.{unary_reader}
 use Rattle.cqe_base.proofs.RefusedTokens.{by_step, by_test, never_ok, ends, forbidden}
 use Rattle.cqe_base.proofs.RefusedAtoms.{Stopped, at_first, named-stopped}
 use Rattle.cqe_base.proofs.SentenceEnds.{EndedSentence, sentence_reader, sentence-ended, behind-refused}
-use Rattle.cqe_base.proofs.RefusedConnectives.{StopsAt, StopsInside, sentence-stopped, implied-stopped}
+use Rattle.cqe_base.proofs.RefusedConnectives.{StopsAt, StopsInside, sentence-stopped, conditional-stopped}
 use Rattle.cqe_base.proofs.RefusedQuantifiers.{no_room-stopped, quantified-stopped}
 
 module _ (schema : DatabaseSchema) (end : Refusal) where
@@ -107,7 +107,7 @@ module _ (schema : DatabaseSchema) (end : Refusal) where
       record {
         unary_stops = unary-stopped room below;
         implied_stops =
-            λ double open_ scope. implied-stopped schema end room below double open_ scope (unary-stopped room below double open_ scope);
+            λ double open_ scope. conditional-stopped schema end room below double open_ scope (unary-stopped room below double open_ scope);
       }
 
   -- ---- the whole text

@@ -6,7 +6,7 @@ use Rattle.cqe_base.specs.Schema.{DatabaseSchema}
 use Rattle.cqe_base.specs.Tokens.{Token, symbol_of}
 use Rattle.cqe_base.specs.Reading
 use Rattle.cqe_base.specs.Reading.{Refusal, Scope, is_symbol, too_deep}
-use Rattle.cqe_base.specs.Grammar.{unary, both, either, implied, whole, IsSymbol, MayEndQuantified, Begins, one_and, more_and, one_or, more_or}
+use Rattle.cqe_base.specs.Grammar.{unary, both, either, conditional, whole, IsSymbol, MayEndQuantified, Begins, one_and, more_and, one_or, more_or}
 use Rattle.cqe_base.specs.Refusals.{behind_operand, Refuses, no_room_behind, in_first_and, behind_and, in_first_or, behind_or, before_arrow, behind_arrow}
 use Rattle.cqe_base.specs.Refusals.{behind_last, before_double_arrow, behind_double_arrow}
 use Rattle.cqe_base.proofs.GrammarSound.{is_symbol-IsSymbol, unary_reader, implied_reader, sound}
@@ -22,7 +22,7 @@ module _ (schema : DatabaseSchema) (end : Refusal) where
     pub unary_stops : (double open_ : Bool) (scope : Scope) (ts : List Token) (e : Refusal) → unary_reader schema end room scope ts ≡ Err e
         → Stopped schema end double open_ unary room scope ts e
     pub implied_stops : (double open_ : Bool) (scope : Scope) (ts : List Token) (e : Refusal) → implied_reader schema end room scope ts ≡ Err e
-        → Stopped schema end double open_ implied room scope ts e
+        → Stopped schema end double open_ conditional room scope ts e
 
   abbrev pub StopsInside : ℕ → Type 0
   StopsInside zero = Unit {0}
@@ -60,13 +60,13 @@ module _ (schema : DatabaseSchema) (end : Refusal) where
 
   implying-stopped : (room : ℕ) → StopsInside room → (double open_ : Bool) (scope : Scope) (ts after : List Token) (a : Formula) (e : Refusal)
       → Begins schema either room scope ts a after
-      → Reading.implying schema end (Reading.inside schema end room) scope a after ≡ Err e → Stopped schema end double open_ implied room scope ts e
+      → Reading.implying schema end (Reading.inside schema end room) scope a after ≡ Err e → Stopped schema end double open_ conditional room scope ts e
   unfolding Reading.implying Reading.inside
   implying-stopped room below double open_ scope ts [] a e begins h = never_ok (a, []) e h
   implying-stopped zero below double open_ scope ts (t ∷ us) a e begins h = at (is_symbol symbols.Arrow t) refl
     where
       behind : too_deep t.start ≡ e → IsSymbol symbols.Arrow t → Closed schema either zero scope ts a (t ∷ us)
-          ⊎ (MayEndQuantified (t ∷ us) × Behind schema either zero scope ts (t ∷ us)) → Stopped schema end double open_ implied zero scope ts e
+          ⊎ (MayEndQuantified (t ∷ us) × Behind schema either zero scope ts (t ∷ us)) → Stopped schema end double open_ conditional zero scope ts e
       behind same is (inl f) =
           record {
             front = f.front;
@@ -79,16 +79,16 @@ module _ (schema : DatabaseSchema) (end : Refusal) where
           }
       behind same is (inr b) = let close : symbol_of t.text ≡ symbols.Close = b.0 in absurd (cc)
 
-      at : (b : Bool) → is_symbol symbols.Arrow t ≡ b → Stopped schema end double open_ implied zero scope ts e
+      at : (b : Bool) → is_symbol symbols.Arrow t ≡ b → Stopped schema end double open_ conditional zero scope ts e
       at true is =
           let refused = rw (is, Reading.implying) at h in
           behind (cc) (is_symbol-IsSymbol symbols.Arrow t is) (edge schema begins)
       at false is = never_ok (a, t ∷ us) e (rw (is, Reading.implying) at h)
   implying-stopped (suc room) below double open_ scope ts (t ∷ us) a e begins h = at (is_symbol symbols.Arrow t) refl
     where
-      at : (b : Bool) → is_symbol symbols.Arrow t ≡ b → Stopped schema end double open_ implied (suc room) scope ts e
+      at : (b : Bool) → is_symbol symbols.Arrow t ≡ b → Stopped schema end double open_ conditional (suc room) scope ts e
       at true is =
-          by_step (Stopped schema end double open_ implied (suc room) scope ts e) (implied_reader schema end room scope us) _ e
+          by_step (Stopped schema end double open_ conditional (suc room) scope ts e) (implied_reader schema end room scope us) _ e
           (λ h. let s = below.implied_stops double open_ scope us e h in let left = begins-before schema s.front s.back begins s.split in
           record {
             front = left.0;
@@ -103,7 +103,7 @@ module _ (schema : DatabaseSchema) (end : Refusal) where
       at false is = never_ok (a, t ∷ us) e (rw (is, Reading.implying) at h)
 
   equivalent-stopped : (room : ℕ) → StopsAt room → (double open_ : Bool) (scope : Scope) (ts after : List Token) (a : Formula) (e : Refusal)
-      → Begins schema implied room scope ts a after
+      → Begins schema conditional room scope ts a after
       → Reading.equivalent_to schema end (Reading.level_with schema end (Reading.inside schema end room)) scope a after ≡ Err e
       → Stopped schema end double open_ whole room scope ts e
   unfolding Reading.equivalent_to
@@ -135,12 +135,12 @@ module _ (schema : DatabaseSchema) (end : Refusal) where
       record { front = s.front; back = s.back; wanted = s.wanted; split = s.split; breaks_off = before_double_arrow s.breaks_off; refuses = s.refuses })
       (λ x read h. equivalent-stopped room here double open_ scope ts x.1 x.0 e ((sound schema end room).implied_sound scope ts x.1 x.0 read) h) h
 
-  pub implied-stopped : (room : ℕ) → StopsInside room → (double open_ : Bool) (scope : Scope)
+  pub conditional-stopped : (room : ℕ) → StopsInside room → (double open_ : Bool) (scope : Scope)
       → ((ts : List Token) (e : Refusal) → unary_reader schema end room scope ts ≡ Err e → Stopped schema end double open_ unary room scope ts e)
-      → (ts : List Token) (e : Refusal) → implied_reader schema end room scope ts ≡ Err e → Stopped schema end double open_ implied room scope ts e
-  unfolding Reading.implied
-  implied-stopped room below double open_ scope unary_stops ts e h =
-      by_step (Stopped schema end double open_ implied room scope ts e) (Reading.either (unary_reader schema end room scope) ts) _ e
+      → (ts : List Token) (e : Refusal) → implied_reader schema end room scope ts ≡ Err e → Stopped schema end double open_ conditional room scope ts e
+  unfolding Reading.conditional
+  conditional-stopped room below double open_ scope unary_stops ts e h =
+      by_step (Stopped schema end double open_ conditional room scope ts e) (Reading.either (unary_reader schema end room scope) ts) _ e
       (λ h. let s = either-stopped double open_ room scope unary_stops ts e h in
       record { front = s.front; back = s.back; wanted = s.wanted; split = s.split; breaks_off = before_arrow s.breaks_off; refuses = s.refuses })
       (λ x read h. implying-stopped room below double open_ scope ts x.1 x.0 e (either-begins schema end room scope ts x.1 x.0 read) h) h

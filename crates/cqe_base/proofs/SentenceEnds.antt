@@ -6,7 +6,7 @@ use Rattle.cqe_base.specs.Schema.{DatabaseSchema}
 use Rattle.cqe_base.specs.Tokens.{Token, symbol_of}
 use Rattle.cqe_base.specs.Reading
 use Rattle.cqe_base.specs.Reading.{Refusal, Reader, Scope, is_symbol, is_next, unexpected}
-use Rattle.cqe_base.specs.Grammar.{either, implied, whole, MayEndQuantified, Begins}
+use Rattle.cqe_base.specs.Grammar.{either, conditional, whole, MayEndQuantified, Begins}
 use Rattle.cqe_base.specs.Refusals.{behind_operand, Refuses, BreaksOff, before_double_arrow, behind_double_arrow}
 use Rattle.cqe_base.proofs.GrammarSound.{bind_ok, moved, is_symbol-IsSymbol, unary_reader, implied_reader, sound}
 use Rattle.cqe_base.proofs.Cuts.{begins-before}
@@ -23,7 +23,7 @@ pub record EndsSide (rest : List Token) : Type 0 where
 module _ (schema : DatabaseSchema) (end : Refusal) where
   -- a side was read, and this is left
   record EndedSide (room : ℕ) (scope : Scope) (ts rest : List Token) : Type 0 where
-    behind : Behind schema implied room scope ts rest
+    behind : Behind schema conditional room scope ts rest
     ends_side : EndsSide rest
     no_double_arrow : behind.more false ≡ true → is_next symbols.DoubleArrow rest ≡ false
 
@@ -82,21 +82,22 @@ module _ (schema : DatabaseSchema) (end : Refusal) where
       at false e = moved (λ b rest. EndedSide (suc room) scope ts rest) (a, t ∷ us) (b, rest) (rw (e, Reading.implying) at h)
           (alone-ended (suc room) scope ts (t ∷ us) a begins ends e)
 
-  implied-ended : (room : ℕ) → EndsInside room → (scope : Scope) (ts rest : List Token) (a : Formula) → implied_reader schema end room scope ts ≡ Ok (a, rest)
+  conditional-ended : (room : ℕ) → EndsInside room → (scope : Scope) (ts rest : List Token) (a : Formula)
+      → implied_reader schema end room scope ts ≡ Ok (a, rest)
       → EndedSide room scope ts rest
-  unfolding Reading.implied
-  implied-ended room below scope ts rest a h =
+  unfolding Reading.conditional
+  conditional-ended room below scope ts rest a h =
       let k = bind_ok (Reading.either (unary_reader schema end room scope) ts) _ (a, rest) h in
       implying-ended room below scope ts k.0.1 rest k.0.0 a (either-begins schema end room scope ts k.0.1 k.0.0 k.1)
       (either-ends schema end room scope ts k.0.1 k.0.0 k.1) k.2
 
   ends-inside : (room : ℕ) → EndsInside room
   ends-inside zero = tt
-  ends-inside (suc room) = implied-ended room (ends-inside room)
+  ends-inside (suc room) = conditional-ended room (ends-inside room)
 
   side-ended : (room : ℕ) (scope : Scope) (ts rest : List Token) (a : Formula) → implied_reader schema end room scope ts ≡ Ok (a, rest)
       → EndedSide room scope ts rest
-  side-ended room = implied-ended room (ends-inside room)
+  side-ended room = conditional-ended room (ends-inside room)
 
   -- a sentence was read, and this is left
   pub record EndedSentence (room : ℕ) (scope : Scope) (ts rest : List Token) : Type 0 where

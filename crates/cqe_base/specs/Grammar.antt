@@ -13,7 +13,7 @@ use Rattle.cqe_base.specs.Reading.{greatest_nested_quantifiers, greatest_enclosi
 
 -- the parts of a sentence, from the tightest to the loosest
 pub data Part : Type 0 where
-  unary both either implied whole : Part
+  unary both either conditional whole : Part
 
 -- a token is this symbol
 abbrev pub IsSymbol : Symbol → Token → Type 0
@@ -112,18 +112,18 @@ pub data Begins (schema : DatabaseSchema) : Part → ℕ → Scope → List Toke
       → Begins schema either room scope ts (disjunction a b) rest
   -- `->` groups to the right, and what stands to its right is one construct further in
   no_arrow : {room : ℕ} {scope : Scope} {ts rest : List Token} {a : Formula}
-      → Begins schema either room scope ts a rest → Begins schema implied room scope ts a rest
+      → Begins schema either room scope ts a rest → Begins schema conditional room scope ts a rest
   one_arrow : {room : ℕ} {scope : Scope} {t : Token} {ts us rest : List Token} {a b : Formula}
       → Begins schema either (suc room) scope ts a (t ∷ us) → IsSymbol symbols.Arrow t
-      → Begins schema implied room scope us b rest
-      → Begins schema implied (suc room) scope ts (implication a b) rest
+      → Begins schema conditional room scope us b rest
+      → Begins schema conditional (suc room) scope ts (implication a b) rest
   -- `<->` doesn't chain
   no_double_arrow : {room : ℕ} {scope : Scope} {ts rest : List Token} {a : Formula}
-      → Begins schema implied room scope ts a rest → Begins schema whole room scope ts a rest
+      → Begins schema conditional room scope ts a rest → Begins schema whole room scope ts a rest
   one_double_arrow :
       {room : ℕ} {scope : Scope} {t : Token} {ts us rest : List Token} {a b : Formula}
-      → Begins schema implied room scope ts a (t ∷ us) → IsSymbol symbols.DoubleArrow t
-      → Begins schema implied room scope us b rest
+      → Begins schema conditional room scope ts a (t ∷ us) → IsSymbol symbols.DoubleArrow t
+      → Begins schema conditional room scope us b rest
       → Begins schema whole room scope ts (biconditional a b) rest
 
 -- the tokens are a sentence, which means the formula

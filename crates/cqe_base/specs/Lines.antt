@@ -9,16 +9,16 @@ pub record TextLine : Type 0 where
   pub ended : Bool
 
 -- the lines of the bytes to come, after these bytes of the first line
-abbrev pub lines_after : List ℕ → List ℕ → List TextLine
-lines_after [] [] = []
-lines_after (b ∷ line) [] = record { bytes = b ∷ line; ended = false } ∷ []
-lines_after line (b ∷ rest) =
-    if b == 10 then record { bytes = line; ended = true } ∷ lines_after [] rest
-    else lines_after (line ++ b ∷ []) rest
+abbrev pub lines_begun : List ℕ → List ℕ → List TextLine
+lines_begun [] [] = []
+lines_begun (b ∷ line) [] = record { bytes = b ∷ line; ended = false } ∷ []
+lines_begun line (b ∷ rest) =
+    if b == 10 then record { bytes = line; ended = true } ∷ lines_begun [] rest
+    else lines_begun (line ++ b ∷ []) rest
 
 -- the lines of bytes
 unfoldable pub text_lines : List ℕ → List TextLine
-text_lines bytes = lines_after [] bytes
+text_lines bytes = lines_begun [] bytes
 
 -- the bytes without a carriage return at their end
 abbrev pub without_return : List ℕ → List ℕ

@@ -12,7 +12,7 @@ use Rattle.cqe_base.specs.Reading.{Refusal, Scope, TypedTerm, column_domains, te
 use Rattle.cqe_base.specs.Reading.{is_empty, reading, refusal_at_end, greatest_nested_quantifiers}
 use Rattle.cqe_base.specs.Reading.{greatest_enclosing_constructs, unexpected, unknown_name}
 use Rattle.cqe_base.specs.Reading.{wrong_domain, too_deep, wrong_columns}
-use Rattle.cqe_base.specs.Grammar.{Part, unary, both, either, implied, whole, IsSymbol, IsTerm}
+use Rattle.cqe_base.specs.Grammar.{Part, unary, both, either, conditional, whole, IsSymbol, IsTerm}
 use Rattle.cqe_base.specs.Grammar.{Begins, IsQuantifier}
 
 -- what the grammar wants next
@@ -204,24 +204,24 @@ pub data BreaksOff (schema : DatabaseSchema) : (double open_ : Bool) → Part �
       → BreaksOff schema double open_ either room scope ts w
   before_arrow : {double open_ : Bool} {room : ℕ} {scope : Scope} {ts : List Token} {w : Wanted}
       → BreaksOff schema double open_ either room scope ts w
-      → BreaksOff schema double open_ implied room scope ts w
+      → BreaksOff schema double open_ conditional room scope ts w
   behind_arrow : {double open_ : Bool} {room : ℕ} {scope : Scope} {t : Token} {ts us : List Token}
       {a : Formula} {w : Wanted} → Begins schema either (suc room) scope ts a (t ∷ us)
       → IsSymbol symbols.Arrow t
-      → BreaksOff schema double open_ implied room scope us w
-      → BreaksOff schema double open_ implied (suc room) scope ts w
+      → BreaksOff schema double open_ conditional room scope us w
+      → BreaksOff schema double open_ conditional (suc room) scope ts w
   behind_last : {double open_ : Bool} {room : ℕ} {scope : Scope} {ts : List Token} {a : Formula}
       → IsClosedPart schema either room scope ts a
-      → BreaksOff schema double open_ implied room scope ts (behind_operand room double open_)
+      → BreaksOff schema double open_ conditional room scope ts (behind_operand room double open_)
   before_double_arrow :
       {double open_ : Bool} {room : ℕ} {scope : Scope} {ts : List Token} {w : Wanted}
-      → BreaksOff schema true open_ implied room scope ts w
+      → BreaksOff schema true open_ conditional room scope ts w
       → BreaksOff schema double open_ whole room scope ts w
   behind_double_arrow :
       {double open_ : Bool} {room : ℕ} {scope : Scope} {t : Token} {ts us : List Token}
-      {a : Formula} {w : Wanted} → Begins schema implied room scope ts a (t ∷ us)
+      {a : Formula} {w : Wanted} → Begins schema conditional room scope ts a (t ∷ us)
       → IsSymbol symbols.DoubleArrow t
-      → BreaksOff schema false open_ implied room scope us w
+      → BreaksOff schema false open_ conditional room scope us w
       → BreaksOff schema double open_ whole room scope ts w
 
 -- the text is refused so: its first tokens break off in a sentence, and what stands behind them is

@@ -99,28 +99,28 @@ symbol_of text =
     else Name
 
 -- a number for each symbol
-abbrev pub number_of : Symbol → ℕ
-number_of Name = 0
-number_of Not = 1
-number_of And = 2
-number_of Or = 3
-number_of True = 4
-number_of False = 5
-number_of Forall = 6
-number_of Exists = 7
-number_of Open = 8
-number_of Close = 9
-number_of Comma = 10
-number_of Colon = 11
-number_of Dot = 12
-number_of Equal = 13
-number_of Differs = 14
-number_of Arrow = 15
-number_of DoubleArrow = 16
+abbrev pub symbol_number : Symbol → ℕ
+symbol_number Name = 0
+symbol_number Not = 1
+symbol_number And = 2
+symbol_number Or = 3
+symbol_number True = 4
+symbol_number False = 5
+symbol_number Forall = 6
+symbol_number Exists = 7
+symbol_number Open = 8
+symbol_number Close = 9
+symbol_number Comma = 10
+symbol_number Colon = 11
+symbol_number Dot = 12
+symbol_number Equal = 13
+symbol_number Differs = 14
+symbol_number Arrow = 15
+symbol_number DoubleArrow = 16
 
 -- whether two symbols are the same
 abbrev pub same_symbol : Symbol → Symbol → Bool
-same_symbol a b = number_of a == number_of b
+same_symbol a b = symbol_number a == symbol_number b
 
 -- the tokens that aren't words
 abbrev pub marks : List (List ℕ)

@@ -30,7 +30,7 @@ use Rattle.cqe_top.specs.Audit.{user_named}
 use Rattle.cqe_top.specs.Calls.{BeginsWith, EachFollows, GoesOn, OpensOn, HisBatch, HasCome, to_its_end, to_a_stretch, IsTold, by_batch, by_serving}
 use Rattle.cqe_top.specs.Calls.{ComesTo, IsCallOf, with_events, unopened_yet, EachStands, LeaveOneHistory, AreCallsOf, AreRunOf}
 use Rattle.cqe_top.specs.Calls.{Promised, scene_at, journals_at, AnyCallsJoin, AnsweredBatch, journals_in_batch, AnyBatchesJoin}
-use Rattle.cqe_top.specs.Copied.{counted_by, has_standby}
+use Rattle.cqe_top.specs.Mirrored.{counted_by, has_standby}
 use Rattle.cqe_top.specs.Files.{journals_of}
 use Rattle.cqe_top.specs.Lives.{IsLeft, LeavesPart, LeavesParts}
 use Rattle.cqe_top.specs.Scene.{Scene, input_of, output_of, links_of}

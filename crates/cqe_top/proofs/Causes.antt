@@ -36,7 +36,7 @@ use Rattle.cqe_top.specs.declared.end.FilesEnd.{FilesEnd}
 use Rattle.cqe_top.specs.declared.end.FilesEnd.TheVariants as files_end
 use Rattle.cqe_top.specs.declared.report.Report.{Report}
 use Rattle.cqe_top.specs.declared.report.Report.TheVariants as report
-use Rattle.cqe_top.specs.Copied.{counted_with}
+use Rattle.cqe_top.specs.Mirrored.{with_exchange_faults}
 use Rattle.cqe_top.specs.Promise.{OfReading, Does, Always}
 use Rattle.cqe_top.specs.Reports.{report_of, answers_report, copies_report, has_refusal, FaultsHaveCauses}
 use Rattle.cqe_top.specs.Scene.{Scene, HasRisen}
@@ -177,7 +177,7 @@ module _ (s : Scene) where
   standby_cause users copy_end.Memory links shelf disk = has_cause _ tt
 
   -- where none are counted, it was done so
-  pub plainly : (reading : Option Reading) (end : CommandEnd) → counted_with s reading ≡ s → OfReading s reading end → FaultsHaveCauses s end → Always s
+  pub plainly : (reading : Option Reading) (end : CommandEnd) → with_exchange_faults s reading ≡ s → OfReading s reading end → FaultsHaveCauses s end → Always s
       → Does s reading end
   plainly reading end plain of cause always = record {
     command = subst (λ t. OfReading t reading end) (sym plain) of;

@@ -27,10 +27,10 @@ use Rattle.desk_crew.specs.Crew.{named_user}
 use Rattle.outside.specs.declared.links.Links.{Ghosts as LinksGhosts}
 use Rattle.policy_files.specs.Memory.{policy_value_of}
 use Rattle.policy_files.specs.declared.policy.Policy.{Policy}
-use Rattle.cqe_top.specs.Copied.{KeepsDoors}
+use Rattle.cqe_top.specs.Mirrored.{KeepsDoors}
 use Rattle.cqe_top.specs.Files.{TouchesOnlyJournals, journals_of}
 use Rattle.cqe_top.specs.Scene.{ShelfScene, shelf_of, links_of}
-use Rattle.cqe_top.specs.Steps.{copied_counts, copied_journals}
+use Rattle.cqe_top.specs.Steps.{mirrored_counts, mirrored_journals}
 use Rattle.policy_files.specs.Users.{names_of}
 use Rattle.cqe_top.proofs.Users.{names_are, batch_names_are}
 
@@ -97,19 +97,19 @@ module _ {F D C : Type 0} {g : _} (Shelf : ShelfGhosts F D) (Disk : DiskGhosts D
   abbrev marks : (C → ℕ) → Text → ℕ
   marks answered name = marks_told answered (Shelf.disk new name) (place_at slots' name)
 
-  mirrors_copied : (answered : C → ℕ) (directory : Text)
+  mirrors_mirrored : (answered : C → ℕ) (directory : Text)
       → journals_by (λ d. Disk.reads (inner_of d)) (λ d. Disk.image (inner_of d)) (λ d. Disk.moment (inner_of d)) (λ d. Disk.image_since (inner_of d))
       (λ d. told_by answered (mirror_of d)) directory
       (λ name. mirrored_at (Shelf.disk old name) (place_at slots name)) (λ name. mirrored_at (Shelf.disk new name) (place_at slots' name))
       (λ name. Shelf.disk_faults old name + faults_in faults (place_at slots name))
       (λ name. Shelf.disk_faults new name + faults_in faults (place_at slots' name))
-      ≡ copied_journals Shelf Disk directory old new failed (marks answered)
-  mirrors_copied answered directory = λ i. record {
+      ≡ mirrored_journals Shelf Disk directory old new failed (marks answered)
+  mirrors_mirrored answered directory = λ i. record {
     bytes = λ name. bytes_under Disk.reads (Shelf.disk old (journal_name directory name)) (place_at slots (journal_name directory name)) i;
     image_before = λ name. image_under Disk.image (Shelf.disk old (journal_name directory name)) (place_at slots (journal_name directory name)) i;
     before = λ name. none_more (Shelf.disk_faults old (journal_name directory name)) (faults_in faults (place_at slots (journal_name directory name)))
         (fresh (journal_name directory name)) i;
-    now = λ name. copied_counts (Shelf.disk_faults new) failed (journal_name directory name);
+    now = λ name. mirrored_counts (Shelf.disk_faults new) failed (journal_name directory name);
     reads = λ name. bytes_under Disk.reads (Shelf.disk new (journal_name directory name)) (place_at slots' (journal_name directory name)) i;
     image = λ name. image_under Disk.image (Shelf.disk new (journal_name directory name)) (place_at slots' (journal_name directory name)) i;
     began = λ name. moment_under Disk.moment (Shelf.disk old (journal_name directory name)) (place_at slots (journal_name directory name)) i;
@@ -118,19 +118,19 @@ module _ {F D C : Type 0} {g : _} (Shelf : ShelfGhosts F D) (Disk : DiskGhosts D
     told = λ name. told_under answered (Shelf.disk new (journal_name directory name)) (place_at slots' (journal_name directory name)) i;
   }
 
-  pub same_copied : (answered : C → ℕ) (directory : Text)
+  pub same_mirrored : (answered : C → ℕ) (directory : Text)
       → journals_by (λ d. Disk.reads (inner_of d)) (λ d. Disk.image (inner_of d)) (λ d. Disk.moment (inner_of d)) (λ d. Disk.image_since (inner_of d))
       (λ d. told_by answered (mirror_of d)) directory
       (λ name. mirrored_at (Shelf.disk lent name) (place_at lent_slots name)) (λ name. mirrored_at (Shelf.disk new name) (place_at slots' name))
       (λ name. Shelf.disk_faults lent name + faults_in faults (place_at lent_slots name))
       (λ name. Shelf.disk_faults new name + faults_in faults (place_at slots' name))
-      ≡ copied_journals Shelf Disk directory old new failed (marks answered)
-  same_copied answered directory =
+      ≡ mirrored_journals Shelf Disk directory old new failed (marks answered)
+  same_mirrored answered directory =
       (λ i. journals_by (λ d. Disk.reads (inner_of d)) (λ d. Disk.image (inner_of d)) (λ d. Disk.moment (inner_of d)) (λ d. Disk.image_since (inner_of d))
       (λ d. told_by answered (mirror_of d)) directory (λ name. mirrored_at (Shelf.disk (was i) name) (place_at (were i) name))
       (λ name. mirrored_at (Shelf.disk new name) (place_at slots' name))
       (λ name. Shelf.disk_faults (was i) name + faults_in faults (place_at (were i) name))
-      (λ name. Shelf.disk_faults new name + faults_in faults (place_at slots' name))) ∙ mirrors_copied answered directory
+      (λ name. Shelf.disk_faults new name + faults_in faults (place_at slots' name))) ∙ mirrors_mirrored answered directory
 
   -- what the dials told of lies on the disks of the lent shelf
   pub dials_lie : (told : Type 0) (exchanged : C → List Exchange) → (told → (name : Text) → count_in exchanged (place_at slots name) ≡ 0)
@@ -174,18 +174,18 @@ module _ {F D C : Type 0} {g : _} (Shelf : ShelfGhosts F D) (Disk : DiskGhosts D
   pub counts_under : (names : List Text)
       → SameBeside names (λ name. Shelf.disk_faults lent name + faults_in faults (place_at lent_slots name))
       (λ name. Shelf.disk_faults new name + faults_in faults (place_at slots' name))
-      → SameBeside names (Shelf.disk_faults old) (copied_counts (Shelf.disk_faults new) failed)
+      → SameBeside names (Shelf.disk_faults old) (mirrored_counts (Shelf.disk_faults new) failed)
   counts_under names same name other = same name other ∙ counts_before name
 
   pub all_counts_under : SameNames (λ name. Shelf.disk_faults lent name + faults_in faults (place_at lent_slots name))
       (λ name. Shelf.disk_faults new name + faults_in faults (place_at slots' name))
-      → SameNames (Shelf.disk_faults old) (copied_counts (Shelf.disk_faults new) failed)
+      → SameNames (Shelf.disk_faults old) (mirrored_counts (Shelf.disk_faults new) failed)
   all_counts_under same name = same name ∙ counts_before name
 
   -- a count that rose on the shelf with mirrors rose by the disk or by its dial
   pub some_rose_under : SomeRose (λ name. Shelf.disk_faults lent name + faults_in faults (place_at lent_slots name))
       (λ name. Shelf.disk_faults new name + faults_in faults (place_at slots' name))
-      → SomeRose (Shelf.disk_faults old) (copied_counts (Shelf.disk_faults new) failed)
+      → SomeRose (Shelf.disk_faults old) (mirrored_counts (Shelf.disk_faults new) failed)
   some_rose_under rose = (
     rose.0,
     subst (λ n. Rose n (Shelf.disk_faults new rose.0 + faults_in faults (place_at slots' rose.0))) (counts_before rose.0) rose.1,
@@ -194,7 +194,7 @@ module _ {F D C : Type 0} {g : _} (Shelf : ShelfGhosts F D) (Disk : DiskGhosts D
   -- and none fell
   pub none_fell_under : NoneFell (λ name. Shelf.disk_faults lent name + faults_in faults (place_at lent_slots name))
       (λ name. Shelf.disk_faults new name + faults_in faults (place_at slots' name))
-      → NoneFell (Shelf.disk_faults old) (copied_counts (Shelf.disk_faults new) failed)
+      → NoneFell (Shelf.disk_faults old) (mirrored_counts (Shelf.disk_faults new) failed)
   none_fell_under fell name =
       subst (λ n. n ≤ Shelf.disk_faults new name + faults_in faults (place_at slots' name)) (counts_before name) (fell name)
 
@@ -244,20 +244,20 @@ module _ {F D : Type 0} (Shelf : ShelfGhosts F D) (Disk : DiskGhosts D) (old mid
     (failed : Text → ℕ) (files : FileNames) where
   -- the shelf's scene, where exchanges that failed are counted with the faults of the disks
   abbrev pub counted_shelf : ShelfScene
-  counted_shelf = record (shelf_of Shelf Disk old new) { disk_faults' = copied_counts (Shelf.disk_faults new) failed }
+  counted_shelf = record (shelf_of Shelf Disk old new) { disk_faults' = mirrored_counts (Shelf.disk_faults new) failed }
 
   -- where of the disk of each name these marks may be told, its journals are those behind the files
   pub same_counted : (marks : Text → ℕ)
-      → copied_journals Shelf Disk files.directory mid new failed marks ≡ journals_of (record counted_shelf { told' = marks }) files
+      → mirrored_journals Shelf Disk files.directory mid new failed marks ≡ journals_of (record counted_shelf { told' = marks }) files
   same_counted marks =
-      λ i. record (journals_by Disk.reads Disk.image Disk.moment Disk.image_since Disk.told files.directory (λ name. disks name i) (Shelf.disk new)
-      (λ name. counts name i) (copied_counts (Shelf.disk_faults new) failed)) { told = λ name. marks (journal_name files.directory name) }
+      λ i. record (journals_by Disk.reads Disk.image Disk.moment Disk.image_since Disk.tellable files.directory (λ name. disks name i) (Shelf.disk new)
+      (λ name. counts name i) (mirrored_counts (Shelf.disk_faults new) failed)) { told = λ name. marks (journal_name files.directory name) }
 
   -- no disk but the journals of the policy's users was touched, and no other count changed
   pub touches_counted : (policy : Policy) (users : List User) → users ≡ policy.users.items
       → SameBeside (map (journal_name files.directory) (map (λ user. user.name) (map named_user users))) (Shelf.disk mid) (Shelf.disk new)
       → SameBeside (map (journal_name files.directory) (map (λ user. user.name) (map named_user users))) (Shelf.disk_faults mid)
-      (copied_counts (Shelf.disk_faults new) failed)
+      (mirrored_counts (Shelf.disk_faults new) failed)
       → TouchesOnlyJournals counted_shelf files (policy_value_of policy)
   touches_counted policy users are touched counted = (
     λ name none. touched name (ap (λ ns. is_among (map (journal_name files.directory) ns) name) names ∙ none) ∙ disks name,
@@ -268,14 +268,14 @@ module _ {F D : Type 0} (Shelf : ShelfGhosts F D) (Disk : DiskGhosts D) (old mid
       names = ap (λ us. map (λ user. user.name) (map named_user us)) are ∙ batch_names_are policy.users.items ∙ names_are policy.users.items
 
   -- a count that rose behind the files rose in the call
-  pub some_rose_counted : SomeRose (Shelf.disk_faults mid) (copied_counts (Shelf.disk_faults new) failed)
-      → SomeRose (Shelf.disk_faults old) (copied_counts (Shelf.disk_faults new) failed)
-  some_rose_counted rose = (rose.0, subst (λ n. Rose n (copied_counts (Shelf.disk_faults new) failed rose.0)) (counts rose.0) rose.1)
+  pub some_rose_counted : SomeRose (Shelf.disk_faults mid) (mirrored_counts (Shelf.disk_faults new) failed)
+      → SomeRose (Shelf.disk_faults old) (mirrored_counts (Shelf.disk_faults new) failed)
+  some_rose_counted rose = (rose.0, subst (λ n. Rose n (mirrored_counts (Shelf.disk_faults new) failed rose.0)) (counts rose.0) rose.1)
 
   -- and none fell
-  pub none_fell_counted : NoneFell (Shelf.disk_faults mid) (copied_counts (Shelf.disk_faults new) failed)
-      → NoneFell (Shelf.disk_faults old) (copied_counts (Shelf.disk_faults new) failed)
-  none_fell_counted fell name = subst (λ n. n ≤ copied_counts (Shelf.disk_faults new) failed name) (counts name) (fell name)
+  pub none_fell_counted : NoneFell (Shelf.disk_faults mid) (mirrored_counts (Shelf.disk_faults new) failed)
+      → NoneFell (Shelf.disk_faults old) (mirrored_counts (Shelf.disk_faults new) failed)
+  none_fell_counted fell name = subst (λ n. n ≤ mirrored_counts (Shelf.disk_faults new) failed name) (counts name) (fell name)
 
 -- ---- links that dialled, served, and hung up
 

@@ -19,8 +19,8 @@ use Rattle.standby_core.specs.Calls.{IsCallBy, IsCallOn, IsAnsweredIn, IsFromAmo
 use Rattle.standby_core.specs.Users.{texts_for}
 use Rattle.standby_core.proofs.Hanging.{all_weaker}
 use Rattle.cqe_top.specs.declared.end.CommandEnd.{CommandEnd}
-use Rattle.cqe_top.specs.Copied.{IsExchangeWith, IsExchangeFor, CallsAlone, has_standby, failed_exchanges, with_failed, with_told, counted_by}
-use Rattle.cqe_top.specs.Copied.{counted_with}
+use Rattle.cqe_top.specs.Mirrored.{IsExchangeWith, IsExchangeFor, CallsAlone, has_standby, failed_exchanges, with_failed, with_told, counted_by}
+use Rattle.cqe_top.specs.Mirrored.{with_exchange_faults}
 use Rattle.cqe_top.specs.Promise.{OfReading, Does, Always}
 use Rattle.cqe_top.specs.Reports.{FaultsHaveCauses}
 use Rattle.cqe_top.specs.Scene.{Scene, LinksScene}
@@ -32,7 +32,7 @@ use Rattle.cqe_top.specs.declared.over_files.UserTask.TheVariants as user_task
 -- ---- exchanges that are counted
 
 -- where no count of them changed the scene is what it was
-pub counted_same : (s : Scene) (reading : Option Reading) → SameNames s.links.exchange_faults s.links.exchange_faults' → counted_with s reading ≡ s
+pub counted_same : (s : Scene) (reading : Option Reading) → SameNames s.links.exchange_faults s.links.exchange_faults' → with_exchange_faults s reading ≡ s
 counted_same s reading same = by (has_standby reading)
   where
     none : (name : Text) → s.shelf.disk_faults' name + failed_exchanges s.links name ≡ s.shelf.disk_faults' name
@@ -43,7 +43,7 @@ counted_same s reading same = by (has_standby reading)
     by true = λ i. record s { shelf = record s.shelf { disk_faults' = λ name. none name i } }
 
 -- over files alone none are counted
-pub counted_over : (s : Scene) (files : FileNames) (what : Task) → counted_with s (Some (reading_over files what)) ≡ s
+pub counted_over : (s : Scene) (files : FileNames) (what : Task) → with_exchange_faults s (Some (reading_over files what)) ≡ s
 counted_over s files task.Init = refl
 counted_over s files (task.Batch workers) = refl
 counted_over s files (task.OfUser user (user_task.Audit json)) = refl
@@ -55,7 +55,7 @@ counted_over s files (task.Standby copying) = refl
 
 -- those that are counted are the faults of the dials that were hung up
 counted_is : (s : Scene) (reading : Option Reading) (failed : Text → ℕ) → has_standby reading ≡ true
-    → ((name : Text) → s.links.exchange_faults' name ≡ s.links.exchange_faults name + failed name) → with_failed s failed ≡ counted_with s reading
+    → ((name : Text) → s.links.exchange_faults' name ≡ s.links.exchange_faults name + failed name) → with_failed s failed ≡ with_exchange_faults s reading
 counted_is s reading failed is rose = (λ i. with_failed s (λ name. same name i)) ∙ (λ i. counted_by s (sym is i))
   where
     same : (name : Text) → failed name ≡ failed_exchanges s.links name
@@ -66,7 +66,7 @@ pub counted : (s : Scene) (reading : Option Reading) (end : CommandEnd) (failed 
     → ((name : Text) → s.links.exchange_faults' name ≡ s.links.exchange_faults name + failed name) → OfReading (with_failed s failed) reading end
     → FaultsHaveCauses (with_failed s failed) end → Always (with_failed s failed) → Does s reading end
 counted s reading end failed is rose of cause always =
-    let all : with_failed s failed ≡ counted_with s reading = counted_is s reading failed is rose in
+    let all : with_failed s failed ≡ with_exchange_faults s reading = counted_is s reading failed is rose in
     record {
       command = subst (λ t. OfReading t reading end) all of;
       cause = subst (λ t. FaultsHaveCauses t end) all cause;

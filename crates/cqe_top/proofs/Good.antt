@@ -20,7 +20,7 @@ use Rattle.case_engine.specs.Script.{script_of}
 use Rattle.case_engine.specs.declared.case.CaseEnd.{CaseEnd}
 use Rattle.case_engine.specs.declared.case.CaseEnd.TheVariants as case_end
 use Rattle.command_words.specs.Readings.{FileNames, Reading, runs_case, runs_init, runs_batch, runs_audit, runs_selfrun, runs_serve, runs_migrate}
-use Rattle.command_words.specs.Readings.{runs_dossier, runs_check, runs_copied_batch, runs_copied_serve, runs_standby}
+use Rattle.command_words.specs.Readings.{runs_dossier, runs_check, runs_mirrored_batch, runs_mirrored_serve, runs_standby}
 use Rattle.desk_crew.specs.Shelved.{Journals}
 use Rattle.dossier_engine.specs.Checks.{checked_bytes}
 use Rattle.dossier_engine.specs.declared.end.CheckEnd.{CheckEnd}
@@ -51,18 +51,18 @@ use Rattle.cqe_top.specs.Audit.{NamesNobody, CanBeAudited, AuditsOverFiles, Runs
 use Rattle.cqe_top.specs.Batch.{AnswersOverFiles, RunsBatch, BatchSucceeds}
 use Rattle.cqe_top.specs.Case.{RunsCase}
 use Rattle.cqe_top.specs.Check.{two_files, CanBeChecked, ChecksOverFiles, RunsCheck, CheckSucceeds}
-use Rattle.cqe_top.specs.Copied.{KeepsDoors}
+use Rattle.cqe_top.specs.Mirrored.{KeepsDoors}
 use Rattle.cqe_top.specs.Dossier.{ShowsOverFiles, RunsDossier, DossierSucceeds}
 use Rattle.cqe_top.specs.Files.{Said, both, SayOn, IsUnread, IsWhyUnread, journals_of, new_user}
 use Rattle.cqe_top.specs.Init.{Makes, RunsInit, InitSucceeds}
 use Rattle.cqe_top.specs.Migrate.{MovesJournals, RunsMigrate, MigrateSucceeds}
 use Rattle.cqe_top.specs.Promise.{OfReading}
-use Rattle.cqe_top.specs.Ready.{CanBeMade, CanBeMoved, CanBeOpened, CanBeCopied}
+use Rattle.cqe_top.specs.Ready.{CanBeMade, CanBeMoved, CanBeOpened, CanBeMirrored}
 use Rattle.cqe_top.specs.Reports.{answers_report, copies_report, has_refusal, IsDoneUnlessMemory, FaultsHaveCauses}
 use Rattle.cqe_top.specs.Scene.{Scene, ShelfScene, IsUntouched, HasRisen, SameInput, SameOutput, SameLinks, CallsNobody, links_of}
-use Rattle.cqe_top.specs.Steps.{reading_over, reading_copied}
-use Rattle.cqe_top.specs.declared.copied.CopiedTask.{CopiedTask}
-use Rattle.cqe_top.specs.declared.copied.CopiedTask.TheVariants as copied
+use Rattle.cqe_top.specs.Steps.{reading_over, reading_mirrored}
+use Rattle.cqe_top.specs.declared.mirrored.MirroredTask.{MirroredTask}
+use Rattle.cqe_top.specs.declared.mirrored.MirroredTask.TheVariants as copied
 use Rattle.cqe_top.specs.declared.over_files.Task.{Task}
 use Rattle.cqe_top.specs.declared.over_files.Task.TheVariants as task
 use Rattle.cqe_top.specs.declared.over_files.UserTask.{UserTask}
@@ -490,17 +490,17 @@ unread s files (task.Serve listening) end is cause input output links nobody = r
 }
 unread s files (task.Standby copying) end is cause input output links nobody = record {
   ends = (is, links);
-  succeeds = λ told links_told says shelf links. read_succeeds s files (CanBeCopied (journals_of s.shelf files)) end (is.refused told) cause says shelf;
+  succeeds = λ told links_told says shelf links. read_succeeds s files (CanBeMirrored (journals_of s.shelf files)) end (is.refused told) cause says shelf;
   reads_nothing = input;
   writes_nothing = output;
   calls_nobody = nobody;
 }
 
 -- so it is where they were to be done with a standby
-pub unread_copied : (s : Scene) (files : FileNames) (task : CopiedTask) (standby : Text) (end : FilesEnd) → IsUnread s.shelf files end
+pub unread_mirrored : (s : Scene) (files : FileNames) (task : MirroredTask) (standby : Text) (end : FilesEnd) → IsUnread s.shelf files end
     → FaultsHaveCauses s (ends.Files end) → SameInput s.input → SameOutput s.output → KeepsDoors s.links
-    → CallsNobody s.links → OfReading s (Some (reading_copied files task standby)) (ends.Files end)
-unread_copied s files (copied.Batch workers) standby end is cause input output links nobody = record {
+    → CallsNobody s.links → OfReading s (Some (reading_mirrored files task standby)) (ends.Files end)
+unread_mirrored s files (copied.Batch workers) standby end is cause input output links nobody = record {
   told = s.shelf.told';
   ends = (is, input, output);
   succeeds = λ told in_told out_told script says shelf read write.
@@ -508,7 +508,7 @@ unread_copied s files (copied.Batch workers) standby end is cause input output l
   listens_nowhere = inr links;
   calls = nobody.exchanged;
 }
-unread_copied s files (copied.Serve listening) standby end is cause input output links nobody = record {
+unread_mirrored s files (copied.Serve listening) standby end is cause input output links nobody = record {
   told = s.shelf.told';
   ends = (is, links);
   succeeds = λ told links_told says shelf links. read_succeeds s files (CanBeOpened (journals_of s.shelf files)) end (is.refused told) cause says shelf;
@@ -569,14 +569,14 @@ nothing_begun s same nobody (Some (runs_serve files address workers sessions)) =
     }
 nothing_begun s same nobody (Some (runs_migrate files to)) =
     record { ends = same.shelf; succeeds = λ told says shelf. inr refl; reads_nothing = same.input; writes_nothing = same.output; listens_nowhere = same.links }
-nothing_begun s same nobody (Some (runs_copied_batch files workers standby)) = record {
+nothing_begun s same nobody (Some (runs_mirrored_batch files workers standby)) = record {
   told = s.shelf.told';
   ends = (same.shelf, same.input, same.output);
   succeeds = λ told in_told out_told script says shelf read write. inr refl;
   listens_nowhere = inl same.links;
   calls = nobody.exchanged;
 }
-nothing_begun s same nobody (Some (runs_copied_serve files address workers sessions standby)) =
+nothing_begun s same nobody (Some (runs_mirrored_serve files address workers sessions standby)) =
     record {
       told = s.shelf.told';
       ends =

@@ -23,7 +23,7 @@ use Rattle.batch_engine.specs.declared.run.BatchEnd.{BatchEnd}
 use Rattle.batch_engine.specs.declared.run.BatchEnd.TheVariants as batch_end
 use Rattle.batch_engine.proofs.Joining.{batches_are_spans, cut_batches_are_calls, batches_join, cut_batches_join, late_batches_join}
 use Rattle.command_words.specs.Readings.{Reading, FileNames, reading_of, runs_case, runs_init, runs_batch, runs_audit, runs_selfrun, runs_serve}
-use Rattle.command_words.specs.Readings.{runs_migrate, runs_dossier, runs_check, runs_copied_batch, runs_copied_serve, runs_standby}
+use Rattle.command_words.specs.Readings.{runs_migrate, runs_dossier, runs_check, runs_mirrored_batch, runs_mirrored_serve, runs_standby}
 use Rattle.desk_crew.proofs.Lasting.{keeps_same, keeps_all}
 use Rattle.policy_files.specs.Memory.{policy_user_of}
 use Rattle.policy_files.specs.Policies.{PolicyUser, PolicyValue}
@@ -38,7 +38,7 @@ use Rattle.cqe_top.specs.declared.end.CommandEnd.{CommandEnd}
 use Rattle.cqe_top.specs.declared.end.CommandEnd.TheVariants as end
 use Rattle.cqe_top.specs.Audit.{AuditEnds, OfAudit}
 use Rattle.cqe_top.specs.Batch.{BatchEnds, RunsBatch, OfBatch, AnswersOverFiles}
-use Rattle.cqe_top.specs.Copied.{CopiedServeEnds, OfCopiedBatch, OfCopiedServe, with_failed, with_told, failed_exchanges}
+use Rattle.cqe_top.specs.Mirrored.{MirroredServeEnds, OfMirroredBatch, OfMirroredServe, with_failed, with_told, failed_exchanges}
 use Rattle.cqe_top.specs.Dossier.{DossierEnds, OfDossier}
 use Rattle.cqe_top.specs.Files.{both, said_on, SayOn, journals_of, new_user, new_users}
 use Rattle.cqe_top.specs.Lives.{TellsAll, IsEndOf, BatchCallsJoin, IsLeft, LeavesPart, LeavesParts, UsesJournals, CallsAreParts}
@@ -342,23 +342,23 @@ module _ {F D : Type 0} (Shelf : ShelfGhosts F D) (Disk : DiskGhosts D) (old new
     of_serve count marks address workers limit (end.Check checked) runs = absurd runs
     of_serve count marks address workers limit (end.Standby users copied) runs = absurd runs
 
-    of_copied_serve : (marks : Text → ℕ) (address : Text) (workers limit : ℕ) (e : CommandEnd)
-        → CopiedServeEnds (with_told (with_failed (scene_of shelf input output links) (failed_exchanges links)) marks) files address workers limit e → Parts
-    of_copied_serve marks address workers limit (end.Serve users engine_end) runs =
+    of_mirrored_serve : (marks : Text → ℕ) (address : Text) (workers limit : ℕ) (e : CommandEnd)
+        → MirroredServeEnds (with_told (with_failed (scene_of shelf input output links) (failed_exchanges links)) marks) files address workers limit e → Parts
+    of_mirrored_serve marks address workers limit (end.Serve users engine_end) runs =
         of_serve with_exchanges marks address workers limit (end.Serve users engine_end) runs
-    of_copied_serve marks address workers limit (end.Files why) runs = inl (kept_disks runs.0.disks.0)
-    of_copied_serve marks address workers limit end.Memory runs = inl (kept_disks (same_disks runs.0))
-    of_copied_serve marks address workers limit end.Usage runs = absurd runs
-    of_copied_serve marks address workers limit (end.Case case) runs = absurd runs
-    of_copied_serve marks address workers limit (end.Init users init) runs = absurd runs
-    of_copied_serve marks address workers limit (end.Batch users batched) runs = absurd runs
-    of_copied_serve marks address workers limit end.Nobody runs = absurd runs
-    of_copied_serve marks address workers limit (end.Audit name audit) runs = absurd runs
-    of_copied_serve marks address workers limit (end.Selfrun run) runs = absurd runs
-    of_copied_serve marks address workers limit (end.Migrate users moved) runs = absurd runs
-    of_copied_serve marks address workers limit (end.Dossier name shown) runs = absurd runs
-    of_copied_serve marks address workers limit (end.Check checked) runs = absurd runs
-    of_copied_serve marks address workers limit (end.Standby users copied) runs = absurd runs
+    of_mirrored_serve marks address workers limit (end.Files why) runs = inl (kept_disks runs.0.disks.0)
+    of_mirrored_serve marks address workers limit end.Memory runs = inl (kept_disks (same_disks runs.0))
+    of_mirrored_serve marks address workers limit end.Usage runs = absurd runs
+    of_mirrored_serve marks address workers limit (end.Case case) runs = absurd runs
+    of_mirrored_serve marks address workers limit (end.Init users init) runs = absurd runs
+    of_mirrored_serve marks address workers limit (end.Batch users batched) runs = absurd runs
+    of_mirrored_serve marks address workers limit end.Nobody runs = absurd runs
+    of_mirrored_serve marks address workers limit (end.Audit name audit) runs = absurd runs
+    of_mirrored_serve marks address workers limit (end.Selfrun run) runs = absurd runs
+    of_mirrored_serve marks address workers limit (end.Migrate users moved) runs = absurd runs
+    of_mirrored_serve marks address workers limit (end.Dossier name shown) runs = absurd runs
+    of_mirrored_serve marks address workers limit (end.Check checked) runs = absurd runs
+    of_mirrored_serve marks address workers limit (end.Standby users copied) runs = absurd runs
 
     of_reading : (r : Option Reading) (e : CommandEnd) → Does (scene_of shelf input output links) r e → UsesJournals files r → Parts
     of_reading (Some (runs_batch its workers)) e does same =
@@ -370,14 +370,14 @@ module _ {F D : Type 0} (Shelf : ShelfGhosts F D) (Disk : DiskGhosts D) (old new
         (subst (λ (f : FileNames). OfServe (scene_of shelf input output links) f address workers limit e) same does.command).ends
     of_reading (Some (runs_dossier its user)) e does same =
         of_dossier user e (subst (λ (f : FileNames). OfDossier (scene_of shelf input output links) f user e) same does.command).ends
-    of_reading (Some (runs_copied_batch its workers standby)) e does same =
-        let of = subst (λ (f : FileNames). OfCopiedBatch (with_failed (scene_of shelf input output links) (failed_exchanges links)) f standby e) same
+    of_reading (Some (runs_mirrored_batch its workers standby)) e does same =
+        let of = subst (λ (f : FileNames). OfMirroredBatch (with_failed (scene_of shelf input output links) (failed_exchanges links)) f standby e) same
         does.command in
         of_batch with_exchanges of.told e of.ends
-    of_reading (Some (runs_copied_serve its address workers limit standby)) e does same =
+    of_reading (Some (runs_mirrored_serve its address workers limit standby)) e does same =
         let of = subst (λ (f : FileNames).
-        OfCopiedServe (with_failed (scene_of shelf input output links) (failed_exchanges links)) f address workers limit standby e) same does.command in
-        of_copied_serve of.told address workers limit e of.ends
+        OfMirroredServe (with_failed (scene_of shelf input output links) (failed_exchanges links)) f address workers limit standby e) same does.command in
+        of_mirrored_serve of.told address workers limit e of.ends
     of_reading None e does uses = absurd uses
     of_reading (Some runs_case) e does uses = absurd uses
     of_reading (Some (runs_init its)) e does uses = absurd uses

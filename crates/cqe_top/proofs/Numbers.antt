@@ -10,7 +10,7 @@ use Rattle.cqe_top.specs.Steps.{WorkersBounds, ServesBounds}
 use Rattle.command_words.specs.Readings.{Reading, FileNames, runs_init, runs_batch, runs_selfrun, runs_serve, reading_of, reading_with, reading_by, do_fit}
 use Rattle.command_words.specs.Readings.{CommandRow, case_row, init_row, batch_row, audit_row, selfrun_row, serve_row, files_of, audit_said, selfrun_said}
 use Rattle.command_words.specs.Readings.{batch_said, serve_said, value_of, is_used, runs_migrate, migrate_row, migrate_said, dossier_row, dossier_said}
-use Rattle.command_words.specs.Readings.{batch_reading, serve_reading, runs_copied_batch, runs_copied_serve, runs_standby, standby_row, standby_said}
+use Rattle.command_words.specs.Readings.{batch_reading, serve_reading, runs_mirrored_batch, runs_mirrored_serve, runs_standby, standby_row, standby_said}
 use Rattle.command_words.specs.Readings.{check_row, check_said}
 
 -- a number between two, or one of them
@@ -56,8 +56,8 @@ Keeps (runs_batch files workers) = WorkersBounds workers
 Keeps (runs_selfrun seed users asks) = RunsBounds users asks
 Keeps (runs_serve files address workers sessions) = ServesBounds workers sessions
 Keeps (runs_migrate files to) = bytes_eq files.directory to ≡ false
-Keeps (runs_copied_batch files workers standby) = WorkersBounds workers
-Keeps (runs_copied_serve files address workers sessions standby) = ServesBounds workers sessions
+Keeps (runs_mirrored_batch files workers standby) = WorkersBounds workers
+Keeps (runs_mirrored_serve files address workers sessions standby) = ServesBounds workers sessions
 Keeps (runs_standby files address sessions) = sessions ≤ 1073741824
 Keeps reading = Unit {0}
 

@@ -59,7 +59,7 @@ module _ {F D : Type 0} (Shelf : ShelfGhosts F D) (Disk : DiskGhosts D) (old mid
     -- the journals are the same
     pub same_journals : journals_of (shelf_of Shelf Disk mid new) files ≡ journals_of (shelf_of Shelf Disk old new) files
     same_journals =
-        λ i. journals_by Disk.reads Disk.image Disk.moment Disk.image_since Disk.told files.directory (λ name. disks name i) (Shelf.disk new)
+        λ i. journals_by Disk.reads Disk.image Disk.moment Disk.image_since Disk.tellable files.directory (λ name. disks name i) (Shelf.disk new)
         (λ name. counts name i)
         (Shelf.disk_faults new)
 

@@ -20,7 +20,7 @@ use Rattle.user_desk.specs.declared.standing.DeskError.{DeskError}
 use Rattle.user_desk.specs.declared.standing.DeskError.TheVariants as desk_errors
 use Rattle.cqe_top.specs.declared.end.CommandEnd.TheVariants as ends
 use Rattle.cqe_top.specs.Files.{SayOn, journals_of}
-use Rattle.cqe_top.specs.Ready.{CanBeCopied}
+use Rattle.cqe_top.specs.Ready.{CanBeMirrored}
 use Rattle.cqe_top.specs.Reports.{has_refusal, FaultsHaveCauses, IsDoneUnlessMemory}
 use Rattle.cqe_top.specs.Scene.{Scene}
 use Rattle.cqe_top.specs.Standby.{CopiesOverFiles, RunsStandby, StandbySucceeds}
@@ -42,15 +42,15 @@ module _ (header : List ℕ) (journals : Journals) where
   CanCopy user =
       ((why : OpenError) → Refuses header (journals.bytes user.name) why → ⊥) × (Rose (journals.before user.name) (journals.now user.name) → ⊥)
 
-  not_copied : (user : User) (why : DeskError) → CanCopy (policy_user_of user) → IsCopied header journals (string_bytes user.name) (Some why) → ⊥
-  not_copied user (desk_errors.Journal why) can is =
+  not_mirrored : (user : User) (why : DeskError) → CanCopy (policy_user_of user) → IsCopied header journals (string_bytes user.name) (Some why) → ⊥
+  not_mirrored user (desk_errors.Journal why) can is =
       not_refused_at header (journals.bytes (string_bytes user.name)) (journals.before (string_bytes user.name)) (journals.now (string_bytes user.name)) why
       can.0 can.1 is.0 is.1
-  not_copied user (desk_errors.Stale number) can is = is
-  not_copied user (desk_errors.Unlawful number stored computed) can is = is
-  not_copied user (desk_errors.Size number) can is = is
-  not_copied user (desk_errors.Unsafe number) can is = is
-  not_copied user (desk_errors.NotAdmitted admission) can is = is
+  not_mirrored user (desk_errors.Stale number) can is = is
+  not_mirrored user (desk_errors.Unlawful number stored computed) can is = is
+  not_mirrored user (desk_errors.Size number) can is = is
+  not_mirrored user (desk_errors.Unsafe number) can is = is
+  not_mirrored user (desk_errors.NotAdmitted admission) can is = is
 
   none_refused : (users : List User) (refusals : List (Option DeskError)) → AreCopied header journals users refusals
       → AllByRecursion CanCopy (map policy_user_of users) → has_refusal refusals ≡ true → ⊥
@@ -58,7 +58,7 @@ module _ (header : List ℕ) (journals : Journals) where
   none_refused [] (refusal ∷ refusals) copied can says = copied
   none_refused (user ∷ users) [] copied can says = copied
   none_refused (user ∷ users) (None ∷ refusals) copied can says = none_refused users refusals copied.1 can.1 says
-  none_refused (user ∷ users) (Some why ∷ refusals) copied can says = not_copied user why can.0 copied.0
+  none_refused (user ∷ users) (Some why ∷ refusals) copied can says = not_mirrored user why can.0 copied.0
 
   none_failed : (users : List User) → AllByRecursion CanCopy (map policy_user_of users) → SomeFailed journals users → ⊥
   none_failed [] can failed = failed
@@ -71,11 +71,12 @@ module _ (s : Scene) (files : FileNames) (address : List ℕ) (limit : ℕ) wher
       → StandbySucceeds s.shelf s.links files address limit (ends.Standby users end)
   standby_succeeds users (copy_end.Done refusals is_broken is_wanting) ran cause told links_told says shelf links =
       by (agree (CopiesOverFiles s.shelf s.links files address limit users (copy_end.Done refusals is_broken is_wanting))
-      (CanBeCopied (journals_of s.shelf files)) s.shelf files (ran.over_files told) says)
+      (CanBeMirrored (journals_of s.shelf files)) s.shelf files (ran.over_files told) says)
     where
       by : SayOn s.shelf files (λ policy world header.
           CopiesOverFiles s.shelf s.links files address limit users (copy_end.Done refusals is_broken is_wanting) policy world header
-          × CanBeCopied (journals_of s.shelf files) policy world header) → IsDoneUnlessMemory (ends.Standby users (copy_end.Done refusals is_broken is_wanting))
+          × CanBeMirrored (journals_of s.shelf files) policy world header)
+          → IsDoneUnlessMemory (ends.Standby users (copy_end.Done refusals is_broken is_wanting))
       by (policy, world, header, say, (over, can)) =
           copies_done users refusals is_broken is_wanting
           (none_refused header (journals_of s.shelf files) users.items refusals.items over.journals.0 ready)

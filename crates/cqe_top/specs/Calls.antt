@@ -27,7 +27,7 @@ use Rattle.policy_files.specs.Policies.{PolicyUser, PolicyValue}
 use Rattle.serve_engine.specs.Served.{Member}
 use Rattle.serve_engine.specs.Serving.{HasServed}
 use Rattle.cqe_top.specs.Audit.{user_named}
-use Rattle.cqe_top.specs.Copied.{counted_with}
+use Rattle.cqe_top.specs.Mirrored.{with_exchange_faults}
 use Rattle.cqe_top.specs.Files.{both, said_on, journals_of, new_user}
 use Rattle.cqe_top.specs.Lives.{IsLeft, UsesJournals}
 use Rattle.cqe_top.specs.Promise.{Promise}
@@ -202,7 +202,8 @@ module _ {F D S K E L Door Dial In Out : Type 0} (Shelf : ShelfGhosts F D) (Disk
 
   -- its journals, where exchanges with a standby that failed are counted as `top` counts them
   abbrev pub journals_at : Promised → Journals
-  journals_at call = journals_of (counted_with (scene_at call) (reading_of call.words)).shelf files
+  journals_at call =
+      journals_of (with_exchange_faults (scene_at call) (reading_of call.words)).shelf files
 
   -- Of any number of such calls, of which each follows on the one before: whatever a crash leaves
   -- of a user's journal as the last ends, or could at a moment of it, is one history of them all.

@@ -92,7 +92,7 @@ module _ (shelf : ShelfScene) (files : FileNames) where
   -- the journals before the call and behind it
   abbrev pub journals_of : Journals
   journals_of = record (journals_by shelf.Disk.reads shelf.Disk.image shelf.Disk.moment
-      shelf.Disk.image_since shelf.Disk.told files.directory shelf.disk shelf.disk'
+      shelf.Disk.image_since shelf.Disk.tellable files.directory shelf.disk shelf.disk'
       shelf.disk_faults shelf.disk_faults') {
         told = λ name. shelf.told' (journal_name files.directory name);
       }

@@ -12,7 +12,7 @@ pub mod Dossier
 pub mod Check
 pub mod Selfrun
 pub mod Serve
-pub mod Copied
+pub mod Mirrored
 pub mod Standby
 pub mod Promise
 pub mod Lives

@@ -11,8 +11,8 @@ use Rattle.batch_engine.specs.Batch.{EndsBatch}
 use Rattle.batch_engine.specs.Joining.{BatchesJoin, CutBatchesJoin, LateBatchesJoin}
 use Rattle.batch_engine.specs.declared.run.BatchEnd.{BatchEnd}
 use Rattle.command_words.specs.Readings.{Reading, FileNames, reading_of, runs_batch, runs_audit}
-use Rattle.command_words.specs.Readings.{runs_serve, runs_dossier, runs_copied_batch}
-use Rattle.command_words.specs.Readings.{runs_copied_serve}
+use Rattle.command_words.specs.Readings.{runs_serve, runs_dossier, runs_mirrored_batch}
+use Rattle.command_words.specs.Readings.{runs_mirrored_serve}
 use Rattle.policy_files.specs.Policies.{PolicyUser, PolicyValue}
 use Rattle.cqe_top.specs.declared.end.CommandEnd.TheVariants as command_end
 use Rattle.cqe_top.specs.Files.{both, said_on, SayOn, journals_of, new_users}
@@ -88,8 +88,8 @@ UsesJournals files (Some (runs_batch its workers)) = its ≡ files
 UsesJournals files (Some (runs_audit its user json)) = its ≡ files
 UsesJournals files (Some (runs_serve its address workers limit)) = its ≡ files
 UsesJournals files (Some (runs_dossier its user)) = its ≡ files
-UsesJournals files (Some (runs_copied_batch its workers standby)) = its ≡ files
-UsesJournals files (Some (runs_copied_serve its address workers limit standby)) = its ≡ files
+UsesJournals files (Some (runs_mirrored_batch its workers standby)) = its ≡ files
+UsesJournals files (Some (runs_mirrored_serve its address workers limit standby)) = its ≡ files
 UsesJournals files reading = ⊥
 
 -- Whatever `top` promised of a call that uses the journals of files that can be read, it is to each

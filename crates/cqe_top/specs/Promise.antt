@@ -5,8 +5,8 @@ use Rattle.outside.specs.Streams.{AppendsUnless}
 use Rattle.cqe_base.specs.Schema.{Text}
 use Rattle.command_words.specs.Readings.{Reading, reading_of, runs_case, runs_init, runs_batch}
 use Rattle.command_words.specs.Readings.{runs_audit, runs_selfrun, runs_serve, runs_migrate}
-use Rattle.command_words.specs.Readings.{runs_dossier, runs_check, runs_copied_batch}
-use Rattle.command_words.specs.Readings.{runs_copied_serve, runs_standby}
+use Rattle.command_words.specs.Readings.{runs_dossier, runs_check, runs_mirrored_batch}
+use Rattle.command_words.specs.Readings.{runs_mirrored_serve, runs_standby}
 use Rattle.line_protocol.specs.Rests.{IsRest}
 use Rattle.cqe_top.specs.declared.end.CommandEnd.{CommandEnd}
 use Rattle.cqe_top.specs.declared.end.CommandEnd.TheVariants as command_end
@@ -15,7 +15,7 @@ use Rattle.cqe_top.specs.Batch.{OfBatch}
 use Rattle.cqe_top.specs.Case.{OfCase}
 use Rattle.cqe_top.specs.Check.{OfCheck}
 use Rattle.cqe_top.specs.Complaints.{complaint_of}
-use Rattle.cqe_top.specs.Copied.{OfCopiedBatch, OfCopiedServe, counted_with}
+use Rattle.cqe_top.specs.Mirrored.{OfMirroredBatch, OfMirroredServe, with_exchange_faults}
 use Rattle.cqe_top.specs.Dossier.{OfDossier}
 use Rattle.cqe_top.specs.Init.{OfInit}
 use Rattle.cqe_top.specs.Migrate.{OfMigrate}
@@ -44,10 +44,10 @@ OfReading s (Some (runs_serve files address workers limit)) end =
 OfReading s (Some (runs_migrate files to)) end = OfMigrate s files to end
 OfReading s (Some (runs_dossier files user)) end = OfDossier s files user end
 OfReading s (Some (runs_check policy facts user)) end = OfCheck s policy facts user end
-OfReading s (Some (runs_copied_batch files workers standby)) end =
-    OfCopiedBatch s files standby end
-OfReading s (Some (runs_copied_serve files address workers limit standby)) end =
-    OfCopiedServe s files address workers limit standby end
+OfReading s (Some (runs_mirrored_batch files workers standby)) end =
+    OfMirroredBatch s files standby end
+OfReading s (Some (runs_mirrored_serve files address workers limit standby)) end =
+    OfMirroredServe s files address workers limit standby end
 OfReading s (Some (runs_standby files address limit)) end = OfStandby s files address limit end
 
 -- of a shelf, whatever comes: its files are what they were, no disk is out, and no count of faults
@@ -77,9 +77,9 @@ pub record Always (s : Scene) : Type 0 where
 -- holds that the reading says of this end; a fault that is told has its cause, and what holds
 -- whatever comes does.
 pub record Does (s : Scene) (reading : Option Reading) (end : CommandEnd) : Type 0 where
-  pub command : OfReading (counted_with s reading) reading end
-  pub cause : FaultsHaveCauses (counted_with s reading) end
-  pub always : Always (counted_with s reading)
+  pub command : OfReading (with_exchange_faults s reading) reading end
+  pub cause : FaultsHaveCauses (with_exchange_faults s reading) end
+  pub always : Always (with_exchange_faults s reading)
 
 -- There is an end, of which all holds that the reading of the words says; where they name a standby
 -- exchanges with it that failed are counted as faults of the users' disks, each of that whose name

@@ -34,8 +34,8 @@ CanBeMoved old new policy world header = AllByRecursion (λ user.
 
 -- as the call begins each user's disk shows no reason to refuse it as a journal with this header,
 -- and it has no fault in the call
-abbrev pub CanBeCopied : Journals → PolicyValue → FactSet → List ℕ → Type 0
-CanBeCopied journals policy world header = AllByRecursion (λ user.
+abbrev pub CanBeMirrored : Journals → PolicyValue → FactSet → List ℕ → Type 0
+CanBeMirrored journals policy world header = AllByRecursion (λ user.
     ((why : OpenError) → Refuses header (journals.bytes user.name) why → ⊥)
     × HasNoFault journals user) policy.users
 

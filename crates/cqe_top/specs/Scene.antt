@@ -173,7 +173,7 @@ shelf_of {F} {D} Shelf Disk old new = record {
   is_out' = Shelf.is_out new;
   disk_faults = Shelf.disk_faults old;
   disk_faults' = Shelf.disk_faults new;
-  told' = λ name. told_on Disk.told (Shelf.disk new name);
+  told' = λ name. told_on Disk.tellable (Shelf.disk new name);
   faults = record { before = Shelf.faults old; now = Shelf.faults new };
   Object = F;
   object = old;

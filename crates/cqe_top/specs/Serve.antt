@@ -3,7 +3,7 @@
 -- Ends: Serve, Files, Memory.
 use Rattle.std.specs.Prelude.{◌≡◌, ◌⊎◌, ◌++◌, ◌∷◌, [], ◌+◌, ◌<◌, ◌≤◌, ℕ, List, Vec}
 use Rattle.std.specs.declared.alloc.Global.{Global}
-use Rattle.outside.specs.Visits.{place_of}
+use Rattle.outside.specs.Visits.{door_place_of}
 use Rattle.cqe_base.specs.Facts.{FactSet}
 use Rattle.cqe_base.specs.Schema.{Text}
 use Rattle.cqe_base.specs.declared.user.User.{User}
@@ -23,7 +23,7 @@ use Rattle.cqe_top.specs.Scene.{SameDisks, SameShelf, SameInput, SameOutput, Sam
 
 -- the links listened once more, at this address and with so many doors
 abbrev pub ListensAt : LinksScene → Text → ℕ → Type 0
-ListensAt links address doors = links.listened' ≡ links.listened ++ place_of address doors ∷ []
+ListensAt links address doors = links.listened' ≡ links.listened ++ door_place_of address doors ∷ []
 
 -- The connections that were given in this call come up to the limit. With one more for each door
 -- that answered in the call that no further one comes, they are at least the limit; with one more

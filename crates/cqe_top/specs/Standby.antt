@@ -16,7 +16,7 @@ use Rattle.cqe_top.specs.declared.end.CommandEnd.{CommandEnd}
 use Rattle.cqe_top.specs.declared.end.CommandEnd.TheVariants as command_end
 use Rattle.cqe_top.specs.Files.{SayOn, LooksAtBoth, IsUnread, TouchesOnlyJournals, journals_of}
 use Rattle.cqe_top.specs.Files.{AreUsersOf}
-use Rattle.cqe_top.specs.Ready.{CanBeCopied}
+use Rattle.cqe_top.specs.Ready.{CanBeMirrored}
 use Rattle.cqe_top.specs.Reports.{IsDoneUnlessMemory}
 use Rattle.cqe_top.specs.Scene.{Scene, ShelfScene, LinksScene, HasRisen, CallsNobody}
 use Rattle.cqe_top.specs.Scene.{SameDisks, SameShelf, SameInput, SameOutput, SameLinks}
@@ -45,8 +45,8 @@ module _ (shelf : ShelfScene) (links : LinksScene) (files : FileNames) (address 
     pub listens : links.tells → (links.listened' ≡ links.listened) ⊎ ListensAt links address 1
     -- where it didn't listen it touched no disk
     pub unheard : links.tells → links.listened' ≡ links.listened → SameDisks shelf
-    pub heard : links.tells → standing.IsServed end → ListensAt links address 1
-    pub ends : links.tells → standing.IsServed end
+    pub heard : links.tells → standing.HasListened end → ListensAt links address 1
+    pub ends : links.tells → standing.HasListened end
         → (links.at_hand' ≡ 0) ⊎ (links.given' ≡ links.given + limit)
     pub left : links.tells → links.left ≡ links.at_hand → links.left' ≡ links.at_hand'
     pub left_all : links.tells → links.left ≡ links.at_hand
@@ -61,11 +61,11 @@ module _ (shelf : ShelfScene) (links : LinksScene) (files : FileNames) (address 
   StandbyEnds command_end.Memory = SameShelf shelf × SameLinks links
   StandbyEnds end = ⊥
 
-  -- where no fault comes (of the users' disks `CanBeCopied` says it), it goes to its end over
+  -- where no fault comes (of the users' disks `CanBeMirrored` says it), it goes to its end over
   -- journals that can be opened, unless memory is wanting
   abbrev pub StandbySucceeds : CommandEnd → Type 0
   StandbySucceeds end =
-      shelf.tells → links.tells → SayOn shelf files (CanBeCopied (journals_of shelf files))
+      shelf.tells → links.tells → SayOn shelf files (CanBeMirrored (journals_of shelf files))
       → (HasRisen shelf.faults → ⊥) → (HasRisen links.faults → ⊥) → IsDoneUnlessMemory end
 
 -- `standby` over the files of these names, at this address, for so many connections at most; it

@@ -7,7 +7,7 @@ use Rattle.cqe_base.specs.Schema.{Text}
 use Rattle.command_words.specs.Readings.{Reading, FileNames, names_of_files, runs_case, runs_init}
 use Rattle.command_words.specs.Readings.{runs_batch, runs_audit, runs_selfrun, runs_serve}
 use Rattle.command_words.specs.Readings.{runs_migrate, runs_dossier, runs_check}
-use Rattle.command_words.specs.Readings.{runs_copied_batch, runs_copied_serve, runs_standby}
+use Rattle.command_words.specs.Readings.{runs_mirrored_batch, runs_mirrored_serve, runs_standby}
 use Rattle.desk_crew.specs.Shelved.{Journals, journals_by}
 use Rattle.log_journal.specs.Names.{journal_name}
 use Rattle.outside.specs.declared.disk.Disk.{Ghosts as DiskGhosts}
@@ -20,13 +20,13 @@ use Rattle.cqe_top.specs.declared.end.FilesEnd.{FilesEnd}
 use Rattle.cqe_top.specs.declared.end.FilesEnd.TheVariants.{Missing, ShelfFault, Policy}
 use Rattle.cqe_top.specs.declared.end.FilesEnd.TheVariants.{Facts, Memory}
 use Rattle.cqe_top.specs.declared.over_files.Task.{Task}
-use Rattle.cqe_top.specs.declared.copied.CopiedTask.{CopiedTask}
-use Rattle.cqe_top.specs.declared.copied.CopiedTask.TheVariants as copied
+use Rattle.cqe_top.specs.declared.mirrored.MirroredTask.{MirroredTask}
+use Rattle.cqe_top.specs.declared.mirrored.MirroredTask.TheVariants as copied
 use Rattle.cqe_top.specs.declared.over_files.Task.TheVariants.{Init, Batch, OfUser, Migrate, Serve}
 use Rattle.cqe_top.specs.declared.over_files.Task.TheVariants.{Standby}
 use Rattle.cqe_top.specs.declared.over_files.UserTask.TheVariants.{Audit, Dossier, Check}
 use Rattle.cqe_top.specs.declared.part.Part.{Part}
-use Rattle.cqe_top.specs.declared.part.Part.TheVariants.{Case, Selfrun, OverFiles, Copied}
+use Rattle.cqe_top.specs.declared.part.Part.TheVariants.{Case, Selfrun, OverFiles, Mirrored}
 
 -- ---- why one file wasn't read
 
@@ -69,18 +69,18 @@ reading_over files (Serve listening) =
 reading_over files (Standby copying) = runs_standby files copying.address.now copying.sessions
 
 -- the reading that a task with a standby at an address stands for
-abbrev pub reading_copied : FileNames → CopiedTask → Text → Reading
-reading_copied files (copied.Batch workers) standby = runs_copied_batch files workers standby
-reading_copied files (copied.Serve listening) standby =
-    runs_copied_serve files listening.address.now listening.workers listening.sessions standby
+abbrev pub reading_mirrored : FileNames → MirroredTask → Text → Reading
+reading_mirrored files (copied.Batch workers) standby = runs_mirrored_batch files workers standby
+reading_mirrored files (copied.Serve listening) standby =
+    runs_mirrored_serve files listening.address.now listening.workers listening.sessions standby
 
 -- the reading that a part of a command stands for
 abbrev pub reading_of_part : Part → Reading
 reading_of_part Case = runs_case
 reading_of_part (Selfrun words) = runs_selfrun words.seed words.users words.asks
 reading_of_part (OverFiles files task) = reading_over (names_of_files files) task
-reading_of_part (Copied files task standby) =
-    reading_copied (names_of_files files) task standby.now
+reading_of_part (Mirrored files task standby) =
+    reading_mirrored (names_of_files files) task standby.now
 
 -- the limits of the workers of a batch
 pub record WorkersBounds (workers : ℕ) : Type 0 where
@@ -105,23 +105,23 @@ KeepsBounds files (Serve listening) = ServesBounds listening.workers listening.s
 KeepsBounds files (Standby copying) = copying.sessions ≤ 2 ^ 30
 
 -- the numbers of a batch and of a server with a standby are within their bounds
-abbrev pub KeepsCopiedBounds : CopiedTask → Type 0
-KeepsCopiedBounds (copied.Batch workers) = WorkersBounds workers
-KeepsCopiedBounds (copied.Serve listening) = ServesBounds listening.workers listening.sessions
+abbrev pub KeepsMirroredBounds : MirroredTask → Type 0
+KeepsMirroredBounds (copied.Batch workers) = WorkersBounds workers
+KeepsMirroredBounds (copied.Serve listening) = ServesBounds listening.workers listening.sessions
 
 -- ---- journals that a standby copies
 
 -- the counts of faults under names, with those of the dials of these names
-abbrev pub copied_counts : (Text → ℕ) → (Text → ℕ) → Text → ℕ
-copied_counts count failed name = count name + failed name
+abbrev pub mirrored_counts : (Text → ℕ) → (Text → ℕ) → Text → ℕ
+mirrored_counts count failed name = count name + failed name
 
 -- the journals of users in a directory, where so many exchanges with a standby failed for each
 -- disk, and the marks with lower numbers than this may be told
-abbrev pub copied_journals : {F D : Type 0} → ShelfGhosts F D → DiskGhosts D → Text → F → F
+abbrev pub mirrored_journals : {F D : Type 0} → ShelfGhosts F D → DiskGhosts D → Text → F → F
     → (Text → ℕ) → (Text → ℕ) → Journals
-copied_journals Shelf Disk directory old new failed marks =
-    record (journals_by Disk.reads Disk.image Disk.moment Disk.image_since Disk.told directory
+mirrored_journals Shelf Disk directory old new failed marks =
+    record (journals_by Disk.reads Disk.image Disk.moment Disk.image_since Disk.tellable directory
     (Shelf.disk old) (Shelf.disk new) (Shelf.disk_faults old)
-    (copied_counts (Shelf.disk_faults new) failed)) {
+    (mirrored_counts (Shelf.disk_faults new) failed)) {
       told = λ name. marks (journal_name directory name);
     }

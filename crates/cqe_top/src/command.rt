@@ -8,12 +8,12 @@ ghost use Rattle.cqe_top.specs.Promise.{Promise, Does};
 ghost use Rattle.cqe_top.specs.Scene.{scene_of, shelf_of, input_of, output_of, links_of};
 
 use crate::complaint::complain;
-use crate::copied::run_copied;
 use crate::end::CommandEnd;
 use crate::laws::{
     law_any_batches_join, law_any_calls_join, law_calls_are_parts, law_calls_join,
     law_dossiers_are_found_sound, law_standbys_keep, law_takeovers_join,
 };
+use crate::mirrored::run_mirrored;
 use crate::over_files::run_over_files;
 use crate::part::{Part, part_of};
 use crate::report::{report_of, status_of};
@@ -130,7 +130,7 @@ where
         Part::OverFiles(files, task) => {
             run_over_files(rt, alloc, files, task, shelf, source, sink, links, gate)
         }
-        Part::Copied(files, task, standby) => run_copied(
+        Part::Mirrored(files, task, standby) => run_mirrored(
             rt, alloc, files, task, standby, shelf, source, sink, links, gate,
         ),
     }

@@ -14,10 +14,10 @@
 
 mod command;
 mod complaint;
-mod copied;
 mod end;
 mod files;
 pub mod laws;
+mod mirrored;
 mod over_files;
 mod part;
 mod report;

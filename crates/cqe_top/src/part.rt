@@ -4,7 +4,7 @@ ghost use Rattle.command_words.specs.Readings.{reading_in};
 ghost use Rattle.command_words.specs.declared.command.Command.{Command};
 ghost use Rattle.cqe_top.specs.Steps.{reading_of_part};
 
-use crate::copied::CopiedTask;
+use crate::mirrored::MirroredTask;
 use crate::over_files::{Task, UserTask};
 use command_words::{BatchWords, Command, Files, SelfrunWords, ServeWords};
 use serve_engine::Listening;
@@ -20,7 +20,7 @@ pub(crate) enum Part<'w> {
     /// Something is done over the files of these names.
     OverFiles(Files<'w>, Task<'w>),
     /// The same with a standby at this address, which copies the journals.
-    Copied(Files<'w>, CopiedTask<'w>, &'w str),
+    Mirrored(Files<'w>, MirroredTask<'w>, &'w str),
 }
 
 /// What this command does.
@@ -65,7 +65,7 @@ fn batch_part<'w>(words: BatchWords<'w>) -> Part<'w>
 {
     match words.standby {
         None => Part::OverFiles(words.files, Task::Batch(words.workers)),
-        Some(standby) => Part::Copied(words.files, CopiedTask::Batch(words.workers), standby),
+        Some(standby) => Part::Mirrored(words.files, MirroredTask::Batch(words.workers), standby),
     }
 }
 
@@ -80,6 +80,6 @@ fn serve_part<'w>(words: ServeWords<'w>) -> Part<'w>
     };
     match words.standby {
         None => Part::OverFiles(words.files, Task::Serve(listening)),
-        Some(standby) => Part::Copied(words.files, CopiedTask::Serve(listening), standby),
+        Some(standby) => Part::Mirrored(words.files, MirroredTask::Serve(listening), standby),
     }
 }

@@ -40,7 +40,7 @@ pub record IsClosed {D : Type 0} (Disk : DiskGhosts D) (kept : Fixed D)
   pub cause : has_broke pairs ≡ true → Rose (Disk.faults kept.disk) (Disk.faults disk)
   pub size : Disk.tells → has_broke pairs ≡ false
       → IsNoLonger (Disk.reads kept.disk) (history_of pairs) (Disk.reads disk)
-  pub told : Disk.tells → length (history_of pairs) ≤ Disk.told disk
+  pub told : Disk.tells → length (history_of pairs) ≤ Disk.tellable disk
   pub shut : is_sealed kept.standing ≡ true → disk ≡ kept.disk
   pub still : IsAsOpened kept pairs → disk ≡ kept.disk
   pub since : Disk.tells → is_sealed kept.standing ≡ false → (c : List ℕ)

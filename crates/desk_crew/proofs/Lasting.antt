@@ -104,7 +104,7 @@ stands_along journals name true stands taken opened closed now past since_opened
 module _ {D : Type 0} (Disk : DiskGhosts D) (directory : Text) (disk disk' : Text → Option D) (count count' : Text → ℕ) where
   -- where no disk was touched, all are
   pub keeps_same : ((d : D) (c : List ℕ) → Disk.image_since d (Disk.moment d) c → Disk.image d c) → SameNames disk disk'
-      → KeepsJournals (journals_by Disk.reads Disk.image Disk.moment Disk.image_since Disk.told directory disk disk' count count')
+      → KeepsJournals (journals_by Disk.reads Disk.image Disk.moment Disk.image_since Disk.tellable directory disk disk' count count')
   keeps_same only_now same name = (
     ap (bytes_on Disk.reads) (same (journal_name directory name)),
     λ c at. subst (λ d. image_on Disk.image d c) (same (journal_name directory name)) at,
@@ -114,7 +114,7 @@ module _ {D : Type 0} (Disk : DiskGhosts D) (directory : Text) (disk disk' : Tex
 
   -- and where all read as before, and no crash left anything new, at no moment either
   pub keeps_all : SameBytes Disk.reads disk disk' → NoNewImages Disk.image disk disk' → NoNewMoments Disk.moment Disk.image_since Disk.image disk disk'
-      → KeepsJournals (journals_by Disk.reads Disk.image Disk.moment Disk.image_since Disk.told directory disk disk' count count')
+      → KeepsJournals (journals_by Disk.reads Disk.image Disk.moment Disk.image_since Disk.tellable directory disk disk' count count')
   keeps_all bytes images moments name = (
     bytes (journal_name directory name),
     λ c at. images (journal_name directory name) c at,

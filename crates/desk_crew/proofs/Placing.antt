@@ -10,7 +10,7 @@ use Rattle.cqe_base.specs.Facts.{FactSet}
 use Rattle.cqe_base.specs.declared.user.User.{User}
 use Rattle.cqe_base.proofs.Truths.{or_first, or_second}
 use Rattle.user_desk.specs.declared.standing.DeskError.{DeskError}
-use Rattle.desk_crew.specs.Crew.{seat_disk, IsLeft}
+use Rattle.desk_crew.specs.Crew.{seat_disk, IsLeftOpen}
 use Rattle.desk_crew.specs.Seats.{DeskSeat}
 use Rattle.desk_crew.specs.declared.seat.Returned.{Returned}
 use Rattle.desk_crew.specs.Side.{DeskPlace, DeskOpening, place_of, at_seat, is_shut, AtDisk, IfAtDisk, IsAtDisk, HasPlace, place_journal, opening_journal}
@@ -101,15 +101,15 @@ module _ {D : Type 0} {g h : _} where
         → IsLeftFrom Disk (Some place) disk
     shut_left counts_now only_now (Ok seat) disk shut = record { closed = disk; is_closed = shut; left = left_same Disk counts_now only_now disk }
     shut_left counts_now only_now (Err closed) disk shut =
-        subst (λ d. IsLeft Disk closed.disk d) (sym shut) (left_same Disk counts_now only_now closed.disk)
+        subst (λ d. IsLeftOpen Disk closed.disk d) (sym shut) (left_same Disk counts_now only_now closed.disk)
 
 module _ (schema : DatabaseSchema) (world : FactSet) (header : List ℕ) {D : Type 0} {g h : _} (Disk : DiskGhosts D) where
   -- where a journal was tried and its disk is left so, it is as one opening leaves it
   placed_left : (user : User) (journal : Text) (before : Option DeskError) (first : D) (now : DeskPlace D g h) (disk : D)
-      → IsPlaced schema world header Disk user journal before first now → IsLeftFrom Disk (Some now) disk → IsLeft Disk first disk
+      → IsPlaced schema world header Disk user journal before first now → IsLeftFrom Disk (Some now) disk → IsLeftOpen Disk first disk
   placed_left user journal before first (Ok seat) disk placed left =
       left_on Disk first (seat_disk seat) disk placed.left
-      (subst (λ d. IsLeft Disk d disk) (left.is_closed.still placed.opened.fresh) left.left)
+      (subst (λ d. IsLeftOpen Disk d disk) (left.is_closed.still placed.opened.fresh) left.left)
   placed_left user journal before first (Err returned) disk placed left = left_on Disk first returned.disk disk placed.left left
 
   module _ (user : User) (before : Option DeskError) where

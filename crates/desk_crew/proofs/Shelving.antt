@@ -13,7 +13,7 @@ use Rattle.cqe_base.specs.Schema.{Text, has_duplicate}
 use Rattle.cqe_base.proofs.Truths.{or_first, or_second}
 use Rattle.cqe_base.proofs.Lists.{or_assoc, text_is}
 use Rattle.std.proofs.lemmas.List.Folds.{list_any-append}
-use Rattle.desk_crew.specs.Crew.{seat_journal, seat_broke, IsLeft, IsClosed}
+use Rattle.desk_crew.specs.Crew.{seat_journal, seat_broke, IsLeftOpen, IsClosed}
 use Rattle.desk_crew.specs.Shelved.{IsBack}
 use Rattle.desk_crew.specs.Seats.{DeskSeat}
 
@@ -105,7 +105,7 @@ module _ {D : Type 0} {g h : _} where
 
 module _ {D : Type 0} (Disk : DiskGhosts D) where
   pub left_same : ((d : D) (t : ℕ) (c : List ℕ) → t ≤ Disk.moment d → Disk.image d c → Disk.image_since d t c)
-      → ((d : D) (c : List ℕ) → Disk.image_since d (Disk.moment d) c → Disk.image d c) → (d : D) → IsLeft Disk d d
+      → ((d : D) (c : List ℕ) → Disk.image_since d (Disk.moment d) c → Disk.image d c) → (d : D) → IsLeftOpen Disk d d
   left_same counts_now only_now d = record {
     reads_same = refl;
     images = λ c is. is;
@@ -117,7 +117,7 @@ module _ {D : Type 0} (Disk : DiskGhosts D) where
     rests = only_now d;
   }
 
-  pub left_on : (a b c : D) → IsLeft Disk a b → IsLeft Disk b c → IsLeft Disk a c
+  pub left_on : (a b c : D) → IsLeftOpen Disk a b → IsLeftOpen Disk b c → IsLeftOpen Disk a c
   left_on a b c first second = record {
     reads_same = second.reads_same ∙ first.reads_same;
     images = λ bytes is. first.images bytes (second.images bytes is);

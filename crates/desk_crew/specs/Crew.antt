@@ -110,13 +110,13 @@ journal_seated (Err returned) = string_bytes returned.journal
 -- an opening leaves a disk as it was: it reads the same, no crash leaves anything new, at no moment
 -- of it either, its count of faults didn't fall, it comes from where it came, each mark that might
 -- be told still may, and where what was told of lay there, it does now
-pub record IsLeft {D : Type 0} (Disk : DiskGhosts D)
+pub record IsLeftOpen {D : Type 0} (Disk : DiskGhosts D)
     (old new : D) : Type 0 where
   pub reads_same : Disk.reads new ≡ Disk.reads old
   pub images : (c : List ℕ) → Disk.image new c → Disk.image old c
   pub later : Disk.faults old ≤ Disk.faults new
   pub comes : Disk.origin new ≡ Disk.origin old
-  pub still_told : Disk.told old ≤ Disk.told new
+  pub still_told : Disk.tellable old ≤ Disk.tellable new
   pub there : Disk.tells → AreThere (Disk.heard old) (Disk.reads old)
       → AreThere (Disk.heard new) (Disk.reads new)
   pub time : Elapses (Disk.moment old) (Disk.moment new) (Disk.image_since old)
@@ -135,7 +135,7 @@ pub record IsLeftBy {D : Type 0} {g h : _} (Disk : DiskGhosts D)
     (desk : SoleOf (TicketedDesk D g) TurnItem (Fixed D) h) (now : D) : Type 0 where
   pub closed : D
   pub is_closed : IsClosed Disk desk closed
-  pub left : IsLeft Disk closed now
+  pub left : IsLeftOpen Disk closed now
 
 module _ (schema : DatabaseSchema) (world : FactSet) where
   -- a seat's user got this reply to a call, and all but his desk's state is as it was
@@ -209,7 +209,7 @@ module _ (schema : DatabaseSchema) (world : FactSet) (header : List ℕ) where
       pub closed : D
       pub is_closed : IsClosed Disk old.desk closed
       pub opened : IsOpenedFrom closed old.refusal new
-      pub left : IsLeft Disk closed (seat_disk new)
+      pub left : IsLeftOpen Disk closed (seat_disk new)
 
     -- all were
     abbrev pub AreReopened : {g h : _} → List (DeskSeat D g h) → List (DeskSeat D g h) → Type 0

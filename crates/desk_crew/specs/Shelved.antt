@@ -12,7 +12,8 @@ use Rattle.cqe_base.specs.declared.user.User.{User}
 use Rattle.log_journal.specs.Names.{journal_name}
 use Rattle.log_journal.specs.Records.{Recorded}
 use Rattle.log_journal.specs.Walk.{AreThere}
-use Rattle.desk_crew.specs.Crew.{seat_user, seat_journal, seat_disk, IsLeft, IsLeftBy, IsOpenedFrom}
+use Rattle.desk_crew.specs.Crew.{seat_user, seat_journal, seat_disk}
+use Rattle.desk_crew.specs.Crew.{IsLeftOpen, IsLeftBy, IsOpenedFrom}
 use Rattle.desk_crew.specs.Seats.{DeskSeat}
 
 -- The journals of users by their names, in a call: the bytes that were read of each as the call
@@ -59,7 +60,7 @@ journals_by reads image moment since told directory disk disk' count count' = re
 -- the same by a shelf as a call began and as it ended
 abbrev pub journals_on : {F D : Type 0} → ShelfGhosts F D → DiskGhosts D → Text → F → F → Journals
 journals_on Shelf Disk directory old new =
-    journals_by Disk.reads Disk.image Disk.moment Disk.image_since Disk.told directory
+    journals_by Disk.reads Disk.image Disk.moment Disk.image_since Disk.tellable directory
     (Shelf.disk old) (Shelf.disk new) (Shelf.disk_faults old) (Shelf.disk_faults new)
 
 -- The journal of this name was first opened in the call at a moment of its disk's clock. Up to it
@@ -165,7 +166,7 @@ module _ {D : Type 0} (told : Type 0) (Disk : DiskGhosts D) where
       pub unheard : HeardNothing (Disk.heard taken)
       pub counted : Disk.faults taken ≡ count (seat_journal seat)
       pub opened : IsOpenedFrom schema world header Disk taken None seat
-      pub left : IsLeft Disk taken (seat_disk seat)
+      pub left : IsLeftOpen Disk taken (seat_disk seat)
 
     -- those of all users were
     abbrev pub AreSeatsOf : {g h : _} → (Text → Option D) → (Text → ℕ) → List User

@@ -19,7 +19,7 @@ use Rattle.desk_counter.specs.declared.item.Fixed.{Fixed}
 use Rattle.desk_counter.specs.declared.ticketed_desk.Owned.{Ghosts as OwnedGhosts}
 use Rattle.desk_counter.specs.declared.ticketed_desk.TicketedDesk.{TicketedDesk}
 use Rattle.desk_crew.specs.Crew.{seat_user, seat_journal, seat_disk, disk_seated, journal_seated}
-use Rattle.desk_crew.specs.Crew.{IsLeft, IsLeftBy, IsClosed, IsOpenedFrom}
+use Rattle.desk_crew.specs.Crew.{IsLeftOpen, IsLeftBy, IsClosed, IsOpenedFrom}
 use Rattle.desk_crew.specs.Seats.{DeskSeat}
 use Rattle.desk_crew.specs.declared.opening.Opening.{Opening}
 use Rattle.desk_crew.specs.declared.seat.Returned.{Returned}
@@ -125,7 +125,7 @@ abbrev pub IsLeftFrom : {D : Type 0} {g h : _} → DiskGhosts D → Option (Desk
     → Type 0
 IsLeftFrom Disk None disk = ⊥
 IsLeftFrom Disk (Some (Ok seat)) disk = IsLeftBy Disk seat.desk disk
-IsLeftFrom Disk (Some (Err closed)) disk = IsLeft Disk closed.disk disk
+IsLeftFrom Disk (Some (Err closed)) disk = IsLeftOpen Disk closed.disk disk
 
 module _ {D : Type 0} (told : Type 0) (Disk : DiskGhosts D) where
   -- a journal's disk is back
@@ -188,7 +188,7 @@ module _ (schema : DatabaseSchema) (world : FactSet) where
     pub record IsPlaced {g h : _} (user : User) (journal : Text) (before : Option DeskError)
         (disk : D) (place : DeskPlace D g h) : Type 0 where
       pub journal_is : journal_seated place ≡ journal
-      pub left : IsLeft Disk disk (disk_seated place)
+      pub left : IsLeftOpen Disk disk (disk_seated place)
       pub user_is : IfOk place (λ seat. seat_user seat ≡ user)
       pub opened : IfOk place (IsOpenedFrom schema world header Disk disk before)
 
@@ -222,7 +222,7 @@ module _ (schema : DatabaseSchema) (world : FactSet) where
       pub user_is : seat_user seat ≡ user
       pub journal_is : seat_journal seat ≡ string_bytes closed.journal
       pub opened : IsOpenedFrom schema world header Disk closed.disk before seat
-      pub left : IsLeft Disk closed.disk (seat_disk seat)
+      pub left : IsLeftOpen Disk closed.disk (seat_disk seat)
 
     -- a seat is that of an opening
     abbrev pub IsSeatFrom : {g h : _} → DeskOpening D g h → DeskSeat D g h → Type 0

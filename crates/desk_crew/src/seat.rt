@@ -9,7 +9,7 @@ ghost use Rattle.user_log.specs.Replies.{reply_of};
 ghost use Rattle.desk_counter.specs.Items.{has_broke};
 ghost use Rattle.desk_counter.specs.Sole.{pairs_of_sole};
 ghost use Rattle.desk_crew.specs.Crew.{first_refusal, seat_user, seat_kept};
-ghost use Rattle.desk_crew.specs.Crew.{disk_seated, journal_seated, IsLeft, IsClosed};
+ghost use Rattle.desk_crew.specs.Crew.{disk_seated, journal_seated, IsLeftOpen, IsClosed};
 ghost use Rattle.desk_crew.specs.Crew.{IsToldAt, IsOpenedFrom};
 
 use crate::registry::Registry;
@@ -76,7 +76,7 @@ pub(crate) fn seat_at<'w, D: Disk>(
         (header_bytes registry.now.header.now) D.Disk disk before) }
     ensures user { IfOk result (λ seat. seat_user seat ≡ user.now) }
     ensures journal { journal_seated result ≡ string_bytes journal }
-    ensures left { IsLeft D.Disk disk (disk_seated result) }
+    ensures left { IsLeftOpen D.Disk disk (disk_seated result) }
 {
     match open_desk(
         alloc,

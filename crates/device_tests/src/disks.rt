@@ -175,7 +175,7 @@ impl Disk for UntoldDisk {
 
     ghost faults = { λ d. d.faults };
 
-    ghost told = { λ d. 2 ^ 64 };
+    ghost tellable = { λ d. 2 ^ 64 };
 
     ghost heard = { λ disk number one. ⊥ };
 

@@ -5,15 +5,15 @@ use Rattle.std.specs.Prelude.{if◌then◌else◌, nat_lt}
 use Rattle.std.proofs.lemmas.Bool.{eq-eqb, ne_eqb}
 use Rattle.std.proofs.lemmas.Bool.Decides.{nat_tests}
 use Rattle.std.proofs.lemmas.List.{append-nil, take_all, drop_all, length-take-le, take-append-drop, get_or_append_left, drop_more}
-use Rattle.cqe_base.specs.Lines.{TextLine, lines_after, text_lines, is_too_long, without_return}
-use Rattle.cqe_base.proofs.TextLines.{lines_after-feed, lines_after-skip}
+use Rattle.cqe_base.specs.Lines.{TextLine, lines_begun, text_lines, is_too_long, without_return}
+use Rattle.cqe_base.proofs.TextLines.{lines_begun-feed, lines_begun-skip}
 use Rattle.line_protocol.specs.Feeds.{HasNoFeedBelow, HasFeedAt}
 use Rattle.line_protocol.specs.Reads.{TakesLine, BeginsTooLong, whole_line}
 
 -- the lines of bytes without a line feed at their front
-text_lines-skip : (bytes : List ℕ) (n : ℕ) → n ≤ length bytes → HasNoFeedBelow n bytes → text_lines bytes ≡ lines_after (take n bytes) (drop n bytes)
+text_lines-skip : (bytes : List ℕ) (n : ℕ) → n ≤ length bytes → HasNoFeedBelow n bytes → text_lines bytes ≡ lines_begun (take n bytes) (drop n bytes)
 unfolding text_lines
-text_lines-skip bytes n fits none = lines_after-skip [] bytes n fits (λ k low. ne_eqb (get_or bytes k 0) 10 (none k low))
+text_lines-skip bytes n fits none = lines_begun-skip [] bytes n fits (λ k low. ne_eqb (get_or bytes k 0) 10 (none k low))
 
 -- more bytes bring no line feed to the front
 pub no_feed_before : (bytes left : List ℕ) (n : ℕ) → n ≤ length bytes → HasNoFeedBelow n bytes → HasNoFeedBelow n (bytes ++ left)
@@ -32,7 +32,7 @@ feed_before bytes left n feed =
     }
 
 -- a line that has begun is the first, with all that it has
-begun : (line bytes : List ℕ) → 4096 < length line → (first : TextLine) × (rest : List TextLine) × (lines_after line bytes ≡ first ∷ rest)
+begun : (line bytes : List ℕ) → 4096 < length line → (first : TextLine) × (rest : List TextLine) × (lines_begun line bytes ≡ first ∷ rest)
     × (is_too_long first ≡ true)
 begun [] bytes long = absurd (omega arith)
 begun (b ∷ line) [] long =
@@ -40,11 +40,11 @@ begun (b ∷ line) [] long =
     (record { bytes = b ∷ line; ended = false }, [], refl, too_long)
 begun (b ∷ line) (c ∷ bytes) long =
     elim (c == 10) as (λ t. (first : TextLine) × (rest : List TextLine)
-    × ((if t then record { bytes = b ∷ line; ended = true } ∷ lines_after [] bytes else lines_after (b ∷ line ++ c ∷ []) bytes) ≡ first ∷ rest)
+    × ((if t then record { bytes = b ∷ line; ended = true } ∷ lines_begun [] bytes else lines_begun (b ∷ line ++ c ∷ []) bytes) ≡ first ∷ rest)
     × (is_too_long first ≡ true)) [
       | true ↦
           let too_long : nat_lt 4096 (length (b ∷ line)) ≡ true = grind (arith, nat_tests) in
-          (record { bytes = b ∷ line; ended = true }, lines_after [] bytes, refl, too_long)
+          (record { bytes = b ∷ line; ended = true }, lines_begun [] bytes, refl, too_long)
       | false ↦ begun (b ∷ line ++ c ∷ []) bytes (omega (arith, length-append (b ∷ line) (c ∷ [])))
     ]
 
@@ -71,8 +71,8 @@ takes_first bytes n feed fits =
       first = record { bytes = take n bytes; ended = true };
       lines =
           text_lines-skip bytes n some feed.first
-          ∙ ap (λ (l : List ℕ). lines_after (take n bytes) l) split
-          ∙ lines_after-feed (take n bytes) (drop (n + 1) bytes) (get_or bytes n 0) (eq-eqb (get_or bytes n 0) 10 here);
+          ∙ ap (λ (l : List ℕ). lines_begun (take n bytes) l) split
+          ∙ lines_begun-feed (take n bytes) (drop (n + 1) bytes) (get_or bytes n 0) (eq-eqb (get_or bytes n 0) 10 here);
       bytes = sym (take-append-drop n bytes) ∙ ap (λ (l : List ℕ). take n bytes ++ l) (split ∙ ap (λ (b : ℕ). b ∷ drop (n + 1) bytes) here)
           ∙ sym (append_assoc (take n bytes) (10 ∷ []) (drop (n + 1) bytes));
       fits = grind (arith, nat_tests);
@@ -98,7 +98,7 @@ takes_last (b ∷ bytes) none some fits =
 pub too_long : (bytes left : List ℕ) (n : ℕ) → n ≤ length bytes → HasNoFeedBelow n bytes → 4096 < n → BeginsTooLong (bytes ++ left)
 too_long bytes left n within none long =
     let size : length (take n (bytes ++ left)) ≡ n = length-take-le n (bytes ++ left) (omega (arith, length-append bytes left)) in
-    let skipped : text_lines (bytes ++ left) ≡ lines_after (take n (bytes ++ left)) (drop n (bytes ++ left)) =
+    let skipped : text_lines (bytes ++ left) ≡ lines_begun (take n (bytes ++ left)) (drop n (bytes ++ left)) =
     text_lines-skip (bytes ++ left) n (omega (arith, length-append bytes left)) (no_feed_before bytes left n within none) in
     let has = begun (take n (bytes ++ left)) (drop n (bytes ++ left)) (omega arith) in
     record { first = has.0; rest = has.1; lines = skipped ∙ has.2; too_long = has.3 }

@@ -114,8 +114,8 @@ impl<D: Disk> Journal<D> {
         ensures whole { OnOk result (is_broken self.new ≡ false) }
 
         // Behind Ok its mark may be told, and those that might be before it still may.
-        ensures may_be_told { OnOk result (count_of self.old < D.told (disk_of self.new)) }
-        ensures told { D.told (disk_of self.old) ≤ D.told (disk_of self.new) }
+        ensures may_be_told { OnOk result (count_of self.old < D.tellable (disk_of self.new)) }
+        ensures tellable { D.tellable (disk_of self.old) ≤ D.tellable (disk_of self.new) }
 
         // What was told of is a record that lies there.
         ensures heard { D.tells
@@ -207,8 +207,8 @@ fn put_told<D: Disk>(
         (D.image_since disk.new) }
     ensures moments { D.tells → (c : List ℕ) → D.image_since disk.new (D.moment disk.old) c
         → KeepsOrAdds (D.reads disk.old) (kind, text.now) c }
-    ensures may_be_told { OnOk result (number < D.told disk.new) }
-    ensures told { D.told disk.old ≤ D.told disk.new }
+    ensures may_be_told { OnOk result (number < D.tellable disk.new) }
+    ensures tellable { D.tellable disk.old ≤ D.tellable disk.new }
     ensures heard { D.tells → AreThere (D.heard disk.old) (D.reads disk.old)
         → AreThere (D.heard disk.new) (D.reads disk.new) }
     ensures origin { D.origin disk.new ≡ D.origin disk.old }
@@ -248,7 +248,7 @@ fn put_record<D: Disk>(
         (D.image_since disk.new) }
     ensures moments { D.tells → (c : List ℕ) → D.image_since disk.new (D.moment disk.old) c
         → KeepsOrAdds (D.reads disk.old) (kind, text.now) c }
-    ensures told { D.told disk.old ≤ D.told disk.new }
+    ensures tellable { D.tellable disk.old ≤ D.tellable disk.new }
     ensures heard { HearsNoMore (D.heard disk.old) (D.heard disk.new) }
     ensures origin { D.origin disk.new ≡ D.origin disk.old }
     ensures cause { HasCause (D.faults disk.old) (D.faults disk.new) result }

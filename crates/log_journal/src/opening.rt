@@ -200,7 +200,7 @@ fn record_at<D: Disk>(
         (D.moment disk.old) (D.moment disk.new) (D.image_since disk.old) (D.image_since disk.new)
         (D.faults disk.old) (D.faults disk.new) }
     ensures origin { D.origin disk.new ≡ D.origin disk.old }
-    ensures still_told { D.told disk.old ≤ D.told disk.new }
+    ensures still_told { D.tellable disk.old ≤ D.tellable disk.new }
     ensures heard { HearsNoMore (D.heard disk.old) (D.heard disk.new) }
 {
     let mut window = [0; WINDOW];
@@ -228,7 +228,7 @@ fn read_records<D: Disk>(
         (D.moment disk.old) (D.moment disk.new) (D.image_since disk.old) (D.image_since disk.new)
         (D.faults disk.old) (D.faults disk.new) }
     ensures origin { D.origin disk.new ≡ D.origin disk.old }
-    ensures still_told { D.told disk.old ≤ D.told disk.new }
+    ensures still_told { D.tellable disk.old ≤ D.tellable disk.new }
     ensures heard { HearsNoMore (D.heard disk.old) (D.heard disk.new) }
 {
     let mut records = Vec::new(alloc);
@@ -257,7 +257,7 @@ fn read_header<D: Disk>(disk: &mut D, first: &[u8; 8], header: &Header) -> Resul
         (D.moment disk.old) (D.moment disk.new) (D.image_since disk.old) (D.image_since disk.new)
         (D.faults disk.old) (D.faults disk.new) }
     ensures origin { D.origin disk.new ≡ D.origin disk.old }
-    ensures still_told { D.told disk.old ≤ D.told disk.new }
+    ensures still_told { D.tellable disk.old ≤ D.tellable disk.new }
     ensures heard { HearsNoMore (D.heard disk.old) (D.heard disk.new) }
 {
     let _length = disk.length()?;
@@ -292,7 +292,7 @@ fn read_journal<D: Disk>(
         (D.moment disk.old) (D.moment disk.new) (D.image_since disk.old) (D.image_since disk.new)
         (D.faults disk.old) (D.faults disk.new) }
     ensures origin { D.origin disk.new ≡ D.origin disk.old }
-    ensures still_told { D.told disk.old ≤ D.told disk.new }
+    ensures still_told { D.tellable disk.old ≤ D.tellable disk.new }
     ensures heard { HearsNoMore (D.heard disk.old) (D.heard disk.new) }
 {
     read_header(disk, first, header)?;
@@ -318,7 +318,7 @@ fn read_synced<D: Disk>(
         (D.faults disk.old) (D.faults disk.new)) }
     ensures reads { D.reads disk.new ≡ D.reads disk.old }
     ensures origin { D.origin disk.new ≡ D.origin disk.old }
-    ensures still_told { D.told disk.old ≤ D.told disk.new }
+    ensures still_told { D.tellable disk.old ≤ D.tellable disk.new }
     ensures heard { HearsNoMore (D.heard disk.old) (D.heard disk.new) }
     ensures durable { OnOk result (Only (D.reads disk.new) (D.image disk.new)) }
     ensures synced { IfErr result (λ why. (why ≡ OpenError.DiskFault)
@@ -347,13 +347,13 @@ fn read_told<D: Disk>(
     ensures ends { D.tells → IfOk result (λ r. EndsAt (D.reads disk.new) r.1) }
     ensures counted { D.tells
         → IfOk result (λ r. length r.0.items ≡ length (records (D.reads disk.new))) }
-    ensures told { IfOk result (λ r. length r.0.items ≤ D.told disk.new) }
+    ensures tellable { IfOk result (λ r. length r.0.items ≤ D.tellable disk.new) }
     ensures refused { IfErr result
         (IsRefused D.tells (header_bytes header.now) (D.reads disk.old) (D.faults disk.old)
         (D.faults disk.new)) }
     ensures reads { D.reads disk.new ≡ D.reads disk.old }
     ensures origin { D.origin disk.new ≡ D.origin disk.old }
-    ensures still_told { D.told disk.old ≤ D.told disk.new }
+    ensures still_told { D.tellable disk.old ≤ D.tellable disk.new }
     ensures heard { D.tells → AreThere (D.heard disk.old) (D.reads disk.old)
         → AreThere (D.heard disk.new) (D.reads disk.new) }
     ensures durable { OnOk result (Only (D.reads disk.new) (D.image disk.new)) }
@@ -389,7 +389,7 @@ pub fn open<D: Disk>(
     ensures each { IfOk result (λ r. All (IsRecord 5) r.1.items) }
     ensures whole { IfOk result (λ r. is_broken r.0 ≡ false) }
     ensures number { IfOk result (λ r. count_of r.0 ≡ length r.1.items) }
-    ensures told { IfOk result (λ r. length r.1.items ≤ D.told (disk_of r.0)) }
+    ensures tellable { IfOk result (λ r. length r.1.items ≤ D.tellable (disk_of r.0)) }
 
     // Bytes are refused exactly where they show a reason: what is opened shows none, a refusal has
     // its cause, and a journal with this header is refused for a fault or for want of memory alone.
@@ -406,7 +406,7 @@ pub fn open<D: Disk>(
     ensures origin { D.origin (disk_after result) ≡ D.origin disk }
 
     // No mark that might be told before may not be told any more.
-    ensures still_told { D.told disk ≤ D.told (disk_after result) }
+    ensures still_told { D.tellable disk ≤ D.tellable (disk_after result) }
 
     // What was told of is a record that lies there.
     ensures heard { D.tells → AreThere (D.heard disk) (D.reads disk)

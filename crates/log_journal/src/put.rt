@@ -20,7 +20,7 @@ pub(crate) fn write_synced<D: Disk>(disk: &mut D, at: u64, piece: &[u8]) -> Resu
         (D.image_since disk.new) }
     ensures moments { (c : List ℕ) → D.image_since disk.new (D.moment disk.old) c
         → Torn at (length piece.now) (D.reads disk.old) c }
-    ensures told { D.told disk.old ≤ D.told disk.new }
+    ensures tellable { D.tellable disk.old ≤ D.tellable disk.new }
     ensures heard { HearsNoMore (D.heard disk.old) (D.heard disk.new) }
     ensures origin { D.origin disk.new ≡ D.origin disk.old }
     ensures cause { HasCause (D.faults disk.old) (D.faults disk.new) result }
@@ -48,7 +48,7 @@ pub(crate) fn put<D: Disk>(disk: &mut D, gate: u64, piece: &[u8]) -> Result<(), 
         (D.image_since disk.new) }
     ensures moments { D.tells → (c : List ℕ) → D.image_since disk.new (D.moment disk.old) c
         → IsBetween (D.reads disk.old) gate piece.now c }
-    ensures told { D.told disk.old ≤ D.told disk.new }
+    ensures tellable { D.tellable disk.old ≤ D.tellable disk.new }
     ensures heard { HearsNoMore (D.heard disk.old) (D.heard disk.new) }
     ensures origin { D.origin disk.new ≡ D.origin disk.old }
     ensures cause { HasCause (D.faults disk.old) (D.faults disk.new) result }

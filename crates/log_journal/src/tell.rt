@@ -21,8 +21,8 @@ pub(crate) fn tell_record<D: Disk>(
     requires high { kind ≤ 5 }
     requires short { length text.now ≤ 4096 }
     requires few { number + 1 < 2 ^ 64 }
-    ensures may_be_told { OnOk result (number < D.told disk.new) }
-    ensures told { D.told disk.old ≤ D.told disk.new }
+    ensures may_be_told { OnOk result (number < D.tellable disk.new) }
+    ensures tellable { D.tellable disk.old ≤ D.tellable disk.new }
     ensures heard { HearsAtMost number (kind, text.now) (D.heard disk.old) (D.heard disk.new) }
     ensures origin { D.origin disk.new ≡ D.origin disk.old }
     ensures only { IsOnlyRead (D.reads disk.old) (D.reads disk.new) (D.image disk.old)
@@ -40,8 +40,8 @@ pub(crate) fn tell_all<D: Disk>(disk: &mut D, all: &[Record]) -> Result<(), Fail
     requires durable { Only (D.reads disk.old) (D.image disk.old) }
     requires each { All (IsRecord 5) all.now }
     requires few { length all.now < 2 ^ 64 }
-    ensures told { OnOk result (length all.now ≤ D.told disk.new) }
-    ensures still_told { D.told disk.old ≤ D.told disk.new }
+    ensures tellable { OnOk result (length all.now ≤ D.tellable disk.new) }
+    ensures still_told { D.tellable disk.old ≤ D.tellable disk.new }
     ensures heard { D.tells → AreThere (D.heard disk.old) (D.reads disk.old)
         → AreThere (D.heard disk.new) (D.reads disk.new) }
     ensures origin { D.origin disk.new ≡ D.origin disk.old }

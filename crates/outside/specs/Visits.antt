@@ -11,13 +11,13 @@ pub record Visit : Type 0 where
   pub sink_whole : Bool
 
 -- An address at which links listened, and how many doors they opened there.
-pub record Place : Type 0 where
+pub record DoorPlace : Type 0 where
   pub address : List ℕ
   pub doors : ℕ
 
 -- the place with this address and so many doors
-abbrev pub place_of : List ℕ → ℕ → Place
-place_of address doors = record { address = address; doors = doors }
+abbrev pub door_place_of : List ℕ → ℕ → DoorPlace
+door_place_of address doors = record { address = address; doors = doors }
 
 -- the visit of two ends, by what the source held, what the sink has written, and the counts of both
 abbrev pub visit_of : List ℕ → List ℕ → ℕ → ℕ → Visit

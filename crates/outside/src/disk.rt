@@ -35,7 +35,7 @@ pub trait Disk {
 
     /// The marks of the records with lower numbers may be told. No call lowers it. A disk that
     /// nothing copies lets all be told.
-    ghost told: { Self → ℕ };
+    ghost tellable: { Self → ℕ };
 
     /// Something was told of this record with this number, its kind and its text. Of a disk that
     /// nothing copies nothing ever is.
@@ -53,7 +53,7 @@ pub trait Disk {
             (image_since self.new) }
         ensures moments { (c : List ℕ) → image_since self.new (moment self.old) c
             → image self.old c }
-        ensures told { told self.old ≤ told self.new }
+        ensures tellable { tellable self.old ≤ tellable self.new }
         ensures heard { HearsNoMore (heard self.old) (heard self.new) }
         ensures origin { origin self.new ≡ origin self.old }
         ensures cause { HasCause (faults self.old) (faults self.new) result };
@@ -71,7 +71,7 @@ pub trait Disk {
             (image_since self.new) }
         ensures moments { (c : List ℕ) → image_since self.new (moment self.old) c
             → image self.old c }
-        ensures told { told self.old ≤ told self.new }
+        ensures tellable { tellable self.old ≤ tellable self.new }
         ensures heard { HearsNoMore (heard self.old) (heard self.new) }
         ensures origin { origin self.new ≡ origin self.old }
         ensures cause { HasCause (faults self.old) (faults self.new) result };
@@ -88,7 +88,7 @@ pub trait Disk {
             (image_since self.new) }
         ensures moments { (c : List ℕ) → image_since self.new (moment self.old) c
             → image self.old c ⊎ image self.new c }
-        ensures told { told self.old ≤ told self.new }
+        ensures tellable { tellable self.old ≤ tellable self.new }
         ensures heard { HearsNoMore (heard self.old) (heard self.new) }
         ensures origin { origin self.new ≡ origin self.old }
         ensures cause { HasCause (faults self.old) (faults self.new) result };
@@ -102,7 +102,7 @@ pub trait Disk {
             (image_since self.new) }
         ensures moments { (c : List ℕ) → image_since self.new (moment self.old) c
             → image self.old c }
-        ensures told { told self.old ≤ told self.new }
+        ensures tellable { tellable self.old ≤ tellable self.new }
         ensures heard { HearsNoMore (heard self.old) (heard self.new) }
         ensures origin { origin self.new ≡ origin self.old }
         ensures cause { HasCause (faults self.old) (faults self.new) result };
@@ -116,8 +116,8 @@ pub trait Disk {
         requires high { kind ≤ 5 }
         requires short { length text.now ≤ 4096 }
         requires few { number + 1 < 2 ^ 64 }
-        ensures may_be_told { OnOk result (number < told self.new) }
-        ensures told { told self.old ≤ told self.new }
+        ensures may_be_told { OnOk result (number < tellable self.new) }
+        ensures tellable { tellable self.old ≤ tellable self.new }
         ensures heard { HearsAtMost number (kind, text.now) (heard self.old) (heard self.new) }
         ensures origin { origin self.new ≡ origin self.old }
         ensures reads { reads self.new ≡ reads self.old }

@@ -6,7 +6,8 @@ ghost use Rattle.std.specs.List.{sum_by};
 ghost use Rattle.outside.specs.Dials.{Exchange};
 ghost use Rattle.outside.specs.Faults.{Rose, HasCause};
 ghost use Rattle.outside.specs.Shelf.{SameNames, SameOthers};
-ghost use Rattle.outside.specs.Visits.{Visit, Place, place_of, visit_of, one_if_any, came, IfCame};
+ghost use Rattle.outside.specs.Visits.{Visit, visit_of, one_if_any, came, IfCame};
+ghost use Rattle.outside.specs.Visits.{DoorPlace, door_place_of};
 ghost use Rattle.outside.specs.Visits.{UnlessCame, OnEnd, UnlessEnd};
 
 use crate::{Dial, Failed, Sink, Source};
@@ -133,7 +134,7 @@ pub trait Links {
     ghost ended: { Self → ℕ };
 
     /// Where they listened, in order, where clauses are told.
-    ghost listened: { Self → List Place };
+    ghost listened: { Self → List DoorPlace };
 
     /// The count of faults, which doesn't fall.
     ghost faults: { Self → ℕ };
@@ -171,7 +172,7 @@ pub trait Links {
         ensures none_out { OnErr result (out self.new ≡ out self.old) }
         ensures ended { ended self.new ≡ ended self.old }
         ensures listened { tells → OnOk result (listened self.new
-            ≡ listened self.old ++ place_of address.now doors ∷ []) }
+            ≡ listened self.old ++ door_place_of address.now doors ∷ []) }
         ensures unheard { tells → OnErr result (listened self.new ≡ listened self.old) }
         ensures given { tells → given self.new ≡ given self.old }
         ensures left { tells → left self.new ≡ left self.old }

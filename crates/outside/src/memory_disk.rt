@@ -182,7 +182,7 @@ impl Disk for MemoryDisk {
 
     ghost faults = { memory_faults };
 
-    ghost told = { λ d. 2 ^ 64 };
+    ghost tellable = { λ d. 2 ^ 64 };
 
     ghost heard = { λ disk number one. ⊥ };
 

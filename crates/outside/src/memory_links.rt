@@ -3,7 +3,7 @@ ghost use Rattle.std.specs.Prelude.{◌≡◌, ◌≤◌, ◌<◌, ◌+◌, ◌-
 ghost use Rattle.std.specs.Prelude.{vec_capacity, IfOk, OnOk, OnErr, List, ℕ};
 ghost use Rattle.std.specs.List.{sum_by};
 ghost use Rattle.outside.specs.Shelf.{SameNames};
-ghost use Rattle.outside.specs.Visits.{place_of, one_if_any};
+ghost use Rattle.outside.specs.Visits.{door_place_of, one_if_any};
 ghost use Rattle.outside.specs.MemoryDoors.{door_given, door_left, door_back, door_ends};
 ghost use Rattle.outside.specs.MemoryDoors.{door_faults};
 
@@ -194,7 +194,7 @@ impl MemoryLinks {
         ensures left { links_left self.new ≡ links_left self.old }
         ensures back { links_back self.new ≡ links_back self.old }
         ensures listened { OnOk result (links_listened self.new
-            ≡ links_listened self.old ++ place_of address.now doors ∷ []) }
+            ≡ links_listened self.old ++ door_place_of address.now doors ∷ []) }
         ensures unheard { OnErr result (links_listened self.new ≡ links_listened self.old) }
         ensures faults { links_faults self.new ≡ links_faults self.old }
         ensures dialling { links_dialling self.new ≡ links_dialling self.old }

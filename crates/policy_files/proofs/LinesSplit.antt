@@ -8,8 +8,8 @@ use Rattle.std.proofs.lemmas.Bool.Decides.{nat_tests}
 use Rattle.std.proofs.lemmas.List.Sums.{prefix_len_passes}
 use Rattle.std.proofs.lemmas.List.{take_all, drop_all, drop_more}
 use Rattle.std.proofs.lemmas.List.Quantifiers.{position-Some}
-use Rattle.cqe_base.specs.Lines.{lines_after, text_lines, without_return}
-use Rattle.cqe_base.proofs.TextLines.{no_lines, lines_after-feed, lines_after-skip}
+use Rattle.cqe_base.specs.Lines.{lines_begun, text_lines, without_return}
+use Rattle.cqe_base.proofs.TextLines.{no_lines, lines_begun-feed, lines_begun-skip}
 
 abbrev pub is_feed : ℕ → Bool
 is_feed b = b == 10
@@ -30,9 +30,9 @@ first_line bytes n found =
     let within : n < length bytes = at.0 in
     let equal : (get_or bytes n 0 == 10) ≡ true = at.1 in
     let split : drop n bytes ≡ get_or bytes n 0 ∷ drop (n + 1) bytes = drop_more bytes n 0 within in
-    lines_after-skip [] bytes n (omega arith) at.2
-    ∙ ap (λ (l : List ℕ). lines_after (take n bytes) l) split
-    ∙ lines_after-feed (take n bytes) (drop (n + 1) bytes) (get_or bytes n 0) equal
+    lines_begun-skip [] bytes n (omega arith) at.2
+    ∙ ap (λ (l : List ℕ). lines_begun (take n bytes) l) split
+    ∙ lines_begun-feed (take n bytes) (drop (n + 1) bytes) (get_or bytes n 0) equal
 
 -- where none is found there is none
 none_found : (bytes : List ℕ) → position is_feed bytes ≡ None → HasNoFeedBelow (length bytes) bytes
@@ -52,7 +52,7 @@ last_line (b ∷ bytes) none some =
     let no_feed : HasNoFeedBelow (length (b ∷ bytes)) (b ∷ bytes) = none_found (b ∷ bytes) none in
     let all : take (length bytes) bytes ≡ bytes = take_all (length bytes) bytes (omega arith) in
     let none_left : drop (length bytes) bytes ≡ [] = drop_all (length bytes) bytes (omega arith) in
-    lines_after-skip [] (b ∷ bytes) (length (b ∷ bytes)) (omega arith) no_feed ∙ rw (all, none_left) refl
+    lines_begun-skip [] (b ∷ bytes) (length (b ∷ bytes)) (omega arith) no_feed ∙ rw (all, none_left) refl
 
 -- a carriage return at the end of bytes
 pub without_last : (front : List ℕ) (last : ℕ) → (last == 13) ≡ true → without_return (front ++ last ∷ []) ≡ front

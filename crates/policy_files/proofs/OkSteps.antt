@@ -2,7 +2,7 @@
 use Rattle.std.proofs.Common.{◌≡◌, ℕ, ◌≤◌, Bool, true, false, ◌&&◌, Ok, Err, refl, arith}
 use Rattle.std.specs.Prelude.{if◌then◌else◌, nat_le}
 use Rattle.std.proofs.lemmas.Bool.Decides.{nat_tests}
-use Rattle.policy_files.specs.declared.error.Place.{Place}
+use Rattle.policy_files.specs.declared.error.KeyPlace.{KeyPlace}
 use Rattle.policy_files.specs.declared.error.PolicyError.{PolicyError}
 use Rattle.policy_files.specs.Keys.{Step, ◌>>=◌, within}
 
@@ -28,7 +28,7 @@ pub same_ok : {A : Type 0} (x y : A) → ok_step x ≡ Ok y → x ≡ y
 same_ok x y e = cc
 
 -- a number that is within
-pub within_ok : (least greatest : ℕ) (place : Place) (n m : ℕ) → within least greatest place n ≡ Ok m → (least ≤ n) × (n ≤ greatest) × (n ≡ m)
+pub within_ok : (least greatest : ℕ) (place : KeyPlace) (n m : ℕ) → within least greatest place n ≡ Ok m → (least ≤ n) × (n ≤ greatest) × (n ≡ m)
 within_ok least greatest place n m e =
     let h = when_ok (nat_le least n && nat_le n greatest) _ (Ok n) m e in
     let both : (nat_le least n && nat_le n greatest) ≡ true = h.0 in

@@ -17,7 +17,7 @@ use Rattle.cqe_base.specs.Limits.{is_small, KeepsLimits}
 use Rattle.cqe_base.specs.Secrecies.{with_secrecies, SecretsHaveSecrecies, SecretsAllPass}
 use Rattle.cqe_base.proofs.Lists.{other_text}
 use Rattle.policy_files.specs.declared.keys.PolicyVersion.{PolicyVersion}
-use Rattle.policy_files.specs.declared.error.Place.{Place}
+use Rattle.policy_files.specs.declared.error.KeyPlace.{KeyPlace}
 use Rattle.policy_files.specs.declared.error.PolicyError.TheVariants.{WrongKind, DuplicateUser, Limit}
 use Rattle.policy_files.specs.Tree.{natural}
 use Rattle.policy_files.specs.Policies.{PolicyUser}
@@ -32,7 +32,7 @@ pub record IsNewName (earlier : List Text) (name : Text) : Type 0 where
   pub proper : is_schema_name name ≡ true
   pub new : contains_text earlier name ≡ false
 
-new_name_ok : (place : Place) (earlier : List Text) (text name : Text) → new_name place earlier text ≡ Ok name → IsNewName earlier name
+new_name_ok : (place : KeyPlace) (earlier : List Text) (text name : Text) → new_name place earlier text ≡ Ok name → IsNewName earlier name
 new_name_ok place earlier text name e =
     let proper = when_ok (is_schema_name text) (WrongKind place) (if contains_text earlier text then Err (DuplicateUser place) else Ok text) name e in
     let new = unless_ok (contains_text earlier text) (DuplicateUser place) (Ok text) name proper.1 in

@@ -7,7 +7,7 @@ use Rattle.toml.specs.Data.{Data}
 use Rattle.policy_files.specs.Tree.{members, unknown_key}
 use Rattle.policy_files.specs.declared.keys.PolicyVersion.{PolicyVersion}
 use Rattle.policy_files.specs.declared.keys.PolicyVersion.TheVariants.{One, Two}
-use Rattle.policy_files.specs.declared.error.Place.{Place}
+use Rattle.policy_files.specs.declared.error.KeyPlace.{KeyPlace}
 use Rattle.policy_files.specs.declared.error.PolicyError.{PolicyError}
 use Rattle.policy_files.specs.declared.error.PolicyError.TheVariants.{MissingKey, WrongKind}
 use Rattle.policy_files.specs.declared.error.PolicyError.TheVariants.{UnknownKey, Limit}
@@ -23,12 +23,12 @@ abbrev pub ◌>>=◌ : {A B : Type 0} → Step A → (A → Step B) → Step B
 (Err e) >>= f = Err e
 
 -- the place of a key, in the user of this number or in the document itself
-abbrev pub key_place : Option ℕ → Text → Place
+abbrev pub key_place : Option ℕ → Text → KeyPlace
 key_place user key = record { user = user; key = key; index = None; text = None }
 
 -- the place of a text in the array at a user's key, with why it is no sentence, if that is the
 -- cause
-abbrev pub text_place : ℕ → Text → ℕ → Option TextError → Place
+abbrev pub text_place : ℕ → Text → ℕ → Option TextError → KeyPlace
 text_place user key index why =
     record { user = Some user; key = key; index = Some index; text = why }
 
@@ -62,20 +62,20 @@ only_keys version user value =
     without_unknown user (unknown_key (keys_at version user) (members value))
 
 -- a value of the kind that is wanted
-abbrev pub of_kind : {A : Type 0} → Place → Option A → Step A
+abbrev pub of_kind : {A : Type 0} → KeyPlace → Option A → Step A
 of_kind place None = Err (WrongKind place)
 of_kind place (Some x) = Ok x
 
 -- the value that must stand at a key
-abbrev pub there : Place → Option Data → Step Data
+abbrev pub there : KeyPlace → Option Data → Step Data
 there place None = Err (MissingKey place)
 there place (Some value) = Ok value
 
 -- the same, of the kind that is wanted
-abbrev pub required : {A : Type 0} → (Data → Option A) → Place → Option Data → Step A
+abbrev pub required : {A : Type 0} → (Data → Option A) → KeyPlace → Option Data → Step A
 required kind place value = there place value >>= λ found. of_kind place (kind found)
 
 -- a number from the least to the greatest
-abbrev pub within : ℕ → ℕ → Place → ℕ → Step ℕ
+abbrev pub within : ℕ → ℕ → KeyPlace → ℕ → Step ℕ
 within least greatest place n =
     if nat_le least n && nat_le n greatest then Ok n else Err (Limit place)

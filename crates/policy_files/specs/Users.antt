@@ -15,7 +15,7 @@ use Rattle.cqe_base.specs.Secrecies.{with_secrecies}
 use Rattle.policy_files.specs.declared.keys.PolicyVersion.{PolicyVersion}
 use Rattle.policy_files.specs.declared.keys.PolicyVersion.TheVariants.{One, Two}
 use Rattle.policy_files.specs.declared.text.Bounds.{Bounds}
-use Rattle.policy_files.specs.declared.error.Place.{Place}
+use Rattle.policy_files.specs.declared.error.KeyPlace.{KeyPlace}
 use Rattle.policy_files.specs.declared.error.PolicyError.TheVariants.{MissingKey, WrongKind}
 use Rattle.policy_files.specs.declared.error.PolicyError.TheVariants.{Sentence, Limit}
 use Rattle.policy_files.specs.declared.error.PolicyError.TheVariants.{DuplicateUser}
@@ -25,13 +25,13 @@ use Rattle.policy_files.specs.Keys.{Step, ◌>>=◌, key_place, text_place, only
 use Rattle.policy_files.specs.Keys.{required, within}
 
 -- the place of a key of the user of this number
-abbrev pub user_place : ℕ → Text → Place
+abbrev pub user_place : ℕ → Text → KeyPlace
 user_place user key = key_place (Some user) key
 
 -- ---- the name
 
 -- a name of the form of a constant's that no earlier user has
-abbrev pub new_name : Place → List Text → Text → Step Text
+abbrev pub new_name : KeyPlace → List Text → Text → Step Text
 new_name place earlier name =
     if is_schema_name name
     then (if contains_text earlier name then Err (DuplicateUser place) else Ok name)

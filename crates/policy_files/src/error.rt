@@ -41,7 +41,7 @@ impl KeyText {
 
 /// Where a policy is refused.
 #[derive(Drop)]
-pub struct Place {
+pub struct KeyPlace {
     /// The number of the user in the file, from 0; none for a key of the document itself.
     pub user: Option<u32>,
     /// The key. An unknown key is the one that stands there.
@@ -58,19 +58,19 @@ pub enum PolicyError {
     /// 1: the bytes are no TOML document.
     NotToml,
     /// 2: a key isn't there.
-    MissingKey(Place),
+    MissingKey(KeyPlace),
     /// 3: a value isn't of the kind that its key wants.
-    WrongKind(Place),
+    WrongKind(KeyPlace),
     /// 4: a key has no meaning there; the least such key.
-    UnknownKey(Place),
+    UnknownKey(KeyPlace),
     /// 5: the domains and relations are no schema.
     Schema(SchemaError),
     /// 6: a text is no sentence of the schema.
-    Sentence(Place),
+    Sentence(KeyPlace),
     /// 7: a text, a count, a number or a view is above its limit.
-    Limit(Place),
+    Limit(KeyPlace),
     /// 8: an earlier user has the name.
-    DuplicateUser(Place),
+    DuplicateUser(KeyPlace),
     /// 9: the version is neither 1 nor 2.
     Version,
     /// 10: memory is wanting.

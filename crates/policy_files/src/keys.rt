@@ -10,7 +10,7 @@ ghost use Rattle.policy_files.specs.Keys.{key_place, text_place, only_keys, ther
 ghost use Rattle.policy_files.specs.Keys.{within};
 ghost use Rattle.policy_files.specs.Gives.{Gives};
 
-use crate::error::{KeyText, Place, PolicyError, Stop};
+use crate::error::{KeyPlace, KeyText, PolicyError, Stop};
 use crate::tree::{elements, is_table_array, value_at};
 use cqe_base::text::TextError;
 use std::alloc::{AllocError, Global};
@@ -24,11 +24,11 @@ pub enum PolicyVersion {
 }
 
 /// The place of a key, in the user of this number or in the document itself.
-pub fn key_place(alloc: Global, user: Option<u32>, key: &str) -> Result<Place, AllocError>
+pub fn key_place(alloc: Global, user: Option<u32>, key: &str) -> Result<KeyPlace, AllocError>
     ensures { IfOk result (λ place. place ≡ key_place user key.now) }
 {
     let key = KeyText::from_str(alloc, key)?;
-    Ok(Place {
+    Ok(KeyPlace {
         user,
         key,
         index: None,
@@ -43,11 +43,11 @@ pub fn text_place(
     key: &str,
     index: u32,
     why: Option<TextError>,
-) -> Result<Place, AllocError>
+) -> Result<KeyPlace, AllocError>
     ensures { IfOk result (λ place. place ≡ text_place user key.now index why) }
 {
     let key = KeyText::from_str(alloc, key)?;
-    Ok(Place {
+    Ok(KeyPlace {
         user: Some(user),
         key,
         index: Some(index),

@@ -22,6 +22,6 @@ mod text;
 mod tree;
 mod user;
 
-pub use error::{FactsError, KeyText, Place, PolicyError};
+pub use error::{FactsError, KeyPlace, KeyText, PolicyError};
 pub use facts::read_facts;
 pub use policy::{Policy, read_policy};

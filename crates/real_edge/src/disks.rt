@@ -74,7 +74,7 @@ impl<F: Read + Write + Seek + OpenFile> Disk for FileDisk<F> {
 
     ghost faults = { disk_faults };
 
-    ghost told = { λ disk. 2 ^ 64 };
+    ghost tellable = { λ disk. 2 ^ 64 };
 
     ghost heard = { λ disk number one. ⊥ };
 

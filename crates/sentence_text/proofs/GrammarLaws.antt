@@ -11,7 +11,8 @@ use Rattle.cqe_base.specs.Schema.{DatabaseSchema, domain_named, relation_named}
 use Rattle.cqe_base.specs.Tokens.{Token, same_symbol}
 use Rattle.cqe_base.specs.Reading
 use Rattle.cqe_base.specs.Reading.{Reader, Scope, Level, is_symbol, is_next, chain}
-use Rattle.cqe_base.specs.Grammar.{Part, unary, both, either, implied, whole, IsSymbol, IsTerm, Columns, no_column, last_column, next_column, MayEndQuantified}
+use Rattle.cqe_base.specs.Grammar.{Part, unary, both, either, conditional, whole, IsSymbol, IsTerm}
+use Rattle.cqe_base.specs.Grammar.{Columns, no_column, last_column, next_column, MayEndQuantified}
 use Rattle.cqe_base.specs.Grammar.{IsQuantifier, Begins, is_true, is_false, is_atom, is_equal, is_differs, is_not, in_parentheses, is_forall, is_exists}
 use Rattle.cqe_base.specs.Grammar.{one_and, more_and, one_or, more_or, no_arrow, one_arrow, no_double_arrow, one_double_arrow}
 use Rattle.sentence_text.proofs.Operands.{ChainGoesOn, chain-done, chain-more, both-begins, either-begins}
@@ -178,17 +179,17 @@ module _ (schema : DatabaseSchema) (end : Refusal) where
   implying-none inner scope a (t ∷ ts) h = rw (h, Reading.implying) refl
 
   implying-arrow : (inner : Level) (scope : Scope) (a b : Formula) (t : Token) (us rest : List Token) → IsSymbol symbols.Arrow t
-      → inner.implied scope us ≡ Ok (b, rest) → Reading.implying schema end (Some inner) scope a (t ∷ us) ≡ Ok (implication a b, rest)
+      → inner.conditional scope us ≡ Ok (b, rest) → Reading.implying schema end (Some inner) scope a (t ∷ us) ≡ Ok (implication a b, rest)
   unfolding Reading.implying
   implying-arrow inner scope a b t us rest h right = rw (h, Reading.implying, right) refl
 
-  sentence-none : (level : Level) (scope : Scope) (a : Formula) (ts rest : List Token) → level.implied scope ts ≡ Ok (a, rest)
+  sentence-none : (level : Level) (scope : Scope) (a : Formula) (ts rest : List Token) → level.conditional scope ts ≡ Ok (a, rest)
       → is_next symbols.DoubleArrow rest ≡ false → Reading.sentence schema end level scope ts ≡ Ok (a, rest)
   unfolding Reading.sentence Reading.equivalent_to
   sentence-none level scope a ts rest left h = rw (left, Reading.equivalent_to, h) refl
 
-  sentence-double : (level : Level) (scope : Scope) (a b : Formula) (t : Token) (ts us rest : List Token) → level.implied scope ts ≡ Ok (a, t ∷ us)
-      → IsSymbol symbols.DoubleArrow t → level.implied scope us ≡ Ok (b, rest)
+  sentence-double : (level : Level) (scope : Scope) (a b : Formula) (t : Token) (ts us rest : List Token) → level.conditional scope ts ≡ Ok (a, t ∷ us)
+      → IsSymbol symbols.DoubleArrow t → level.conditional scope us ≡ Ok (b, rest)
       → Reading.sentence schema end level scope ts ≡ Ok (biconditional a b, rest)
   unfolding Reading.sentence Reading.equivalent_to
   sentence-double level scope a b t ts us rest left h right = rw (left, h, Reading.equivalent_to, right) refl
@@ -198,13 +199,13 @@ module _ (schema : DatabaseSchema) (end : Refusal) where
   Complete both room scope ts a rest = ChainGoesOn symbols.And conjunction (unary_reader room scope) a rest (Reading.both (unary_reader room scope) ts)
   Complete either room scope ts a rest = is_next symbols.And rest ≡ false
       → ChainGoesOn symbols.Or disjunction (Reading.both (unary_reader room scope)) a rest (Reading.either (unary_reader room scope) ts)
-  Complete implied room scope ts a rest = EndsPart rest → Reading.implied schema end (Reading.inside schema end room) scope ts ≡ Ok (a, rest)
+  Complete conditional room scope ts a rest = EndsPart rest → Reading.conditional schema end (Reading.inside schema end room) scope ts ≡ Ok (a, rest)
   Complete whole room scope ts a rest = EndsPart rest → is_next symbols.DoubleArrow rest ≡ false
       → Reading.sentence schema end (Reading.level_with schema end (Reading.inside schema end room)) scope ts ≡ Ok (a, rest)
 
   pub complete : {part : Part} {room : ℕ} {scope : Scope} {ts rest : List Token} {a : Formula} → Begins schema part room scope ts a rest
       → Complete part room scope ts a rest
-  unfolding Reading.unary Reading.unary_by Reading.inside Reading.implied
+  unfolding Reading.unary Reading.unary_by Reading.inside Reading.conditional
   complete (is_true t) = rw t refl
   complete (is_false t) = rw t refl
   complete (is_atom {scope = scope} {t = t} {open_ = open_} {ts = ts} h o r c) = rw h (named-relation scope t open_ ts o ∙ atom-read scope t open_ r c)

@@ -41,7 +41,7 @@ impl Reader<'_> {
     /// What a term's name stands for: a variable, else a constant.
     fn term_named(&self, scope: &Scope<'_>, token: Token<'_>) -> Result<TypedTerm, ReadError>
         requires { length (binders scope.now) ≤ 8 }
-        ensures { Gives typed_term result (Reading.known (token_of token.entry)
+        ensures { Gives typed_term result (Reading.named (token_of token.entry)
             (Reading.term_named self.now.schema (binders scope.now) token.entry.text.now)) }
     {
         if let Some(variable) = scope.variable(token.text) {
@@ -399,11 +399,11 @@ impl Reader<'_> {
 
     /// What `<->` joins.
     #[cycle(parser)]
-    #[tactic(auto, unfolding(cqe_base::specs::Reading::implied, cqe_base::specs::Reading::implying))]
-    fn implied(&mut self, scope: &Scope<'_>, room: u32) -> Result<Sentence, ReadError>
+    #[tactic(auto, unfolding(cqe_base::specs::Reading::conditional, cqe_base::specs::Reading::implying))]
+    fn conditional(&mut self, scope: &Scope<'_>, room: u32) -> Result<Sentence, ReadError>
         requires { length (binders scope.now) ≤ 8 }
         ensures read { Reads formula_of result self.new.tokens
-            (Reading.implied self.old.schema self.old.refusal
+            (Reading.conditional self.old.schema self.old.refusal
             (Reading.inside self.old.schema self.old.refusal room)
             (binders scope.now) self.old.tokens) }
         ensures same { IsSameText self.old self.new }
@@ -414,7 +414,7 @@ impl Reader<'_> {
             Some(token) if symbol_of(token.text) == Symbol::Arrow => {
                 let inner = self.enter(room, token)?;
                 self.advance();
-                let right = self.implied(scope, inner)?;
+                let right = self.conditional(scope, inner)?;
                 Ok(Sentence::Implies(
                     Box::new(self.alloc(), left)?,
                     Box::new(self.alloc(), right)?,
@@ -437,12 +437,12 @@ impl Reader<'_> {
         ensures same { IsSameText self.old self.new }
         ensures shorter { OnOk result (length self.new.tokens < length self.old.tokens) }
     {
-        let left = self.implied(scope, room)?;
+        let left = self.conditional(scope, room)?;
         if !self.is_next(Symbol::DoubleArrow) {
             return Ok(left);
         }
         self.advance();
-        let right = self.implied(scope, room)?;
+        let right = self.conditional(scope, room)?;
         Ok(Sentence::Iff(
             Box::new(self.alloc(), left)?,
             Box::new(self.alloc(), right)?,

@@ -38,7 +38,7 @@ use Rattle.desk_counter.proofs.Pairs.{history_all, items_all}
 use Rattle.turnstile.specs.Passes.{seen, mine, turns}
 use Rattle.desk_counter.specs.Counters.{first_pairs}
 use Rattle.desk_crew.specs.Crew.{IsSeatAsOpened, IsClosed, refusal_of, seat_user, seat_journal, seat_kept, seat_standing, seat_history, seat_disk, seat_broke}
-use Rattle.desk_crew.specs.Crew.{seat_state, IsLeft}
+use Rattle.desk_crew.specs.Crew.{seat_state, IsLeftOpen}
 use Rattle.desk_crew.proofs.Shelving.{left_on}
 use Rattle.desk_crew.specs.Seats.{DeskSeat}
 use Rattle.desk_crew.specs.Shelved.{Journals, journals, journals_by, told_on, StandsAllAlong, AreLater, AreOwn, SeatsThere, IsSeatOf, AreSeatsOf}
@@ -115,12 +115,12 @@ module _ (schema : DatabaseSchema) (world : FactSet) (header directory : List �
   all_along : (user : User) (old new : DeskSeat D g h) → Opened user old → IsSeatOn old new → Back new
       → (seat_kept new).schema ≡ schema → (seat_kept new).world ≡ world → (seat_kept new).header ≡ header
       → length (seat_kept new).opening ≤ length (seat_history new)
-      → StandsAllAlong (journals_by Disk.reads Disk.image Disk.moment Disk.image_since Disk.told directory disk disk' count count') (string_bytes user.name)
+      → StandsAllAlong (journals_by Disk.reads Disk.image Disk.moment Disk.image_since Disk.tellable directory disk disk' count count') (string_bytes user.name)
       (not (is_sealed (seat_standing new)))
       (OpensWithin schema world (seat_kept new).user header (length (seat_kept new).opening)
       (seat_history new ++ option_to_list (flying (pairs_of_sole new.desk))))
   all_along user old new opened on back schema_is world_is header_is more =
-      stands_along (journals_by Disk.reads Disk.image Disk.moment Disk.image_since Disk.told directory disk disk' count count') (string_bytes user.name)
+      stands_along (journals_by Disk.reads Disk.image Disk.moment Disk.image_since Disk.tellable directory disk disk' count count') (string_bytes user.name)
       (is_sealed (seat_standing new)) (Kind schema world header) (Disk.moment opened.taken) (Disk.moment (seat_disk old)) (Disk.moment closed)
       (Disk.moment back.now) (Disk.image_since opened.taken)
       (Disk.image_since (seat_disk old)) (Disk.image_since closed) (Disk.image opened.taken) (Disk.image closed)
@@ -163,7 +163,7 @@ module _ (schema : DatabaseSchema) (world : FactSet) (header directory : List �
   module _ (valid : is_valid_schema schema ≡ true) (hide : LegalHistoriesHide) where
     -- one user
     has_served : (user : User) (old new : DeskSeat D g h) → KeepsLimits schema (profile_of user) → Opened user old → IsSeatOn old new → Back new
-        → HasServed schema world header (journals_by Disk.reads Disk.image Disk.moment Disk.image_since Disk.told directory disk disk' count count') user
+        → HasServed schema world header (journals_by Disk.reads Disk.image Disk.moment Disk.image_since Disk.tellable directory disk disk' count count') user
         (seat_member new) old.refusal
     has_served user old new limits opened on back =
         let name : Text = journal_name directory (string_bytes user.name) in
@@ -237,8 +237,8 @@ module _ (schema : DatabaseSchema) (world : FactSet) (header directory : List �
               let read_now = ap length (ap (bytes_on Disk.reads) held ∙ left.reads_same) in
               let read_first = ap length (ap (λ (f : Fixed D). Disk.reads f.disk) kept ∙ opened.left.reads_same ∙ read_was) in
               omega (arith, grown, read_now, read_first);
-          told = subst (λ o. length (seat_history new) ≤ told_on Disk.told o) (sym held)
-              (let most : length (seat_history new) ≤ Disk.told back.left.closed = closed.told t in omega (arith, most, left.still_told));
+          told = subst (λ o. length (seat_history new) ≤ told_on Disk.tellable o) (sym held)
+              (let most : length (seat_history new) ≤ Disk.tellable back.left.closed = closed.told t in omega (arith, most, left.still_told));
           idle = λ shut. let none = closed.idle shut in (none.0, ap (λ (o : Option AnsweredQuery). is_some o) none.1);
           kept = λ why. (
             ap (bytes_on Disk.reads) held ∙ left.reads_same ∙ ap Disk.reads (left_alone new back.left.closed closed why)
@@ -253,7 +253,7 @@ module _ (schema : DatabaseSchema) (world : FactSet) (header directory : List �
                 (subst (λ n. Rests Disk (disk n) (disk' name)) opened.journal_is
                 (taken_rests Disk (disk (seat_journal old)) (disk' name) opened.taken back.now (opened.from s)
                 (left_on Disk opened.taken (seat_disk old) back.now opened.left
-                (subst (λ d. IsLeft Disk d back.now) (left_alone new back.left.closed closed why ∙ ap (λ (f : Fixed D). f.disk) kept) left)).rests held)),
+                (subst (λ d. IsLeftOpen Disk d back.now) (left_alone new back.left.closed closed why ∙ ap (λ (f : Fixed D). f.disk) kept) left)).rests held)),
           );
           failed = λ broke.
               rose_wide (count name) (Disk.faults (seat_kept new).disk) (Disk.faults back.left.closed) (count' name) (omega (arith, before, begins, disks))
@@ -265,7 +265,7 @@ module _ (schema : DatabaseSchema) (world : FactSet) (header directory : List �
     pub have_served : (users : List User) (olds news : List (DeskSeat D g h)) → All (λ user. KeepsLimits schema (profile_of user)) users
         → AreSeatsOf S Disk schema world header directory disk count users olds → AreSeatsOn olds news
         → AreBack S Disk disk' count' news
-        → HaveServed schema world header (journals_by Disk.reads Disk.image Disk.moment Disk.image_since Disk.told directory disk disk' count count') users
+        → HaveServed schema world header (journals_by Disk.reads Disk.image Disk.moment Disk.image_since Disk.tellable directory disk disk' count count') users
         (map seat_member news)
         (map (λ seat. seat.refusal) olds)
     have_served [] [] [] limits opened on back = tt

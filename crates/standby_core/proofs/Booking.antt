@@ -9,7 +9,7 @@ use Rattle.log_journal.specs.Journal.{disk_of, is_broken}
 use Rattle.log_journal.specs.Records.{Recorded}
 use Rattle.standby_core.specs.Copies.{Copy, copy_in, copy_at, copy_after, copies_after, held_name, held_origin, HasCount, HasFailed}
 use Rattle.standby_core.specs.Frames.{Carried}
-use Rattle.standby_core.specs.Lasting.{Lasts, AllLast, IsCounted, AllCounted, has_broken}
+use Rattle.standby_core.specs.Lasting.{Lasts, AllLast, CountsItsRecords, CountTheirRecords, has_broken}
 use Rattle.standby_core.specs.Named.{first_named}
 use Rattle.standby_core.specs.declared.book.Held.{Held}
 use Rattle.standby_core.proofs.Naming.{Stands, here, further}
@@ -117,8 +117,8 @@ module _ {D : Type 0} {g : _} where
 
   -- the counts are kept
   pub counted_set : (faults : D → ℕ) (test : Held D g → Bool) (journals : List (Held D g)) (place : ℕ) (old new : Held D g) → Stands test journals place old
-      → ((count : ℕ) → IsCounted faults count old → IsCounted faults count new)
-      → (counts : List ℕ) → AllCounted faults counts journals → AllCounted faults counts (slice_set journals place new)
+      → ((count : ℕ) → CountsItsRecords faults count old → CountsItsRecords faults count new)
+      → (counts : List ℕ) → CountTheirRecords faults counts journals → CountTheirRecords faults counts (slice_set journals place new)
   counted_set faults test journals place old new (here held others is) keeps [] all = absurd all
   counted_set faults test journals place old new (further held one others after miss stands) keeps [] all = absurd all
   counted_set faults test journals place old new (here held others is) keeps (count ∷ counts) all = (keeps count all.0, all.1)

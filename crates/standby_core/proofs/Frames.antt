@@ -3,7 +3,7 @@ use Rattle.std.proofs.Common.{◌≡◌, ◌≢◌, ℕ, ◌≤◌, List, [], �
 use Rattle.std.proofs.Common.{length-append, length-take, take-append-drop}
 use Rattle.std.proofs.lemmas.List.{take-append-le, drop-append-le, take_all}
 use Rattle.log_journal.specs.declared.header.Header.{Header}
-use Rattle.standby_core.specs.Frames.{frame_bytes, agree, IsOther, IsBad, IsWithin, Shows, Reads, end_behind}
+use Rattle.standby_core.specs.Frames.{frame_bytes, agree, IsOther, IsBad, EndsWithinFrame, Shows, Reads, end_behind}
 use Rattle.standby_core.specs.declared.frame.FrameOutcome.TheVariants.{Whole, InputEnd, BadFrame, ReadFault}
 use Rattle.standby_core.specs.declared.frame.Judged.TheVariants.{Short, Bad}
 use Rattle.standby_core.proofs.Agreeing.{agree-longer}
@@ -31,12 +31,12 @@ same_room room room' size front = sym (take_all (length room) room' (omega (arit
 
 module _ (header : Header) where
   -- nothing is within every frame
-  pub none_within : IsWithin header []
+  pub none_within : EndsWithinFrame header []
   none_within one rest more proper is = omega arith
 
   -- a piece that is no more than what is needed
   pub more_within : (room room' : List ℕ) (need : ℕ) → Shows header room (Short need) → take (length room) room' ≡ room → length room' ≤ need
-      → IsWithin header room'
+      → EndsWithinFrame header room'
   more_within room room' need shows front size one rest more proper is =
       let split : room ++ (drop (length room) room' ++ rest) ≡ room' ++ rest =
       sym (append_assoc room (drop (length room) room') rest)

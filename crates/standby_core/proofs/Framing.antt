@@ -8,7 +8,8 @@ use Rattle.std.proofs.lemmas.List.{append_cancel_left, append-nil, drop_more, dr
 use Rattle.std.proofs.lemmas.Nat.{from_be_bytes-to_be_bytes_2}
 use Rattle.std.proofs.Math.ListN.{drop_of_length-le}
 use Rattle.log_journal.specs.declared.header.Header.{Header}
-use Rattle.standby_core.specs.Frames.{Carried, IsCarried, frame_mark, tail_bytes, frame_bytes, IsFrame, agree, IsOther, IsWithin, Shows, GoesOn, ShowsTail}
+use Rattle.standby_core.specs.Frames.{Carried, IsCarried, frame_mark, tail_bytes, frame_bytes, IsFrame, agree, IsOther}
+use Rattle.standby_core.specs.Frames.{EndsWithinFrame, Shows, GoesOn, ShowsTail}
 use Rattle.standby_core.specs.Frames.{carried_in}
 use Rattle.standby_core.specs.declared.frame.Judged.{Judged}
 use Rattle.standby_core.specs.declared.frame.Judged.TheVariants.{Frame, Short, Bad, Other}
@@ -223,7 +224,7 @@ module _ (header : Header) where
           ∙ (λ i. head_bytes (sym goes.size i) ++ goes.is i)
           ∙ sym (append_assoc (head_bytes (length one.name)) (tail_bytes one) goes.more) ∙ ap (λ l. l ++ goes.more) (sym (frame_split one))
 
-      pub tail_within : IsWithin header bytes → (one : Carried) → GoesOn named tail one → length tail ≤ length (tail_bytes one)
+      pub tail_within : EndsWithinFrame header bytes → (one : Carried) → GoesOn named tail one → length tail ≤ length (tail_bytes one)
       tail_within within one goes =
           let most = within one goes.rest goes.more goes.proper (came_from one goes) in
           omega (arith, most, frame_size one, length_is)
@@ -369,7 +370,7 @@ same_texts one other rest more proper proper' named is =
 
 module _ (header : Header) (room : List ℕ) (one : Carried) (frame : IsFrame header room one) where
   -- what goes on from a frame is that frame
-  pub frame_within : IsWithin header room
+  pub frame_within : EndsWithinFrame header room
   frame_within other rest more proper goes =
       let is : frame_bytes header one ++ rest ≡ frame_bytes header other ++ more = ap (λ l. l ++ rest) (sym frame.is) ∙ goes in
       let left = frame_goes header one rest in

@@ -3,7 +3,7 @@ use Rattle.std.proofs.Common.{◌≡◌, ◌⊎◌, ◌↔◌, inl, inr, ℕ, su
 use Rattle.std.proofs.Common.{append_assoc, length-append}
 use Rattle.log_journal.specs.declared.header.Header.{Header}
 use Rattle.standby_core.specs.Copies.{Copy, copy_at, HasCount, HasFailed, FailsAlone}
-use Rattle.standby_core.specs.Exchanges.{Takes, more, Serves, HasEnded, IsRefusedFor, RefusedLeaves, IsAnswered, AreLeft, IsTaking, Took}
+use Rattle.standby_core.specs.Exchanges.{Takes, more, ServesConnection, HasEnded, IsRefusedFor, RefusedLeaves, IsAnswered, AreLeft, IsTaking, Took}
 use Rattle.standby_core.specs.Frames.{Carried, answer_bytes}
 use Rattle.standby_core.specs.declared.book.TakeError.{TakeError}
 use Rattle.standby_core.specs.declared.book.TakeError.TheVariants as why
@@ -72,7 +72,7 @@ module _ (header : Header) (bytes : List ℕ) (copies : List Copy) where
 
   -- what is promised of an end
   abbrev pub Ends : List Copy → List ℕ → List ℕ → StandbyEnd → Type 0
-  Ends after old new ended = (served : Serves header bytes copies after ended) × IsAnswered ended served.answers old new
+  Ends after old new ended = (served : ServesConnection header bytes copies after ended) × IsAnswered ended served.answers old new
 
   -- ---- the ends between two frames, and before one was taken
 

@@ -102,7 +102,7 @@ AreLeft header left end copies copies' = copies' ≡ copies
 
 -- A connection was served with this end: the frames in front were taken and are answered, this is
 -- why it ended behind them, and these copies are there afterwards.
-pub record Serves (header : Header) (bytes : List ℕ) (copies copies' : List Copy)
+pub record ServesConnection (header : Header) (bytes : List ℕ) (copies copies' : List Copy)
     (end : StandbyEnd) : Type 0 where
   pub answers : List ℕ
   pub left : List ℕ

@@ -67,8 +67,8 @@ pub record IsOther (header : Header) (bytes : List ℕ) : Type 0 where
   pub differs : agree (drop 8 bytes) (header.policy ++ header.facts) ≡ false
 
 -- some bytes are no more than any frame has that goes on from them
-abbrev pub IsWithin : Header → List ℕ → Type 0
-IsWithin header bytes = (one : Carried) (rest more : List ℕ) → IsCarried one
+abbrev pub EndsWithinFrame : Header → List ℕ → Type 0
+EndsWithinFrame header bytes = (one : Carried) (rest more : List ℕ) → IsCarried one
     → bytes ++ rest ≡ frame_bytes header one ++ more
     → length bytes ≤ length (frame_bytes header one)
 

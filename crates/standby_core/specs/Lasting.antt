@@ -46,17 +46,17 @@ AllLast Disk header (opened ∷ disks) (held ∷ all) =
 AllLast Disk header disks all = ⊥
 
 -- the count of its disk's faults is no less than this one, and where an append failed it rose
-pub record IsCounted {D : Type 0} {g : _} (faults : D → ℕ) (count : ℕ) (held : Held D g) :
+pub record CountsItsRecords {D : Type 0} {g : _} (faults : D → ℕ) (count : ℕ) (held : Held D g) :
     Type 0 where
   pub later : count ≤ faults (disk_of held.journal)
   pub rose : is_broken held.journal ≡ true → Rose count (faults (disk_of held.journal))
 
 -- so it is with each journal
-abbrev pub AllCounted : {D : Type 0} {g : _} → (D → ℕ) → List ℕ → List (Held D g) → Type 0
-AllCounted faults [] [] = Unit {0}
-AllCounted faults (count ∷ counts) (held ∷ all) =
-    IsCounted faults count held × AllCounted faults counts all
-AllCounted faults counts all = ⊥
+abbrev pub CountTheirRecords : {D : Type 0} {g : _} → (D → ℕ) → List ℕ → List (Held D g) → Type 0
+CountTheirRecords faults [] [] = Unit {0}
+CountTheirRecords faults (count ∷ counts) (held ∷ all) =
+    CountsItsRecords faults count held × CountTheirRecords faults counts all
+CountTheirRecords faults counts all = ⊥
 
 -- whether an append to one of them failed
 abbrev pub has_broken : {D : Type 0} {g : _} → List (Held D g) → Bool

@@ -6,7 +6,7 @@ ghost use Rattle.outside.specs.Faults.{Rose};
 ghost use Rattle.log_journal.specs.Journal.{disk_of, is_broken, count_of};
 ghost use Rattle.standby_core.specs.Copies.{copy_in, copy_after, copy_failed, held_name};
 ghost use Rattle.standby_core.specs.Copies.{held_origin};
-ghost use Rattle.standby_core.specs.Lasting.{Lasts, IsCounted};
+ghost use Rattle.standby_core.specs.Lasting.{Lasts, CountsItsRecords};
 
 use log_journal::{AppendError, Journal};
 use outside::Disk;
@@ -42,7 +42,7 @@ impl<D: Disk> StandbyBook<D> {
     ghost use Rattle.standby_core.specs.Books.{copies_in, book_faults};
     ghost use Rattle.standby_core.specs.Copies.{copy_at, copies_after, HasCount, HasFailed};
     ghost use Rattle.standby_core.specs.Copies.{FailsAlone};
-    ghost use Rattle.standby_core.specs.Lasting.{AllLast, AllCounted, has_broken};
+    ghost use Rattle.standby_core.specs.Lasting.{AllLast, CountTheirRecords, has_broken};
 
     /// The journals of users whose names differ. It takes no memory.
     pub fn new(journals: Vec<Held<D>>) -> StandbyBook<D>
@@ -106,8 +106,8 @@ impl<D: Disk> StandbyBook<D> {
         ensures origins { map (held_origin D.origin) self.new.journals.items
             ≡ map (held_origin D.origin) self.old.journals.items }
         ensures counted { (counts : List ℕ)
-            → AllCounted D.faults counts self.old.journals.items
-            → AllCounted D.faults counts self.new.journals.items }
+            → CountTheirRecords D.faults counts self.old.journals.items
+            → CountTheirRecords D.faults counts self.new.journals.items }
         ensures broke { IsErrOf result TakeError.DiskFault ⊎ IsErrOf result TakeError.Broken
             → IsTrue (has_broken self.new.journals.items) }
     {
@@ -160,8 +160,8 @@ impl<D: Disk> Held<D> {
         ensures lasts { D.tells → (header : List ℕ) (opened : D)
             → Lasts D.Disk header opened (disk_of self.old.journal) (copy_in D.reads self.old)
             → Lasts D.Disk header opened (disk_of self.new.journal) (copy_in D.reads self.new) }
-        ensures faults { (count : ℕ) → IsCounted D.faults count self.old
-            → IsCounted D.faults count self.new }
+        ensures faults { (count : ℕ) → CountsItsRecords D.faults count self.old
+            → CountsItsRecords D.faults count self.new }
         ensures broke { IsErrOf result TakeError.DiskFault ⊎ IsErrOf result TakeError.Broken
             → IsTrue (is_broken self.new.journal) }
     {

@@ -3,7 +3,8 @@ ghost use Rattle.std.specs.Prelude.{◌≡◌, ◌+◌, ◌<◌, ◌≤◌, [], 
 ghost use Rattle.std.specs.Int.{w16, w64, to_be_bytes, from_be_bytes};
 ghost use Rattle.outside.specs.Faults.{HasCause, Rose};
 ghost use Rattle.standby_core.specs.Frames.{Carried, frame_mark, frame_bytes, tail_bytes, agree};
-ghost use Rattle.standby_core.specs.Frames.{IsFrame, IsWithin, GoesOn, Shows, ShowsTail, Reads};
+ghost use Rattle.standby_core.specs.Frames.{IsFrame, EndsWithinFrame, GoesOn};
+ghost use Rattle.standby_core.specs.Frames.{Shows, ShowsTail, Reads};
 ghost use Rattle.standby_core.specs.Frames.{end_behind};
 
 use log_journal::Header;
@@ -145,7 +146,7 @@ pub enum Judged<'a> {
 /// Looks at the first bytes of a frame, which are no more than it has. Of what refuses it the bytes
 /// show the first.
 pub fn judge<'a>(header: &Header, bytes: &'a [u8]) -> Judged<'a>
-    requires { IsWithin header.now bytes.now }
+    requires { EndsWithinFrame header.now bytes.now }
     ensures { Shows header.now bytes.now result }
 {
     if !is_marked(bytes) {

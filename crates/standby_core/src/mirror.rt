@@ -61,7 +61,7 @@ impl<C: Dial> Mirror<C> {
         requires short { length text.now ≤ 4096 }
         requires few { number + 1 < 2 ^ 64 }
         ensures above { OnOk result (number < C.answered (dial_of self.new)) }
-        ensures told { C.answered (dial_of self.old) ≤ C.answered (dial_of self.new) }
+        ensures tellable { C.answered (dial_of self.old) ≤ C.answered (dial_of self.new) }
         ensures known { number < C.answered (dial_of self.old) → self.new ≡ self.old }
         ensures exchanged { C.tells → C.answered (dial_of self.old) ≤ number
             → OnOk result (IsNext (telling_of (C.address (dial_of self.old)) (header_of self.old)

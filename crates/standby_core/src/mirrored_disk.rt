@@ -46,7 +46,7 @@ impl<D, C: Dial> MirroredDisk<D, C> {
             → origin_with C.name C.address (mirror_of self.new) below
             ≡ origin_with C.name C.address (mirror_of self.old) below }
         ensures above { OnOk result (number < told_by C.answered (mirror_of self.new)) }
-        ensures told { told_by C.answered (mirror_of self.old)
+        ensures tellable { told_by C.answered (mirror_of self.old)
             ≤ told_by C.answered (mirror_of self.new) }
         ensures heard { HearsAtMost number (kind, text.now)
             (heard_by C.tells C.exchanged (mirror_of self.old))
@@ -77,7 +77,7 @@ impl<D: Disk, C: Dial> Disk for MirroredDisk<D, C> {
 
     ghost faults = { λ disk. D.faults (inner_of disk) + faults_by C.faults (mirror_of disk) };
 
-    ghost told = { λ disk. told_by C.answered (mirror_of disk) };
+    ghost tellable = { λ disk. told_by C.answered (mirror_of disk) };
 
     ghost heard = { λ disk. heard_by C.tells C.exchanged (mirror_of disk) };
 

@@ -3,9 +3,9 @@ ghost use Rattle.std.specs.Prelude.{◌≡◌, ◌⊎◌, ◌≤◌, List, ℕ, 
 ghost use Rattle.outside.specs.Faults.{Rose};
 ghost use Rattle.standby_core.specs.Books.{copies_in};
 ghost use Rattle.standby_core.specs.Copies.{held_name, held_origin};
-ghost use Rattle.standby_core.specs.Exchanges.{Serves, IsAnswered, Took, IsTaking};
+ghost use Rattle.standby_core.specs.Exchanges.{ServesConnection, IsAnswered, Took, IsTaking};
 ghost use Rattle.standby_core.specs.Frames.{Carried, IsFrame};
-ghost use Rattle.standby_core.specs.Lasting.{AllLast, AllCounted, has_broken};
+ghost use Rattle.standby_core.specs.Lasting.{AllLast, CountTheirRecords, has_broken};
 
 use crate::{FrameOutcome, FrameRoom, Judged, StandbyBook, TakeError, judge, read_frame};
 use log_journal::Header;
@@ -40,7 +40,7 @@ pub fn serve_standby<R: Wait, D: Disk, S: Source, K: Sink>(
     sink: &mut K,
 ) -> StandbyEnd
     ensures serves { S.tells → D.tells → K.tells
-        → (served : Serves header.now (S.left source.old) (copies_in D.reads book.old)
+        → (served : ServesConnection header.now (S.left source.old) (copies_in D.reads book.old)
         (copies_in D.reads book.new) result)
         × IsAnswered result served.answers (K.written sink.old) (K.written sink.new) }
 
@@ -52,8 +52,8 @@ pub fn serve_standby<R: Wait, D: Disk, S: Source, K: Sink>(
         ≡ map held_name book.old.journals.items }
     ensures origins { map (held_origin D.origin) book.new.journals.items
         ≡ map (held_origin D.origin) book.old.journals.items }
-    ensures counted { (counts : List ℕ) → AllCounted D.faults counts book.old.journals.items
-        → AllCounted D.faults counts book.new.journals.items }
+    ensures counted { (counts : List ℕ) → CountTheirRecords D.faults counts book.old.journals.items
+        → CountTheirRecords D.faults counts book.new.journals.items }
     ensures broke { (result ≡ StandbyEnd.Take TakeError.DiskFault)
         ⊎ (result ≡ StandbyEnd.Take TakeError.Broken)
         → IsTrue (has_broken book.new.journals.items) }
@@ -102,8 +102,8 @@ fn take_frame<D: Disk, K: Sink>(
         ≡ map held_name book.old.journals.items }
     ensures origins { map (held_origin D.origin) book.new.journals.items
         ≡ map (held_origin D.origin) book.old.journals.items }
-    ensures counted { (counts : List ℕ) → AllCounted D.faults counts book.old.journals.items
-        → AllCounted D.faults counts book.new.journals.items }
+    ensures counted { (counts : List ℕ) → CountTheirRecords D.faults counts book.old.journals.items
+        → CountTheirRecords D.faults counts book.new.journals.items }
     ensures broke { (result ≡ Err (StandbyEnd.Take TakeError.DiskFault))
         ⊎ (result ≡ Err (StandbyEnd.Take TakeError.Broken))
         → IsTrue (has_broken book.new.journals.items) }

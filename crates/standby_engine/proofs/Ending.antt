@@ -11,13 +11,13 @@ use Rattle.user_desk.specs.declared.standing.DeskError.{DeskError}
 use Rattle.standby_core.specs.Copies.{Copy}
 use Rattle.standby_core.specs.declared.serve.StandbyEnd.{StandbyEnd}
 use Rattle.standby_engine.specs.Served.{is_wanting}
-use Rattle.standby_engine.specs.Standing.{AreCopied, SomeFailed, LeavesCopies, ServesCopies, EndsCopying, IsServed, IsBroken, copy_end}
+use Rattle.standby_engine.specs.Standing.{AreCopied, SomeFailed, LeavesCopies, ServesCopies, EndsCopying, HasListened, IsBroken, copy_end}
 use Rattle.standby_engine.specs.declared.run.CopyEnd.TheVariants.{LinksFault}
 use Rattle.standby_engine.specs.declared.serving.DoorEnd.{DoorEnd}
 use Rattle.standby_engine.specs.declared.serving.DoorEnd.TheVariants.{Ended, Limit, Failed}
 
 module _ (refusals : Vec (Option DeskError) Global) (broken wanting : Bool) where
-  pub ended_at : (door : DoorEnd) (P Q : Type 0) → (door ≡ Ended → P) → (door ≡ Limit → Q) → IsServed (copy_end door refusals broken wanting) → P ⊎ Q
+  pub ended_at : (door : DoorEnd) (P Q : Type 0) → (door ≡ Ended → P) → (door ≡ Limit → Q) → HasListened (copy_end door refusals broken wanting) → P ⊎ Q
   ended_at Ended P Q none reached is = inl (none refl)
   ended_at Limit P Q none reached is = inr (reached refl)
   ended_at Failed P Q none reached is = absurd is

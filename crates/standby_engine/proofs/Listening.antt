@@ -12,7 +12,7 @@ use Rattle.log_journal.specs.declared.header.Header.{Header}
 use Rattle.user_desk.specs.declared.standing.DeskError.{DeskError}
 use Rattle.standby_core.specs.Copies.{Copy}
 use Rattle.standby_core.specs.declared.serve.StandbyEnd.{StandbyEnd}
-use Rattle.standby_engine.specs.Standing.{ServesCopies, ServesNobody, EndsCopying}
+use Rattle.standby_engine.specs.Standing.{ServesCopies, CopiesNothing, EndsCopying}
 use Rattle.standby_engine.specs.declared.run.CopyEnd.{CopyEnd}
 use Rattle.standby_engine.specs.declared.run.CopyEnd.TheVariants.{Done, LinksFault, ShelfFault, Memory}
 
@@ -45,7 +45,7 @@ module _ (header : Header) (journals : Journals) (users : List User) (given give
     given_is = omega (arith, none, gave, is.given_is);
   }
 
-  nobody_moved : ServesNobody given given' back back' → ServesNobody given0 given1 back0 back1
+  nobody_moved : CopiesNothing given given' back back' → CopiesNothing given0 given1 back0 back1
   nobody_moved is = (omega (arith, none, gave, is.0), came ∙ ap (λ l. back0 ++ l) (is.1 ∙ empty) ∙ append-nil back0)
 
   pub door_served : (ended : CopyEnd) → EndsCopying header journals users given given' back back' ended

@@ -29,10 +29,10 @@ use Rattle.desk_crew.proofs.Lasting.{taken_moment, stands_along}
 use Rattle.desk_crew.proofs.Shelving.{among-append, among_none_first, among_none_second, by_among, none_out, at_names}
 use Rattle.desk_crew.proofs.Taking.{names, journals_distinct}
 use Rattle.standby_core.specs.Copies.{Copy, copy_in, held_name}
-use Rattle.standby_core.specs.Lasting.{HasCopied, Lasts, AllLast, AllCounted, has_broken}
+use Rattle.standby_core.specs.Lasting.{HasCopied, Lasts, AllLast, CountTheirRecords, has_broken}
 use Rattle.standby_core.specs.declared.book.Held.{Held}
 use Rattle.standby_core.proofs.Lasting.{taken_all, copied_fewer, enough}
-use Rattle.standby_engine.specs.Opened.{place_journal, place_refusal, given_journal, journals_in, names_in, others_in, IsGiven, IsPlaceUnder, ArePlacesOf}
+use Rattle.standby_engine.specs.Opened.{place_journal, place_refusal, given_journal, opened_in, names_in, others_in, IsGiven, IsPlaceUnder, ArePlacesOf}
 use Rattle.standby_engine.specs.Standing.{HasBeginning, GrowsJournal, AreCopied, IsCopyOf, AreCopiesOf, SomeFailed}
 use Rattle.standby_engine.specs.declared.opening.Given.{Given as Back}
 use Rattle.standby_engine.specs.declared.opening.Place.{Place}
@@ -69,7 +69,8 @@ failed_same reads (h ∷ all) = ap (λ b. is_broken h.journal || b) (failed_same
 
 -- where the count of a user's disk rose, some count did
 pub rose_of : {D : Type 0} (Disk : DiskGhosts D) (directory : Text) (disk0 disk1 : Text → Option D) (count0 count1 : Text → ℕ) (users : List User)
-    → SomeFailed (journals_by Disk.reads Disk.image Disk.moment Disk.image_since Disk.told directory disk0 disk1 count0 count1) users → SomeRose count0 count1
+    → SomeFailed (journals_by Disk.reads Disk.image Disk.moment Disk.image_since Disk.tellable directory disk0 disk1 count0 count1) users
+    → SomeRose count0 count1
 rose_of Disk directory disk0 disk1 count0 count1 [] failed = absurd failed
 rose_of Disk directory disk0 disk1 count0 count1 (u ∷ users) (inl rose) = (journal_name directory (string_bytes u.name), rose)
 rose_of Disk directory disk0 disk1 count0 count1 (u ∷ users) (inr later) = rose_of Disk directory disk0 disk1 count0 count1 users later
@@ -147,7 +148,7 @@ module _ (directory header : List ℕ) {D : Type 0} {g : _} (told : Type 0) (Dis
 
   -- as it is opened each journal lasts, and is counted
   pub first_lasts : (t : Disk.tells) (users : List User) (places : List (Place D g)) (are : Placed users places)
-      → AllLast Disk header (map held_disk (journals_in places)) (journals_in places)
+      → AllLast Disk header (map held_disk (opened_in places)) (opened_in places)
   first_lasts t [] [] are = tt
   first_lasts t [] (p ∷ places) are = absurd are
   first_lasts t (u ∷ users) [] are = absurd are
@@ -155,7 +156,7 @@ module _ (directory header : List ℕ) {D : Type 0} {g : _} (told : Type 0) (Dis
   first_lasts t (u ∷ users) (Refused journal disk why ∷ places) are = first_lasts t users places are.1
 
   pub first_counted : (users : List User) (places : List (Place D g)) (are : Placed users places)
-      → AllCounted Disk.faults (counts_of users places are) (journals_in places)
+      → CountTheirRecords Disk.faults (counts_of users places are) (opened_in places)
   first_counted [] [] are = tt
   first_counted [] (p ∷ places) are = absurd are
   first_counted (u ∷ users) [] are = absurd are
@@ -169,7 +170,7 @@ module _ (directory header : List ℕ) {D : Type 0} {g : _} (told : Type 0) (Dis
   first_counted (u ∷ users) (Refused journal disk why ∷ places) are = first_counted users places are.1
 
   pub first_sound : (users : List User) (places : List (Place D g)) (are : Placed users places)
-      → AllByRecursion (λ (held : Held D g). held.count ≡ count_of held.journal) (journals_in places)
+      → AllByRecursion (λ (held : Held D g). held.count ≡ count_of held.journal) (opened_in places)
   first_sound [] [] are = tt
   first_sound [] (p ∷ places) are = absurd are
   first_sound (u ∷ users) [] are = absurd are
@@ -230,7 +231,7 @@ module _ (directory header : List ℕ) {D : Type 0} {g : _} (told : Type 0) (Dis
 
     -- no count fell
     pub fell_all : (users : List User) (places : List (Place D g)) (are : Placed users places) (after : List (Held D g)) → AreBack places after
-        → AllCounted Disk.faults (counts_of users places are) after
+        → CountTheirRecords Disk.faults (counts_of users places are) after
         → AllByRecursion (λ (p : Place D g). count0 (place_journal p) ≤ count1 (place_journal p)) places
     fell_all [] [] are after back counted = tt
     fell_all [] (p ∷ places) are after back counted = absurd are
@@ -255,8 +256,8 @@ module _ (directory header : List ℕ) {D : Type 0} {g : _} (told : Type 0) (Dis
 
     -- where an append failed, the count of that user's disk rose
     pub some_failed : (users : List User) (places : List (Place D g)) (are : Placed users places) (after : List (Held D g)) → AreBack places after
-        → AllCounted Disk.faults (counts_of users places are) after → has_broken after ≡ true
-        → SomeFailed (journals_by Disk.reads Disk.image Disk.moment Disk.image_since Disk.told directory disk0 disk1 count0 count1) users
+        → CountTheirRecords Disk.faults (counts_of users places are) after → has_broken after ≡ true
+        → SomeFailed (journals_by Disk.reads Disk.image Disk.moment Disk.image_since Disk.tellable directory disk0 disk1 count0 count1) users
     some_failed [] [] are [] back counted broken = absurd cc
     some_failed [] [] are (h ∷ after) back counted broken = absurd counted
     some_failed [] (p ∷ places) are after back counted broken = absurd are
@@ -268,8 +269,8 @@ module _ (directory header : List ℕ) {D : Type 0} {g : _} (told : Type 0) (Dis
       where
         by : (b : Bool) → is_broken h.journal ≡ b
             → (has_broken after ≡ true
-            → SomeFailed (journals_by Disk.reads Disk.image Disk.moment Disk.image_since Disk.told directory disk0 disk1 count0 count1) users)
-            → SomeFailed (journals_by Disk.reads Disk.image Disk.moment Disk.image_since Disk.told directory disk0 disk1 count0 count1) (u ∷ users)
+            → SomeFailed (journals_by Disk.reads Disk.image Disk.moment Disk.image_since Disk.tellable directory disk0 disk1 count0 count1) users)
+            → SomeFailed (journals_by Disk.reads Disk.image Disk.moment Disk.image_since Disk.tellable directory disk0 disk1 count0 count1) (u ∷ users)
         by true is later =
             inl (subst (λ n. Rose n (count1 (journal_name directory (string_bytes u.name)))) are.0.counted
             (subst (λ n. Rose (Disk.faults are.0.taken) n) (sym back.opened.0.counted ∙ ap count1 are.0.journal_is) (counted.0.rose is)))
@@ -314,12 +315,14 @@ module _ (directory header : List ℕ) {D : Type 0} {g : _} (told : Type 0) (Dis
 
       -- and each at the moments since then some first ones, and so what follows from them
       stood_along : (stands : List ℕ → Type 0) → ((c : List ℕ) → HasCopied header (length began_with) (copy_in Disk.reads h) c → stands c)
-          → StandsAllAlong (journals_by Disk.reads Disk.image Disk.moment Disk.image_since Disk.told directory disk0 disk1 count0 count1) (string_bytes u.name)
+          → StandsAllAlong
+          (journals_by Disk.reads Disk.image Disk.moment Disk.image_since Disk.tellable directory disk0 disk1 count0 count1)
+          (string_bytes u.name)
           true
           stands
       stood_along stands weaker =
           let now = held_disk h in
-          stands_along (journals_by Disk.reads Disk.image Disk.moment Disk.image_since Disk.told directory disk0 disk1 count0 count1) (string_bytes u.name)
+          stands_along (journals_by Disk.reads Disk.image Disk.moment Disk.image_since Disk.tellable directory disk0 disk1 count0 count1) (string_bytes u.name)
           false stands
           (Disk.moment is.taken) (Disk.moment (held_disk held)) (Disk.moment now) (Disk.moment now) (Disk.image_since is.taken)
           (Disk.image_since (held_disk held)) (Disk.image_since now) (Disk.image is.taken) (Disk.image now)
@@ -331,7 +334,7 @@ module _ (directory header : List ℕ) {D : Type 0} {g : _} (told : Type 0) (Dis
           (λ fine c here. weaker c (lasts.stood c here)) (λ fine c here. weaker c (as_begun c (lasts.leaves_it c here)))
           (λ refused. absurd cc) (λ refused. absurd cc)
 
-      pub has_grown : GrowsJournal header (journals_by Disk.reads Disk.image Disk.moment Disk.image_since Disk.told directory disk0 disk1 count0 count1)
+      pub has_grown : GrowsJournal header (journals_by Disk.reads Disk.image Disk.moment Disk.image_since Disk.tellable directory disk0 disk1 count0 count1)
           (string_bytes u.name)
       has_grown = record {
         first = began_with;
@@ -342,7 +345,9 @@ module _ (directory header : List ℕ) {D : Type 0} {g : _} (told : Type 0) (Dis
       }
 
       pub has_copied : count_of held.journal ≡ length began_with → held_name h ≡ held_name held
-          → IsCopyOf header (journals_by Disk.reads Disk.image Disk.moment Disk.image_since Disk.told directory disk0 disk1 count0 count1) (string_bytes u.name)
+          → IsCopyOf header
+          (journals_by Disk.reads Disk.image Disk.moment Disk.image_since Disk.tellable directory disk0 disk1 count0 count1)
+          (string_bytes u.name)
           (copy_in Disk.reads held) (copy_in Disk.reads h)
       has_copied counts names_are =
           let counted : held.count ≡ length began_with = is.sound.1 ∙ counts in
@@ -365,8 +370,8 @@ module _ (directory header : List ℕ) {D : Type 0} {g : _} (told : Type 0) (Dis
     -- each journal that was opened grew, and each other is as it was
     pub all_copied : told → Disk.tells → CountsNow Disk → OnlyNow Disk
         → (users : List User) (places : List (Place D g)) (are : Placed users places) (after : List (Held D g))
-        → AreBack places after → AllLast Disk header (map held_disk (journals_in places)) after
-        → AreCopied header (journals_by Disk.reads Disk.image Disk.moment Disk.image_since Disk.told directory disk0 disk1 count0 count1) users
+        → AreBack places after → AllLast Disk header (map held_disk (opened_in places)) after
+        → AreCopied header (journals_by Disk.reads Disk.image Disk.moment Disk.image_since Disk.tellable directory disk0 disk1 count0 count1) users
         (map place_refusal places)
     all_copied s t counts_now only_now [] [] are after back lasts = tt
     all_copied s t counts_now only_now [] (p ∷ places) are after back lasts = absurd are
@@ -396,10 +401,10 @@ module _ (directory header : List ℕ) {D : Type 0} {g : _} (told : Type 0) (Dis
     pub all_served : told → Disk.tells → CountsNow Disk → OnlyNow Disk
         → ((held : Held D g) → is_broken held.journal ≡ false → count_of held.journal ≡ length (records (Disk.reads (disk_of held.journal))))
         → (users : List User) (places : List (Place D g)) (are : Placed users places) (after : List (Held D g))
-        → AreBack places after → AllLast Disk header (map held_disk (journals_in places)) after
-        → map held_name after ≡ map held_name (journals_in places)
-        → AreCopiesOf header (journals_by Disk.reads Disk.image Disk.moment Disk.image_since Disk.told directory disk0 disk1 count0 count1) users
-        (map place_refusal places) (map (copy_in Disk.reads) (journals_in places)) (map (copy_in Disk.reads) after)
+        → AreBack places after → AllLast Disk header (map held_disk (opened_in places)) after
+        → map held_name after ≡ map held_name (opened_in places)
+        → AreCopiesOf header (journals_by Disk.reads Disk.image Disk.moment Disk.image_since Disk.tellable directory disk0 disk1 count0 count1) users
+        (map place_refusal places) (map (copy_in Disk.reads) (opened_in places)) (map (copy_in Disk.reads) after)
     all_served s t counts_now only_now counts [] [] are [] back lasts named = tt
     all_served s t counts_now only_now counts [] [] are (h ∷ after) back lasts named = absurd lasts
     all_served s t counts_now only_now counts [] (p ∷ places) are after back lasts named = absurd are

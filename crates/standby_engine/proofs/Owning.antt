@@ -6,7 +6,7 @@ use Rattle.std.proofs.lemmas.List.{map-append}
 use Rattle.log_journal.specs.Journal.{disk_of}
 use Rattle.standby_core.specs.Copies.{held_origin}
 use Rattle.standby_core.specs.declared.book.Held.{Held}
-use Rattle.standby_engine.specs.Opened.{place_journal, place_disk, given_journal, journals_in, names_in, others_in, AreOwn, PlacesOwn}
+use Rattle.standby_engine.specs.Opened.{place_journal, place_disk, given_journal, opened_in, names_in, others_in, AreOwn, PlacesOwn}
 use Rattle.standby_engine.specs.declared.opening.Given.{Given as Back}
 use Rattle.standby_engine.specs.declared.opening.Place.{Place}
 use Rattle.standby_engine.specs.declared.opening.Place.TheVariants.{Opened, Refused}
@@ -50,7 +50,7 @@ module _ {D : Type 0} (origin : D → List (List ℕ)) (known : List ℕ → Lis
 
     -- places that are taken apart
     pub own_apart : (places : List (Place D g)) → PlacesOwn origin known places
-        → (map (held_origin origin) (journals_in places) ≡ map known (names_in places)) × AreOwn origin known (others_in places)
+        → (map (held_origin origin) (opened_in places) ≡ map known (names_in places)) × AreOwn origin known (others_in places)
     own_apart [] own = (refl, refl)
     own_apart (Opened journal held ∷ places) own =
         let rest = own_apart places (ap others_of own) in

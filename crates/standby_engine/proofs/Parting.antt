@@ -2,12 +2,12 @@
 use Rattle.std.proofs.Common.{◌≡◌, ◌+◌, ◌<◌, ◌≤◌, List, [], ◌∷◌, ◌++◌, length, map, refl, sym, ap, ◌∙◌, append_assoc, append-nil, arith}
 use Rattle.std.specs.Prelude.{slice_index_or, remove, string_bytes}
 use Rattle.std.proofs.lemmas.List.{map-append}
-use Rattle.standby_engine.specs.Opened.{journals_in, names_in, others_in}
+use Rattle.standby_engine.specs.Opened.{opened_in, names_in, others_in}
 use Rattle.standby_engine.specs.declared.opening.Place.{Place}
 use Rattle.standby_engine.specs.declared.opening.Place.TheVariants.{Opened, Refused}
 
 module _ {D : Type 0} {g : _} where
-  pub journals_more : (xs ys : List (Place D g)) → journals_in (xs ++ ys) ≡ journals_in xs ++ journals_in ys
+  pub journals_more : (xs ys : List (Place D g)) → opened_in (xs ++ ys) ≡ opened_in xs ++ opened_in ys
   journals_more [] ys = refl
   journals_more (Opened journal held ∷ xs) ys = ap (λ l. held ∷ l) (journals_more xs ys)
   journals_more (Refused journal disk why ∷ xs) ys = journals_more xs ys
@@ -23,7 +23,7 @@ module _ {D : Type 0} {g : _} where
   others_more (Refused journal disk why ∷ xs) ys = ap (λ l. record { journal = journal; disk = disk } ∷ l) (others_more xs ys)
 
   -- they are no more than the places
-  pub journals_few : (xs : List (Place D g)) → length (journals_in xs) ≤ length xs
+  pub journals_few : (xs : List (Place D g)) → length (opened_in xs) ≤ length xs
   journals_few [] = omega arith
   journals_few (Opened journal held ∷ xs) = omega (arith, journals_few xs)
   journals_few (Refused journal disk why ∷ xs) = omega (arith, journals_few xs)
@@ -39,12 +39,12 @@ module _ {D : Type 0} {g : _} where
   others_few (Refused journal disk why ∷ xs) = omega (arith, others_few xs)
 
   -- each place is one or the other
-  pub each_parted : (xs : List (Place D g)) → length xs ≡ length (others_in xs) + length (journals_in xs)
+  pub each_parted : (xs : List (Place D g)) → length xs ≡ length (others_in xs) + length (opened_in xs)
   each_parted [] = omega arith
   each_parted (Opened journal held ∷ xs) = omega (arith, each_parted xs)
   each_parted (Refused journal disk why ∷ xs) = omega (arith, each_parted xs)
 
-  pub names_many : (xs : List (Place D g)) → length (names_in xs) ≡ length (journals_in xs)
+  pub names_many : (xs : List (Place D g)) → length (names_in xs) ≡ length (opened_in xs)
   names_many [] = refl
   names_many (Opened journal held ∷ xs) = omega (arith, names_many xs)
   names_many (Refused journal disk why ∷ xs) = names_many xs

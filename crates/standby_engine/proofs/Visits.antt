@@ -9,7 +9,7 @@ use Rattle.outside.specs.Faults.{Rose}
 use Rattle.outside.specs.Visits.{Visit}
 use Rattle.log_journal.specs.declared.header.Header.{Header}
 use Rattle.standby_core.specs.Copies.{Copy}
-use Rattle.standby_core.specs.Exchanges.{Serves, IsAnswered}
+use Rattle.standby_core.specs.Exchanges.{ServesConnection, IsAnswered}
 use Rattle.standby_core.specs.declared.serve.StandbyEnd.{StandbyEnd}
 use Rattle.standby_engine.specs.Served.{IsServedVisit, nobody, further, IsDoorServed, is_wanting}
 use Rattle.standby_engine.proofs.Listening.{rose_some}
@@ -42,11 +42,11 @@ module _ {O : Type 0} (given : O → ℕ) (back : O → List Visit) (header : He
 
 -- of a source of which nothing was taken, and a sink that had nothing
 pub served_alone : (header : Header) (before after : List Copy) (ended : StandbyEnd) (left held old new : List ℕ) → left ≡ held → old ≡ []
-    → (served : Serves header left before after ended) × IsAnswered ended served.answers old new
-    → (served : Serves header held before after ended) × IsAnswered ended served.answers [] new
+    → (served : ServesConnection header left before after ended) × IsAnswered ended served.answers old new
+    → (served : ServesConnection header held before after ended) × IsAnswered ended served.answers [] new
 served_alone header before after ended left held old new same none is =
-    subst (λ o. (served : Serves header held before after ended) × IsAnswered ended served.answers o new) none
-    (subst (λ b. (served : Serves header b before after ended) × IsAnswered ended served.answers old new) same is)
+    subst (λ o. (served : ServesConnection header held before after ended) × IsAnswered ended served.answers o new) none
+    (subst (λ b. (served : ServesConnection header b before after ended) × IsAnswered ended served.answers old new) same is)
 
 -- a count that rose from 0 says that an end failed
 pub seen_failed : (before now : ℕ) → before ≡ 0 → Rose before now → (now == 0) ≡ false

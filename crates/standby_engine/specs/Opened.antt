@@ -56,10 +56,10 @@ PlacesOwn origin known places =
     map origin (map place_disk places) ≡ map known (map place_journal places)
 
 -- the journals among places that were opened, in order
-abbrev pub journals_in : {D : Type 0} {g : _} → List (Place D g) → List (Held D g)
-journals_in [] = []
-journals_in (Opened journal held ∷ places) = held ∷ journals_in places
-journals_in (Refused journal disk why ∷ places) = journals_in places
+abbrev pub opened_in : {D : Type 0} {g : _} → List (Place D g) → List (Held D g)
+opened_in [] = []
+opened_in (Opened journal held ∷ places) = held ∷ opened_in places
+opened_in (Refused journal disk why ∷ places) = opened_in places
 
 -- the names of their disks
 abbrev pub names_in : {D : Type 0} {g : _} → List (Place D g) → List (List ℕ)

@@ -4,7 +4,7 @@ use Rattle.std.specs.List.{list_any}
 use Rattle.outside.specs.Visits.{Visit}
 use Rattle.log_journal.specs.declared.header.Header.{Header}
 use Rattle.standby_core.specs.Copies.{Copy}
-use Rattle.standby_core.specs.Exchanges.{Serves, IsAnswered}
+use Rattle.standby_core.specs.Exchanges.{ServesConnection, IsAnswered}
 use Rattle.standby_core.specs.declared.book.TakeError.TheVariants.{Memory}
 use Rattle.standby_core.specs.declared.serve.StandbyEnd.{StandbyEnd}
 use Rattle.standby_core.specs.declared.serve.StandbyEnd.TheVariants.{ReadFault, Take, WriteFault}
@@ -13,7 +13,7 @@ use Rattle.standby_core.specs.declared.serve.StandbyEnd.TheVariants.{ReadFault, 
 -- what was written are the answers. A fault of an end ended it only where that end failed.
 pub record IsServedVisit (header : Header) (before after : List Copy) (visit : Visit)
     (end : StandbyEnd) : Type 0 where
-  pub served : Serves header visit.held before after end
+  pub served : ServesConnection header visit.held before after end
   pub answered : IsAnswered end served.answers [] visit.written
   pub read_failed : end ≡ ReadFault → visit.source_whole ≡ false
   pub write_failed : end ≡ WriteFault → visit.sink_whole ≡ false

@@ -100,8 +100,8 @@ pub record ServesCopies (header : Header) (journals : Journals) (users : List Us
   pub given_is : given' ≡ given + length visits
 
 -- no connection was given in a call
-abbrev pub ServesNobody : ℕ → ℕ → List Visit → List Visit → Type 0
-ServesNobody given given' back back' = (given' ≡ given) × (back' ≡ back)
+abbrev pub CopiesNothing : ℕ → ℕ → List Visit → List Visit → Type 0
+CopiesNothing given given' back back' = (given' ≡ given) × (back' ≡ back)
 
 -- What a standby did with the connections, by its end: it served each by the copies, and says
 -- whether an append to one of them failed, and whether memory was wanting for a record; where it
@@ -115,9 +115,9 @@ EndsCopying header journals users given given' back back' (Done refusals broken 
 EndsCopying header journals users given given' back back' LinksFault =
     ((refusals : List (Option DeskError)) × (last : List Copy) × (ends : List StandbyEnd)
     × ServesCopies header journals users given given' back back' refusals last ends)
-    ⊎ ServesNobody given given' back back'
+    ⊎ CopiesNothing given given' back back'
 EndsCopying header journals users given given' back back' end =
-    ServesNobody given given' back back'
+    CopiesNothing given given' back back'
 
 -- What a standby leaves of the journals: each is copied; where it didn't come to serve, all are as
 -- they were. It says that an append failed only where a count rose.
@@ -131,9 +131,9 @@ LeavesCopies header journals users LinksFault =
 LeavesCopies header journals users end = KeepsJournals journals
 
 -- the standby served
-abbrev pub IsServed : CopyEnd → Type 0
-IsServed (Done refusals broken wanting) = Unit {0}
-IsServed end = ⊥
+abbrev pub HasListened : CopyEnd → Type 0
+HasListened (Done refusals broken wanting) = Unit {0}
+HasListened end = ⊥
 
 -- the standby served, and an append to a copy failed
 abbrev pub IsBroken : CopyEnd → Type 0

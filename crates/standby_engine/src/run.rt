@@ -9,9 +9,9 @@ ghost use Rattle.log_journal.specs.Opening.{header_bytes};
 ghost use Rattle.desk_crew.specs.Registered.{registered_journals, HaveOwnNames};
 ghost use Rattle.desk_crew.specs.Shelved.{journals_on};
 ghost use Rattle.standby_core.specs.Lasting.{has_broken};
-ghost use Rattle.standby_engine.specs.Opened.{given_journal, journals_in, names_in, others_in};
+ghost use Rattle.standby_engine.specs.Opened.{given_journal, opened_in, names_in, others_in};
 ghost use Rattle.standby_engine.specs.Opened.{place_refusal};
-ghost use Rattle.standby_engine.specs.Standing.{LeavesCopies, EndsCopying, IsServed, IsBroken};
+ghost use Rattle.standby_engine.specs.Standing.{LeavesCopies, EndsCopying, HasListened, IsBroken};
 ghost use Rattle.standby_engine.specs.Standing.{copy_end};
 ghost use Rattle.standby_engine.specs.declared.run.CopyEnd.{CopyEnd};
 
@@ -80,7 +80,7 @@ pub fn run_standby<R: Wait, F: Shelf, L: Links>(
     ensures listens { L.tells → (L.listened links.new ≡ L.listened links.old)
         ⊎ (L.listened links.new
         ≡ L.listened links.old ++ place_of copying.entry.address.now 1 ∷ []) }
-    ensures heard { L.tells → IsServed result → L.listened links.new
+    ensures heard { L.tells → HasListened result → L.listened links.new
         ≡ L.listened links.old ++ place_of copying.entry.address.now 1 ∷ [] }
     ensures unheard { L.tells → L.listened links.new ≡ L.listened links.old
         → shelf.new ≡ shelf.old }
@@ -89,7 +89,7 @@ pub fn run_standby<R: Wait, F: Shelf, L: Links>(
         → L.left links.new ≡ L.at_hand links.new }
     ensures left_all { L.tells → L.left links.old ≡ L.at_hand links.old
         → L.given links.new + L.left links.new ≡ L.given links.old + L.left links.old }
-    ensures ended { L.tells → IsServed result → (L.at_hand links.new ≡ 0)
+    ensures ended { L.tells → HasListened result → (L.at_hand links.new ≡ 0)
         ⊎ (L.given links.new ≡ L.given links.old + copying.entry.sessions) }
 
     // No disk but the users' journals is touched, and all are back.
@@ -160,7 +160,7 @@ fn serve_opened<R: Wait, F: Shelf, O: Door>(
     ensures limited { O.tells → O.given door.new ≤ O.given door.old + limit }
     ensures left { O.tells → O.left door.old + O.given door.old
         ≡ O.left door.new + O.given door.new }
-    ensures ended { O.tells → IsServed result
+    ensures ended { O.tells → HasListened result
         → (O.left door.new ≡ 0) ⊎ (O.given door.new ≡ O.given door.old + limit) }
     ensures failed { result ≡ CopyEnd.LinksFault → Rose (O.faults door.old) (O.faults door.new) }
     ensures disks { SameBeside (registered_journals directory.now users.now) (F.disk shelf.old)
@@ -262,7 +262,7 @@ fn take_apart<D: Disk + Drop>(
     requires empty { (journals.items ≡ []) × (names.items ≡ []) × (given.items ≡ []) }
     requires room { (length places.items ≤ vec_capacity journals)
         × (length places.items ≤ vec_capacity names) × (length places.items ≤ vec_capacity given) }
-    ensures journals { result.0.items ≡ journals_in places.items }
+    ensures journals { result.0.items ≡ opened_in places.items }
     ensures names { map string_bytes result.1.items ≡ names_in places.items }
     ensures others { result.2.items ≡ others_in places.items }
     ensures room { vec_capacity result.2 ≡ vec_capacity given }
@@ -284,7 +284,7 @@ fn take_part<D: Disk + Drop>(
     requires { (vec_len journals.old < vec_capacity journals.old)
         × (vec_len names.old < vec_capacity names.old)
         × (vec_len given.old < vec_capacity given.old) }
-    ensures journals { journals.new.items ≡ journals.old.items ++ journals_in (place ∷ []) }
+    ensures journals { journals.new.items ≡ journals.old.items ++ opened_in (place ∷ []) }
     ensures names { map string_bytes names.new.items
         ≡ map string_bytes names.old.items ++ names_in (place ∷ []) }
     ensures others { given.new.items ≡ given.old.items ++ others_in (place ∷ []) }

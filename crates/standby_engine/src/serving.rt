@@ -3,7 +3,7 @@ ghost use Rattle.std.specs.Prelude.{◌≡◌, ◌≤◌, ◌+◌, ℕ, List, ma
 ghost use Rattle.outside.specs.Faults.{Rose};
 ghost use Rattle.standby_core.specs.Books.{copies_in, held_in};
 ghost use Rattle.standby_core.specs.Copies.{held_name, held_origin};
-ghost use Rattle.standby_core.specs.Lasting.{AllLast, AllCounted};
+ghost use Rattle.standby_core.specs.Lasting.{AllLast, CountTheirRecords};
 ghost use Rattle.standby_engine.specs.Served.{IsDoorServed, is_wanting};
 ghost use Rattle.standby_engine.specs.declared.serving.DoorEnd.{DoorEnd};
 
@@ -49,8 +49,8 @@ pub(crate) fn serve_door<R: Wait, D: Disk, O: Door>(
         ≡ map held_name (held_in book.old) }
     ensures origins { map (held_origin D.origin) (held_in book.new)
         ≡ map (held_origin D.origin) (held_in book.old) }
-    ensures counted { (counts : List ℕ) → AllCounted D.faults counts (held_in book.old)
-        → AllCounted D.faults counts (held_in book.new) }
+    ensures counted { (counts : List ℕ) → CountTheirRecords D.faults counts (held_in book.old)
+        → CountTheirRecords D.faults counts (held_in book.new) }
 {
     let mut wanting = false;
     for _ in 0..limit {

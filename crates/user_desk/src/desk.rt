@@ -56,7 +56,7 @@ pub struct Desk<'w, D: Disk> {
     ghost size: { D.tells → is_some (option_map answered_query_of in_flight) ≡ false
         → IsNoLonger (D.reads (opened_disk store)) (kept_history log)
         (D.reads (stored_disk store)) },
-    ghost told: { D.tells → length (kept_history log) ≤ D.told (stored_disk store) },
+    ghost told: { D.tells → length (kept_history log) ≤ D.tellable (stored_disk store) },
 }
 
 impl<'w, D: Disk> Desk<'w, D> {
@@ -159,7 +159,7 @@ impl<'w, D: Disk> Desk<'w, D> {
             (D.reads (desk_disk self.now)) }
 
         // The marks of all entries may be told.
-        ensures told { D.tells → length (desk_history self.now) ≤ D.told (desk_disk self.now) }
+        ensures told { D.tells → length (desk_history self.now) ≤ D.tellable (desk_disk self.now) }
 
         // What was told of is a record that lies there, where it was so at the opening.
         ensures heard { D.tells

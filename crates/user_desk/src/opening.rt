@@ -78,7 +78,7 @@ pub fn open_desk<'w, D: Disk>(
 
     ensures reads { D.reads (disk_opened result) ≡ D.reads disk }
     ensures origin { D.origin (disk_opened result) ≡ D.origin disk }
-    ensures still_told { D.told disk ≤ D.told (disk_opened result) }
+    ensures still_told { D.tellable disk ≤ D.tellable (disk_opened result) }
     ensures heard { D.tells → AreThere (D.heard disk) (D.reads disk)
         → AreThere (D.heard (disk_opened result)) (D.reads (disk_opened result)) }
     ensures durable { IfOk result (λ desk. is_sealed (desk_standing desk) ≡ false

@@ -108,8 +108,9 @@ impl<D: Disk> Store<D> {
         // Behind Ok the mark of the record may be told, whose number is the count of those before
         // it.
         ensures told { D.tells → OnOk result
-            (length (records (D.reads (stored_disk self.old))) < D.told (stored_disk self.new)) }
-        ensures still_told { D.told (stored_disk self.old) ≤ D.told (stored_disk self.new) }
+            (length (records (D.reads (stored_disk self.old)))
+            < D.tellable (stored_disk self.new)) }
+        ensures still_told { D.tellable (stored_disk self.old) ≤ D.tellable (stored_disk self.new) }
         ensures opened { opened_disk self.new ≡ opened_disk self.old }
     {
         match &mut self.medium {

@@ -15,7 +15,7 @@ use Rattle.worker_pool.specs.declared.pool.Seated.{Seated}
 use Rattle.worker_pool.specs.Hands.{sum_below, is_below}
 use Rattle.worker_pool.specs.Drawers.{drawn}
 use Rattle.worker_pool.specs.Seats.{draws}
-use Rattle.worker_pool.specs.Workers.{IsServed, AreDifferentBelow, added_numbers, lost}
+use Rattle.worker_pool.specs.Workers.{IsWorkedThrough, AreDifferentBelow, added_numbers, lost}
 use Rattle.worker_pool.specs.Runs.{HasWorked}
 use Rattle.worker_pool.proofs.Sums.{below_min}
 
@@ -92,7 +92,7 @@ module _ {J O : Type 0} (door_told numbers_told : Type 0) (given_of left_of ends
       (drawn seated.drawer) before seated.worker
 
   abbrev Served : Worker J O → Worker J O → Type 0
-  Served = IsServed door_told given_of left_of ends_of faults_of back_of room_of ran_of stands_of keeps_of
+  Served = IsWorkedThrough door_told given_of left_of ends_of faults_of back_of room_of ran_of stands_of keeps_of
 
   abbrev AllIdle : List (Worker J O) → Type 0
   AllIdle workers = AllByRecursion (λ worker. ran_of worker.job ≡ 0) workers

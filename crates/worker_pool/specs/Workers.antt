@@ -44,7 +44,7 @@ module _ {J O : Type 0} (door_told : Type 0) (given_of left_of ends_of faults_of
   -- A worker before it served and after it ended. Where the door tells it, its job ran once for
   -- each connection that the door gave, and the door has one visit more for each, which all stand
   -- with the job, in their order.
-  pub record IsServed (before after : Worker J O) : Type 0 where
+  pub record IsWorkedThrough (before after : Worker J O) : Type 0 where
     pub given : door_told → given_of after.door ≡ given_of before.door + ran_of after.job
     pub left : door_told → left_of before.door ≡ ran_of after.job + left_of after.door
     pub back : door_told

@@ -9,7 +9,8 @@ ghost use Rattle.worker_pool.specs.Hands.{first_hand, split_off_hand};
 ghost use Rattle.worker_pool.specs.Drawers.{hand_of, drawn, IsAt};
 ghost use Rattle.worker_pool.specs.Seats.{draws};
 ghost use Rattle.worker_pool.specs.Runs.{HasRun, HasWorked};
-ghost use Rattle.worker_pool.specs.Workers.{IsServed, AreDifferentBelow, added_numbers, lost};
+ghost use Rattle.worker_pool.specs.Workers.{IsWorkedThrough, AreDifferentBelow, lost};
+ghost use Rattle.worker_pool.specs.Workers.{added_numbers};
 ghost use Rattle.worker_pool.specs.declared.worker.WorkerEnd.{WorkerEnd};
 
 use crate::numbers::{Drawer, Numbers};
@@ -217,7 +218,7 @@ pub fn serve_all<
     requires room { All (λ worker. limit ≤ J.room worker.job) crew.items }
     ensures refused { IfErr result (λ same. same ≡ crew) }
     ensures served { IfOk result (λ after.
-        AllZip (IsServed O.tells O.given O.left O.ends O.faults O.back J.room J.ran
+        AllZip (IsWorkedThrough O.tells O.given O.left O.ends O.faults O.back J.room J.ran
         J.stands J.keeps) crew.items after.items) }
     ensures limit { IfOk result (λ after. sum_by (λ worker. J.ran worker.job) after.items ≤ limit) }
     ensures reached { IfOk result (λ after.

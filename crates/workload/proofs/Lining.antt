@@ -8,8 +8,8 @@ use Rattle.std.proofs.lemmas.Bool.{and_parts, not-true}
 use Rattle.std.proofs.lemmas.List.{append-nil}
 use Rattle.std.proofs.lemmas.List.Folds.{list_all-append}
 use Rattle.cqe_base.specs.FactText.{stated_fact}
-use Rattle.cqe_base.specs.Lines.{lines_after, text_lines, without_return, content}
-use Rattle.cqe_base.proofs.TextLines.{lines_after-byte}
+use Rattle.cqe_base.specs.Lines.{lines_begun, text_lines, without_return, content}
+use Rattle.cqe_base.proofs.TextLines.{lines_begun-byte}
 use Rattle.sentence_text.specs.Laws.{CanonicalFormsRead}
 use Rattle.workload.specs.Draws.{state_after}
 use Rattle.workload.specs.Statements.{statement_text, facts_text, illness, treatment, illnesses, treatments, statements}
@@ -22,17 +22,17 @@ use Rattle.workload.proofs.Stating.{IsWithin, states}
 abbrev pub is_other : ℕ → Bool
 is_other b = not (b == 10)
 
-pub line_up : (seen bytes rest : List ℕ) → list_all is_other bytes ≡ true → lines_after seen (bytes ++ 10 ∷ rest) ≡ record {
+pub line_up : (seen bytes rest : List ℕ) → list_all is_other bytes ≡ true → lines_begun seen (bytes ++ 10 ∷ rest) ≡ record {
   bytes =
       seen ++ bytes;
   ended = true;
-} ∷ lines_after [] rest
+} ∷ lines_begun [] rest
 line_up [] [] rest all = refl
-line_up (s ∷ seen) [] rest all = ap (λ (l : List ℕ). record { bytes = l; ended = true } ∷ lines_after [] rest) (sym (append-nil (s ∷ seen)))
+line_up (s ∷ seen) [] rest all = ap (λ (l : List ℕ). record { bytes = l; ended = true } ∷ lines_begun [] rest) (sym (append-nil (s ∷ seen)))
 line_up seen (b ∷ bytes) rest all =
     let parts = and_parts (is_other b) (list_all is_other bytes) all in
-    lines_after-byte seen (bytes ++ 10 ∷ rest) b (not-true (b == 10) parts.0) ∙ line_up (seen ++ b ∷ []) bytes rest parts.1
-    ∙ ap (λ (l : List ℕ). record { bytes = l; ended = true } ∷ lines_after [] rest) (append_assoc seen (b ∷ []) bytes)
+    lines_begun-byte seen (bytes ++ 10 ∷ rest) b (not-true (b == 10) parts.0) ∙ line_up (seen ++ b ∷ []) bytes rest parts.1
+    ∙ ap (λ (l : List ℕ). record { bytes = l; ended = true } ∷ lines_begun [] rest) (append_assoc seen (b ∷ []) bytes)
 
 pub all_at : (p : ℕ → Bool) (a n j k : ℕ) → k ≡ a + j → j < n → list_all p (range_with_len a n) ≡ true → p k ≡ true
 all_at p a zero j k is less all = absurd (omega (arith, less))
@@ -75,7 +75,7 @@ pub first_line : (statement : Statement) (all : List Statement) → IsWithin sta
 } ∷ text_lines (facts_text all)
 unfolding text_lines
 first_line statement all within =
-    ap (lines_after []) (append_assoc (statement_text statement) (codes "\n") (facts_text all))
+    ap (lines_begun []) (append_assoc (statement_text statement) (codes "\n") (facts_text all))
     ∙ line_up [] (statement_text statement) (facts_text all) (on_one_line statement within)
 
 -- the lines of the text of some statements state their facts

@@ -73,7 +73,7 @@ names_are seed a (suc n) = ap (λ names. user_name a ∷ names) (names_are seed 
 -- what each user knows is read
 known_read : reading workload_schema known_text ≡ Ok drug_means_illness
 unfolding digits reading Tokens.tokens_from Tokens.end_from Tokens.token_length Tokens.mark_length Tokens.symbol_of Reading.sentence_of Reading.sentence
-    Reading.implied Reading.unary Reading.unary_by Reading.quantified Reading.both Reading.either Reading.chain Reading.implying Reading.equivalent_to
+    Reading.conditional Reading.unary Reading.unary_by Reading.quantified Reading.both Reading.either Reading.chain Reading.implying Reading.equivalent_to
     Reading.named Reading.relation_atom Reading.arguments Reading.some_columns Reading.columns Reading.term_of Reading.after_column Reading.name
     Reading.domain Reading.pass Reading.variable_named Reading.inside Reading.at_end Reading.ends_quantified
 known_read = refl

@@ -13,12 +13,12 @@ use Rattle.cqe_top.specs.Case.{RunsCase}
 use Rattle.cqe_top.specs.Promise.{Always}
 use Rattle.cqe_top.specs.Scene.{scene_of, shelf_of, input_of, output_of, links_of}
 use Rattle.cqe_top.specs.Selfrun.{RunsSelfrun}
-use Rattle.cqe_top.specs.Steps.{reading_over, reading_copied, KeepsBounds, KeepsCopiedBounds}
+use Rattle.cqe_top.specs.Steps.{reading_over, reading_mirrored, KeepsBounds, KeepsMirroredBounds}
 use Rattle.cqe_top.specs.declared.end.CommandEnd.TheVariants as ends
 use Rattle.cqe_top.specs.declared.over_files.Task.{Task}
 use Rattle.cqe_top.specs.declared.over_files.Task.TheVariants.{Init, Batch, OfUser, Migrate, Serve, Standby}
-use Rattle.cqe_top.specs.declared.copied.CopiedTask.{CopiedTask}
-use Rattle.cqe_top.specs.declared.copied.CopiedTask.TheVariants as copied
+use Rattle.cqe_top.specs.declared.mirrored.MirroredTask.{MirroredTask}
+use Rattle.cqe_top.specs.declared.mirrored.MirroredTask.TheVariants as copied
 use Rattle.cqe_top.proofs.Causes.{case_cause, selfrun_cause, has_cause, plainly}
 use Rattle.cqe_top.proofs.Good.{case_succeeds, selfrun_succeeds, nothing_begun, nobody_called}
 use Rattle.cqe_top.proofs.Dialling.{counted_same, counted_over}
@@ -35,9 +35,9 @@ bounds_of files (Serve listening) keeps = keeps
 bounds_of files (Standby copying) keeps = keeps
 
 -- so does one with a standby
-copied_bounds_of : (files : FileNames) (task : CopiedTask) (standby : Text) → Keeps (reading_copied files task standby) → KeepsCopiedBounds task
-copied_bounds_of files (copied.Batch workers) standby keeps = keeps
-copied_bounds_of files (copied.Serve listening) standby keeps = keeps
+mirrored_bounds_of : (files : FileNames) (task : MirroredTask) (standby : Text) → Keeps (reading_mirrored files task standby) → KeepsMirroredBounds task
+mirrored_bounds_of files (copied.Batch workers) standby keeps = keeps
+mirrored_bounds_of files (copied.Serve listening) standby keeps = keeps
 
 pub run_selfrun-end-requires-clause-some_user : goal.run_selfrun-end-requires-clause-some_user
 run_selfrun-end-requires-clause-some_user g c κs within =
@@ -71,14 +71,14 @@ run_over_files-requires-clause-bounds g c κs within =
     (kept (map string_bytes c.args.words.now) (reading_over files task)
     (sym c.in-Ok-Some.ensures ∙ ap (option_map reading_in) c.in-Ok-Some.field-0-is ∙ ap Some (sym c.in-OverFiles.ensures)))
 
-pub run_copied-requires-clause-bounds : goal.run_copied-requires-clause-bounds
-run_copied-requires-clause-bounds g c κs within =
-    let files = names_of_files c.in-Copied.files in
-    let task = c.in-Copied.task in
-    let standby = c.in-Copied.standby.now in
-    copied_bounds_of files task standby
-    (kept (map string_bytes c.args.words.now) (reading_copied files task standby)
-    (sym c.in-Ok-Some.ensures ∙ ap (option_map reading_in) c.in-Ok-Some.field-0-is ∙ ap Some (sym c.in-Copied.ensures)))
+pub run_mirrored-requires-clause-bounds : goal.run_mirrored-requires-clause-bounds
+run_mirrored-requires-clause-bounds g c κs within =
+    let files = names_of_files c.in-Mirrored.files in
+    let task = c.in-Mirrored.task in
+    let standby = c.in-Mirrored.standby.now in
+    mirrored_bounds_of files task standby
+    (kept (map string_bytes c.args.words.now) (reading_mirrored files task standby)
+    (sym c.in-Ok-Some.ensures ∙ ap (option_map reading_in) c.in-Ok-Some.field-0-is ∙ ap Some (sym c.in-Mirrored.ensures)))
 
 -- ---- what is done by each command
 
@@ -186,11 +186,11 @@ returns-in-OverFiles g c =
       );
     }
 
-pub returns-in-Copied : goal.returns-in-Copied
-returns-in-Copied g c = record {
+pub returns-in-Mirrored : goal.returns-in-Mirrored
+returns-in-Mirrored g c = record {
   command = (
-    Some (reading_copied (names_of_files c.in-Copied.files) c.in-Copied.task c.in-Copied.standby.now),
-    sym c.in-Ok-Some.ensures ∙ ap (option_map reading_in) c.in-Ok-Some.field-0-is ∙ ap Some (sym c.in-Copied.ensures),
-    c.run_copied.ensures.does,
+    Some (reading_mirrored (names_of_files c.in-Mirrored.files) c.in-Mirrored.task c.in-Mirrored.standby.now),
+    sym c.in-Ok-Some.ensures ∙ ap (option_map reading_in) c.in-Ok-Some.field-0-is ∙ ap Some (sym c.in-Mirrored.ensures),
+    c.run_mirrored.ensures.does,
   );
 }

@@ -5,7 +5,7 @@ use Rattle.outside.specs.Faults.{Rose}
 use Rattle.outside.specs.Shelf.{NoneOut}
 use Rattle.outside.specs.Streams.{AppendsUnless}
 use Rattle.cqe_top.specs.Complaints.{complaint_of}
-use Rattle.cqe_top.specs.Copied.{has_standby, counted_by}
+use Rattle.cqe_top.specs.Mirrored.{has_standby, counted_by}
 use Rattle.cqe_top.specs.Promise.{Does}
 use Rattle.cqe_top.specs.Reports.{status_of}
 use Rattle.cqe_top.specs.declared.end.CommandEnd.{CommandEnd}

@@ -12,6 +12,6 @@ invariant-loop g l = record {
       (g.D.Disk.moment l.initial.disk) (g.D.Disk.moment l.disk) (g.D.Disk.image_since l.initial.disk) (g.D.Disk.image_since l.disk)
       (g.D.Disk.faults l.initial.disk) (g.D.Disk.faults l.disk);
   origin : g.D.Disk.origin l.disk ≡ g.D.Disk.origin l.initial.disk;
-  still_told : g.D.Disk.told l.initial.disk ≤ g.D.Disk.told l.disk;
+  still_told : g.D.Disk.tellable l.initial.disk ≤ g.D.Disk.tellable l.disk;
   heard : HearsNoMore (g.D.Disk.heard l.initial.disk) (g.D.Disk.heard l.disk);
 }

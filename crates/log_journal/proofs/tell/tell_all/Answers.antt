@@ -43,7 +43,7 @@ tell_record-requires-clause-short g c =
 pub loop-number-preserved : goal.loop-number-preserved
 loop-number-preserved g c = record {
   told = omega (arith, c.in_ok-tell_record.ensures.may_be_told);
-  still_told = omega (arith, c.loop-number.invariant.still_told, c.tell_record.ensures.told);
+  still_told = omega (arith, c.loop-number.invariant.still_told, c.tell_record.ensures.tellable);
   heard = λ told there.
       there_told (g.D.Disk.heard c.loop-number.disk) (g.D.Disk.heard c.tell_record.new.disk) (g.D.Disk.reads c.loop-number.disk)
       (g.D.Disk.reads c.tell_record.new.disk) c.tell_record.ensures.only.reads (c.loop-number.invariant.heard told there) c.loop-number.number

@@ -13,7 +13,7 @@ returns-clause-ends g c shelf_told links_told =
     let back = c.take_back_all.ensures in
     let door_told = g.met.L.Links.tells_doors links_told in
     ends_of c.law_served_alike.ensures c.args.registry.now.schema.now c.args.registry.now.world.now (header_bytes c.args.registry.now.header.now)
-    (journals_by g.F.D.Disk.reads g.F.D.Disk.image g.F.D.Disk.moment g.F.D.Disk.image_since g.F.D.Disk.told c.args.registry.now.directory.now
+    (journals_by g.F.D.Disk.reads g.F.D.Disk.image g.F.D.Disk.moment g.F.D.Disk.image_since g.F.D.Disk.tellable c.args.registry.now.directory.now
     (g.F.Shelf.disk c.args.shelf.now)
     (g.F.Shelf.disk c.serve_opened-end.new.shelf) (g.F.Shelf.disk_faults c.args.shelf.now) (g.F.Shelf.disk_faults c.serve_opened-end.new.shelf))
     c.args.registry.now.users.now g.L.D.Door door_told c.in-Ok.doors.items
@@ -82,7 +82,7 @@ returns-clause-heard g c links_told done = c.take_back_all.ensures.listened link
 pub returns-clause-journals : goal.returns-clause-journals
 returns-clause-journals g c shelf_told =
     leaves_journals c.args.registry.now.schema.now c.args.registry.now.world.now (header_bytes c.args.registry.now.header.now)
-    (journals_by g.F.D.Disk.reads g.F.D.Disk.image g.F.D.Disk.moment g.F.D.Disk.image_since g.F.D.Disk.told c.args.registry.now.directory.now
+    (journals_by g.F.D.Disk.reads g.F.D.Disk.image g.F.D.Disk.moment g.F.D.Disk.image_since g.F.D.Disk.tellable c.args.registry.now.directory.now
     (g.F.Shelf.disk c.args.shelf.now)
     (g.F.Shelf.disk c.serve_opened-end.new.shelf)
     (g.F.Shelf.disk_faults c.args.shelf.now) (g.F.Shelf.disk_faults c.serve_opened-end.new.shelf)) c.args.registry.now.users.now g.L.D.Door

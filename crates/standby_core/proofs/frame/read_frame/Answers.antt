@@ -1,13 +1,13 @@
 use Rattle.std.proofs.Common.{◌≡◌, ◌++◌, length, refl, sym, ap, subst, ◌∙◌, arith}
 use Rattle.outside.proofs.Rises.{rose_since}
-use Rattle.standby_core.specs.Frames.{IsWithin, IsFrame, IsOther, Shows, Reads, carried_in, end_behind}
+use Rattle.standby_core.specs.Frames.{EndsWithinFrame, IsFrame, IsOther, Shows, Reads, carried_in, end_behind}
 use Rattle.standby_core.specs.declared.frame.Judged.TheVariants.{Short, Bad}
 use Rattle.standby_core.proofs.Frames.{none_within, more_within, bad_read, other_read, end_read, same_room, never_whole, never_fault}
 use Rattle.standby_core.proofs.frame.read_frame.Goals as goal
 
 pub loop-size-init : goal.loop-size-init
 loop-size-init g c = record {
-  within = subst (IsWithin c.args.header.now) (sym c.clear.ensures) (none_within c.args.header.now);
+  within = subst (EndsWithinFrame c.args.header.now) (sym c.clear.ensures) (none_within c.args.header.now);
   room = omega (arith, ap length c.clear.ensures);
   taken = λ told. ap (λ l. l ++ g.S.Source.left c.args.source.now) (sym c.clear.ensures);
   held = refl;
@@ -15,7 +15,7 @@ loop-size-init g c = record {
 }
 
 pub judge-requires : goal.judge-requires
-judge-requires g c = subst (IsWithin c.args.header.now) (sym c.bytes.ensures) c.loop-size.invariant.within
+judge-requires g c = subst (EndsWithinFrame c.args.header.now) (sym c.bytes.ensures) c.loop-size.invariant.within
 
 pub take_up_to-requires-clause-more : goal.take_up_to-requires-clause-more
 take_up_to-requires-clause-more g c = omega (arith, c.in-Short.ensures.0, ap length c.bytes.ensures)

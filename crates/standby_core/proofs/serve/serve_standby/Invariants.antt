@@ -1,7 +1,7 @@
 use Rattle.std.proofs.Common.{◌≡◌, ◌≤◌, ℕ, List, map}
 use Rattle.standby_core.specs.Books.{copies_in}
 use Rattle.standby_core.specs.Copies.{held_name, held_origin}
-use Rattle.standby_core.specs.Lasting.{AllLast, AllCounted}
+use Rattle.standby_core.specs.Lasting.{AllLast, CountTheirRecords}
 use Rattle.standby_core.proofs.Serving.{SoFar}
 use Rattle.standby_core.proofs.serve.serve_standby.Given as goal
 
@@ -15,7 +15,8 @@ invariant-loop g l = record {
       → AllLast g.D.Disk own disks l.book.journals.items;
   names : map held_name l.book.journals.items ≡ map held_name l.fn.book.journals.items;
   origins : map (held_origin g.D.Disk.origin) l.book.journals.items ≡ map (held_origin g.D.Disk.origin) l.fn.book.journals.items;
-  counted : (counts : List ℕ) → AllCounted g.D.Disk.faults counts l.fn.book.journals.items → AllCounted g.D.Disk.faults counts l.book.journals.items;
+  counted : (counts : List ℕ) → CountTheirRecords g.D.Disk.faults counts l.fn.book.journals.items
+      → CountTheirRecords g.D.Disk.faults counts l.book.journals.items;
   read_later : g.S.Source.faults l.fn.source ≤ g.S.Source.faults l.source;
   write_later : g.K.Sink.faults l.fn.sink ≤ g.K.Sink.faults l.sink;
   held : g.S.Source.held l.source ≡ g.S.Source.held l.fn.source;

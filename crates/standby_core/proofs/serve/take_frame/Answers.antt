@@ -1,6 +1,6 @@
 use Rattle.std.proofs.Common.{◌≡◌, ◌++◌, length, take, Ok, Err, refl, sym, ap, subst, ◌∙◌, arith}
 use Rattle.standby_core.specs.Books.{copies_in}
-use Rattle.standby_core.specs.Frames.{IsWithin, IsFrame, Shows, carried_in}
+use Rattle.standby_core.specs.Frames.{EndsWithinFrame, IsFrame, Shows, carried_in}
 use Rattle.standby_core.specs.declared.frame.Judged.TheVariants.{Short, Bad, Other}
 use Rattle.standby_core.specs.declared.book.TakeError.TheVariants.{Broken}
 use Rattle.standby_core.proofs.Framing.{frame_within, never_short, never_bad, never_other}
@@ -12,7 +12,7 @@ use Rattle.standby_core.proofs.serve.take_frame.Goals.{In-Frame}
 pub judge-requires : goal.judge-requires
 judge-requires g c =
     let header = c.args.header.now in
-    subst (IsWithin header) (sym c.bytes.ensures) (frame_within header c.args.room.now c.requires.0 c.requires.1)
+    subst (EndsWithinFrame header) (sym c.bytes.ensures) (frame_within header c.args.room.now c.requires.0 c.requires.1)
 
 -- ---- never: the bytes are a whole frame
 

@@ -10,10 +10,10 @@ use Rattle.desk_crew.specs.Shelved.{journals_by}
 use Rattle.desk_crew.proofs.Lasting.{keeps_same, keeps_all}
 use Rattle.desk_crew.proofs.Giving.{AllReturned}
 use Rattle.standby_core.specs.Copies.{held_name, held_origin, copy_in}
-use Rattle.standby_core.specs.Lasting.{AllLast, AllCounted, has_broken}
+use Rattle.standby_core.specs.Lasting.{AllLast, CountTheirRecords, has_broken}
 use Rattle.standby_core.specs.declared.book.Held.{Held}
-use Rattle.standby_engine.specs.Opened.{place_refusal, given_journal, journals_in, AreOwn}
-use Rattle.standby_engine.specs.Standing.{LeavesCopies, AreCopied, AreCopiesOf, EndsCopying, IsServed, IsBroken}
+use Rattle.standby_engine.specs.Opened.{place_refusal, given_journal, opened_in, AreOwn}
+use Rattle.standby_engine.specs.Standing.{LeavesCopies, AreCopied, AreCopiesOf, EndsCopying, HasListened, IsBroken}
 use Rattle.standby_engine.specs.declared.opening.Given.{Given as Back}
 use Rattle.standby_engine.proofs.Owning.{own_both, own_apart, origins_of}
 use Rattle.standby_engine.proofs.Parting.{each_parted, names_many}
@@ -98,7 +98,7 @@ take_apart-journals-requires-clause-room g c =
 pub new-book-requires : goal.new-book-requires
 new-book-requires g c = record {
   counted = subst (All (λ (held : Held _ _). held.count ≡ count_of held.journal)) (sym c.take_apart-journals.ensures.journals)
-      (All-from_recursion (λ (held : Held _ _). held.count ≡ count_of held.journal) (journals_in c.in-Ok-open_journals.places.items)
+      (All-from_recursion (λ (held : Held _ _). held.count ≡ count_of held.journal) (opened_in c.in-Ok-open_journals.places.items)
       (first_sound c.args.directory.now (header_bytes c.args.header.now) g.F.Shelf.tells g.F.D.Disk (g.F.Shelf.disk c.args.shelf.now)
       (g.F.Shelf.disk_faults c.args.shelf.now)
       c.args.users.now c.in-Ok-open_journals.places.items c.in-Ok-open_journals.ensures.opened));
@@ -185,19 +185,20 @@ back g c =
     c.give_back.ensures.back
 
 -- the journals as the book began
-began : (g : Over) (c : After-end_of g) → c.new-book.result.journals.items ≡ journals_in c.in-Ok-open_journals.places.items
+began : (g : Over) (c : After-end_of g) → c.new-book.result.journals.items ≡ opened_in c.in-Ok-open_journals.places.items
 began g c = ap (λ (v : Vec _ Global). v.items) c.new-book.ensures ∙ c.take_apart-journals.ensures.journals
 
 counted : (g : Over) (c : After-end_of g)
-    → AllCounted g.F.D.Disk.faults (counts_of c.args.directory.now (header_bytes c.args.header.now) g.F.Shelf.tells g.F.D.Disk (g.F.Shelf.disk c.args.shelf.now)
+    → CountTheirRecords g.F.D.Disk.faults
+    (counts_of c.args.directory.now (header_bytes c.args.header.now) g.F.Shelf.tells g.F.D.Disk (g.F.Shelf.disk c.args.shelf.now)
     (g.F.Shelf.disk_faults c.args.shelf.now)
     c.args.users.now c.in-Ok-open_journals.places.items c.in-Ok-open_journals.ensures.opened) c.close-journals.result.items
 counted g c =
     let counts = counts_of c.args.directory.now (header_bytes c.args.header.now) g.F.Shelf.tells g.F.D.Disk (g.F.Shelf.disk c.args.shelf.now)
     (g.F.Shelf.disk_faults c.args.shelf.now)
     c.args.users.now c.in-Ok-open_journals.places.items c.in-Ok-open_journals.ensures.opened in
-    subst (λ (v : Vec _ Global). AllCounted g.F.D.Disk.faults counts v.items) (sym c.close-journals.ensures.same)
-    (c.serve_door-end.ensures.counted counts (subst (AllCounted g.F.D.Disk.faults counts) (sym (began g c))
+    subst (λ (v : Vec _ Global). CountTheirRecords g.F.D.Disk.faults counts v.items) (sym c.close-journals.ensures.same)
+    (c.serve_door-end.ensures.counted counts (subst (CountTheirRecords g.F.D.Disk.faults counts) (sym (began g c))
     (first_counted c.args.directory.now (header_bytes c.args.header.now) g.F.Shelf.tells g.F.D.Disk (g.F.Shelf.disk c.args.shelf.now)
     (g.F.Shelf.disk_faults c.args.shelf.now)
     c.args.users.now c.in-Ok-open_journals.places.items c.in-Ok-open_journals.ensures.opened)))
@@ -235,10 +236,10 @@ returns-clause-other_counts g c = (returned g c).other_counts
 
 -- each journal that was opened lasts
 lasts : (g : Over) (c : After-end_of g) → g.F.D.Disk.tells
-    → AllLast g.F.D.Disk (header_bytes c.args.header.now) (map held_disk (journals_in c.in-Ok-open_journals.places.items)) c.close-journals.result.items
+    → AllLast g.F.D.Disk (header_bytes c.args.header.now) (map held_disk (opened_in c.in-Ok-open_journals.places.items)) c.close-journals.result.items
 lasts g c told =
     let own = header_bytes c.args.header.now in
-    let disks = map held_disk (journals_in c.in-Ok-open_journals.places.items) in
+    let disks = map held_disk (opened_in c.in-Ok-open_journals.places.items) in
     subst (λ (v : Vec _ Global). AllLast g.F.D.Disk own disks v.items) (sym c.close-journals.ensures.same)
     (c.serve_door-end.ensures.lasts told own disks (subst (AllLast g.F.D.Disk own disks) (sym (began g c))
     (first_lasts c.args.directory.now (header_bytes c.args.header.now) g.F.Shelf.tells g.F.D.Disk (g.F.Shelf.disk c.args.shelf.now)
@@ -256,13 +257,13 @@ returns-clause-serves g c shelf_told door_told =
     let own = header_bytes c.args.header.now in
     let users = c.args.users.now in
     let places = c.in-Ok-open_journals.places.items in
-    let journals = (journals_by g.F.D.Disk.reads g.F.D.Disk.image g.F.D.Disk.moment g.F.D.Disk.image_since g.F.D.Disk.told c.args.directory.now
+    let journals = (journals_by g.F.D.Disk.reads g.F.D.Disk.image g.F.D.Disk.moment g.F.D.Disk.image_since g.F.D.Disk.tellable c.args.directory.now
     (g.F.Shelf.disk c.args.shelf.now)
     (g.F.Shelf.disk c.give_back.new.shelf) (g.F.Shelf.disk_faults c.args.shelf.now) (g.F.Shelf.disk_faults c.give_back.new.shelf)) in
     let served = c.serve_door-end.ensures.served door_told disk_told in
     let closed = c.close-journals.ensures.same in
     let named = ap (λ (v : Vec _ Global). map held_name v.items) closed ∙ c.serve_door-end.ensures.names ∙ ap (map held_name) (began g c) in
-    let of_places : AreCopiesOf own journals users (map place_refusal places) (map (copy_in reads) (journals_in places))
+    let of_places : AreCopiesOf own journals users (map place_refusal places) (map (copy_in reads) (opened_in places))
     (map (copy_in reads) c.close-journals.result.items) =
     all_served c.args.directory.now (header_bytes c.args.header.now) g.F.Shelf.tells g.F.D.Disk (g.F.Shelf.disk c.args.shelf.now)
     (g.F.Shelf.disk_faults c.args.shelf.now)
@@ -275,7 +276,7 @@ returns-clause-serves g c shelf_told door_told =
     (map (copy_in reads) c.serve_door-end.new.book.journals.items)) (sym (refused g c))
     (subst (λ (l : List (Held _ _)). AreCopiesOf own journals users (map place_refusal places) (map (copy_in reads) l)
     (map (copy_in reads) c.serve_door-end.new.book.journals.items)) (sym (began g c))
-    (subst (λ (v : Vec (Held _ _) Global). AreCopiesOf own journals users (map place_refusal places) (map (copy_in reads) (journals_in places))
+    (subst (λ (v : Vec (Held _ _) Global). AreCopiesOf own journals users (map place_refusal places) (map (copy_in reads) (opened_in places))
     (map (copy_in reads) v.items)) closed of_places)) in
     subst (EndsCopying c.args.header.now journals users (g.O.Door.given c.args.door.now) (g.O.Door.given c.serve_door-end.new.door)
     (g.O.Door.back c.args.door.now) (g.O.Door.back c.serve_door-end.new.door)) (sym c.end_of.ensures)
@@ -298,7 +299,7 @@ pub returns-clause-journals : goal.returns-clause-journals
 returns-clause-journals g c shelf_told =
     let disk_told = g.met.F.Shelf.tells_disks shelf_told in
     let own = header_bytes c.args.header.now in
-    let journals = (journals_by g.F.D.Disk.reads g.F.D.Disk.image g.F.D.Disk.moment g.F.D.Disk.image_since g.F.D.Disk.told c.args.directory.now
+    let journals = (journals_by g.F.D.Disk.reads g.F.D.Disk.image g.F.D.Disk.moment g.F.D.Disk.image_since g.F.D.Disk.tellable c.args.directory.now
     (g.F.Shelf.disk c.args.shelf.now)
     (g.F.Shelf.disk c.give_back.new.shelf) (g.F.Shelf.disk_faults c.args.shelf.now) (g.F.Shelf.disk_faults c.give_back.new.shelf)) in
     subst (LeavesCopies own journals c.args.users.now) (sym c.end_of.ensures)
@@ -331,7 +332,7 @@ returns-clause-disk_cause g c broken =
 pub returns-clause-ended : goal.returns-clause-ended
 returns-clause-ended g c door_told done =
     ended_at c.refusals_of-refusals.result c.put_together-all.result.1 c.serve_door-end.result.1 c.serve_door-end.result.0 _ _
-    (c.serve_door-end.ensures.none_left door_told) (c.serve_door-end.ensures.reached door_told) (subst IsServed c.end_of.ensures done)
+    (c.serve_door-end.ensures.none_left door_told) (c.serve_door-end.ensures.reached door_told) (subst HasListened c.end_of.ensures done)
 
 pub returns-clause-failed : goal.returns-clause-failed
 returns-clause-failed g c is =

@@ -1,7 +1,7 @@
 use Rattle.std.proofs.Common.{◌∷◌, ◌++◌, [], length, map, refl, sym, ap, ◌∙◌, arith, rules}
 use Rattle.std.specs.Prelude.{string_bytes}
 use Rattle.std.proofs.lemmas.List.{length-map}
-use Rattle.standby_engine.specs.Opened.{journals_in, names_in, others_in}
+use Rattle.standby_engine.specs.Opened.{opened_in, names_in, others_in}
 use Rattle.standby_engine.proofs.Parting.{journals_more, names_more, others_more, journals_few, names_few, others_few}
 use Rattle.standby_engine.proofs.Reading.{read_on, read_more, read_all}
 use Rattle.standby_engine.proofs.run.take_apart.Goals as goal
@@ -42,7 +42,7 @@ loop-place-preserved g c =
     let put = c.take_part.ensures in
     record {
       rest = read_on c.args.places.items c.loop-place.yielded _ _ _ so_far.rest c.in-Some.ensures.steps.0;
-      journals = put.journals ∙ ap (λ l. l ++ journals_in (c.in-Some.place ∷ [])) so_far.journals
+      journals = put.journals ∙ ap (λ l. l ++ opened_in (c.in-Some.place ∷ [])) so_far.journals
           ∙ sym (journals_more c.loop-place.yielded (c.in-Some.place ∷ []));
       names = put.names ∙ ap (λ l. l ++ names_in (c.in-Some.place ∷ [])) so_far.names ∙ sym (names_more c.loop-place.yielded (c.in-Some.place ∷ []));
       others = put.others ∙ ap (λ l. l ++ others_in (c.in-Some.place ∷ [])) so_far.others
@@ -53,7 +53,7 @@ loop-place-preserved g c =
 pub returns-clause-journals : goal.returns-clause-journals
 returns-clause-journals g c =
     let so_far = c.loop-place.invariant in
-    so_far.journals ∙ ap journals_in (read_all c.args.places.items c.loop-place.yielded _ so_far.rest (search rules))
+    so_far.journals ∙ ap opened_in (read_all c.args.places.items c.loop-place.yielded _ so_far.rest (search rules))
 
 pub returns-clause-names : goal.returns-clause-names
 returns-clause-names g c =

@@ -1,7 +1,7 @@
 use Rattle.std.proofs.Common.{◌≡◌, ◌≤◌, ◌+◌, ℕ, List, map}
 use Rattle.standby_core.specs.Books.{copies_in, held_in}
 use Rattle.standby_core.specs.Copies.{held_name, held_origin}
-use Rattle.standby_core.specs.Lasting.{AllLast, AllCounted}
+use Rattle.standby_core.specs.Lasting.{AllLast, CountTheirRecords}
 use Rattle.standby_engine.specs.Served.{IsDoorServed}
 use Rattle.standby_engine.proofs.serving.serve_door.Given as goal
 
@@ -15,7 +15,7 @@ invariant-loop g l = record {
   lasts : g.D.Disk.tells → (own : List ℕ) (disks : List _) → AllLast g.D.Disk own disks (held_in l.fn.book) → AllLast g.D.Disk own disks (held_in l.book);
   names : map held_name (held_in l.book) ≡ map held_name (held_in l.fn.book);
   origins : map (held_origin g.D.Disk.origin) (held_in l.book) ≡ map (held_origin g.D.Disk.origin) (held_in l.fn.book);
-  counted : (counts : List ℕ) → AllCounted g.D.Disk.faults counts (held_in l.fn.book) → AllCounted g.D.Disk.faults counts (held_in l.book);
+  counted : (counts : List ℕ) → CountTheirRecords g.D.Disk.faults counts (held_in l.fn.book) → CountTheirRecords g.D.Disk.faults counts (held_in l.book);
   ends : g.O.Door.ends l.door ≡ g.O.Door.ends l.fn.door;
   faults : g.O.Door.faults l.fn.door ≤ g.O.Door.faults l.door;
 }

@@ -54,8 +54,8 @@ invariant_of-result g c =
           (kept_history c.in-Ok-replay_log.log) c.in-Ok-replay_log.standing c.in-Ok-replay_log.ensures.replay in
           let many = length-map c.deref.result.now recorded in
           let same = ap length c.deref.ensures.value in
-          let disk = ap g.D.Disk.told at in
-          omega (arith, most, many, same, disk, c.in-Ok.ensures.told);
+          let disk = ap g.D.Disk.tellable at in
+          omega (arith, most, many, same, disk, c.in-Ok.ensures.tellable);
       since = since_first g.D.Disk.tells (λ i. g.D.Disk.image (stored_disk store) i) (λ i.
           g.D.Disk.image_since (stored_disk store) (g.D.Disk.moment (opened_disk store)) i) _ _ _ (header_bytes c.args.header.now) c.in-Ok-replay_log.standing _
           (kept_history c.in-Ok-replay_log.log) _ _ kept

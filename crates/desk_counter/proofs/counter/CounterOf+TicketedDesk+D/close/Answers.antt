@@ -56,7 +56,7 @@ returns-clause-closed g c =
       later = subst (λ (f : Fixed g.row.D.Denot). g.D.Disk.faults f.disk ≤ g.D.Disk.faults (desk_disk desk)) same known.count;
       cause = closed_cause desk kept pairs same history flies g.D.Disk known.cause;
       size = closed_size desk kept pairs same history flies g.D.Disk known.size;
-      told = λ tells. subst (λ (h : History). length h ≤ g.D.Disk.told (desk_disk desk)) history (known.told tells);
+      told = λ tells. subst (λ (h : History). length h ≤ g.D.Disk.tellable (desk_disk desk)) history (known.told tells);
       shut = λ sealed.
           known.refused (ap (λ (f : Fixed g.row.D.Denot). is_sealed f.standing) same ∙ sealed) ∙ ap (λ (f : Fixed g.row.D.Denot). f.disk) same;
       still = λ opened. closed_still desk kept pairs same history flies known.begins known.still opened.count opened.none;

@@ -20,8 +20,8 @@ decreases-both l = 6 * l.room + 2
 abbrev pub decreases-either : goal.decreases-either
 decreases-either l = 6 * l.room + 3
 
-abbrev pub decreases-implied : goal.decreases-implied
-decreases-implied l = 6 * l.room + 4
+abbrev pub decreases-conditional : goal.decreases-conditional
+decreases-conditional l = 6 * l.room + 4
 
 abbrev pub decreases-sentence : goal.decreases-sentence
 decreases-sentence l = 6 * l.room + 5

@@ -139,7 +139,7 @@ invariant_of-self-in-Err g c =
       told = λ tells.
           let was = c.args.self.now.told tells in
           let same = ap length c.in-Ok.ensures.unchanged in
-          let disk = ap g.D.Disk.told c.reserve.ensures.disk in
+          let disk = ap g.D.Disk.tellable c.reserve.ensures.disk in
           omega (arith, was, same, disk, c.append.ensures.still_told);
       kept = kept_flying (grows g at) _ _ _ _ _ _ _ _ same.schema same.world same.user c.in-Ok.ensures.unchanged
           (c.into_entry.ensures ∙ c.in-Ok.ensures.entry)

@@ -51,7 +51,7 @@ returns-clause-told g c told =
     ap (λ (m : Medium g.row.D.Denot g.D.Disk). is_failed m) (sym c.in-Journal.is)
     ∙ ap (λ (s : Stored g.row.D.Denot). has_failed s) c.self.view_is ∙ c.requires.whole in
     elim c.match-append.branch [
-      | in-Ok w ↦ subst (λ r. OnOk r (length (records (g.D.Disk.reads stored)) < g.D.Disk.told (disk_of c.append.new.self))) (sym w.result-is)
+      | in-Ok w ↦ subst (λ r. OnOk r (length (records (g.D.Disk.reads stored)) < g.D.Disk.tellable (disk_of c.append.new.self))) (sym w.result-is)
           (omega (arith, w.in-Ok.ensures.may_be_told, c.append.ensures.number told unbroken, ap (λ b. length (records b)) same))
-      | in-Err w ↦ subst (λ r. OnOk r (length (records (g.D.Disk.reads stored)) < g.D.Disk.told (disk_of c.append.new.self))) (sym w.result-is) tt
+      | in-Err w ↦ subst (λ r. OnOk r (length (records (g.D.Disk.reads stored)) < g.D.Disk.tellable (disk_of c.append.new.self))) (sym w.result-is) tt
     ]

@@ -12,34 +12,34 @@ use Rattle.standby_core.specs.MirrorSets.{slots_of, dial_faults, dial_marks}
 use Rattle.standby_core.proofs.There.{unused_there, all_hung_up, all_dialling, marks_answered}
 use Rattle.cqe_top.specs.Batch.{RunsBatch}
 use Rattle.serve_engine.specs.Serving as serving
-use Rattle.outside.specs.Visits.{place_of}
-use Rattle.cqe_top.specs.Copied.{with_failed, with_told, CallsStandby}
+use Rattle.outside.specs.Visits.{door_place_of}
+use Rattle.cqe_top.specs.Mirrored.{with_failed, with_told, CallsStandby}
 use Rattle.cqe_top.specs.Files.{journals_of}
 use Rattle.cqe_top.specs.Promise.{Does}
 use Rattle.cqe_top.specs.Scene.{Scene, scene_of, shelf_of, input_of, output_of, links_of}
 use Rattle.cqe_top.specs.Serve.{RunsServe}
-use Rattle.cqe_top.specs.Steps.{reading_copied}
-use Rattle.cqe_top.specs.declared.copied.CopiedTask.TheVariants as copied
+use Rattle.cqe_top.specs.Steps.{reading_mirrored}
+use Rattle.cqe_top.specs.declared.mirrored.MirroredTask.TheVariants as copied
 use Rattle.cqe_top.specs.declared.end.CommandEnd.TheVariants as ends
 use Rattle.cqe_top.specs.declared.end.FilesEnd.TheVariants as files_end
 use Rattle.cqe_top.proofs.Causes.{files_cause, batch_cause, serve_cause, plainly}
 use Rattle.cqe_top.proofs.Copying.{doors_kept, served_between, same_counted, touches_counted, some_rose_counted, none_fell_counted}
 use Rattle.cqe_top.proofs.Dialling.{counted_same, counted, causes_told, calls_from}
-use Rattle.cqe_top.proofs.Good.{unread_copied, doors_same, nobody_called, batch_succeeds}
+use Rattle.cqe_top.proofs.Good.{unread_mirrored, doors_same, nobody_called, batch_succeeds}
 use Rattle.cqe_top.proofs.Over.{batch_left, batch_over, serve_left, serve_over}
 use Rattle.cqe_top.proofs.Serving.{serve_succeeds, served_out}
 use Rattle.cqe_top.proofs.Users.{batch_names_are}
-use Rattle.cqe_top.proofs.copied.run_copied.Given.{Over}
-use Rattle.cqe_top.proofs.copied.run_copied.Goals as goal
-use Rattle.cqe_top.proofs.copied.run_copied.Goals.{In-Err, After-drop-inputs-in-Err-mirrors_for-4, After-drop-inputs-in-Batch-4, After-drop-inputs-5}
+use Rattle.cqe_top.proofs.mirrored.run_mirrored.Given.{Over}
+use Rattle.cqe_top.proofs.mirrored.run_mirrored.Goals as goal
+use Rattle.cqe_top.proofs.mirrored.run_mirrored.Goals.{In-Err, After-drop-inputs-in-Err-mirrors_for-4, After-drop-inputs-in-Batch-4, After-drop-inputs-5}
 
-pub copied_batch-end-requires-clause-names : goal.copied_batch-end-requires-clause-names
-copied_batch-end-requires-clause-names g c κs within =
+pub mirrored_batch-end-requires-clause-names : goal.mirrored_batch-end-requires-clause-names
+mirrored_batch-end-requires-clause-names g c κs within =
     ap has_duplicate (ap (λ users. map (λ user. user.name) (map named_user users)) c.as_slice.ensures.value ∙ batch_names_are c.in-Ok.inputs.policy.users.items)
     ∙ c.in-Ok.ensures.names
 
-pub copied_serve-end-requires-clause-names : goal.copied_serve-end-requires-clause-names
-copied_serve-end-requires-clause-names g c κs within =
+pub mirrored_serve-end-requires-clause-names : goal.mirrored_serve-end-requires-clause-names
+mirrored_serve-end-requires-clause-names g c κs within =
     ap has_duplicate (ap (λ users. map (λ user. user.name) (map named_user users)) c.as_slice.ensures.value ∙ batch_names_are c.in-Ok.inputs.policy.users.items)
     ∙ c.in-Ok.ensures.names
 
@@ -47,31 +47,31 @@ pub mirrors_for-requires-after_bounds : goal.mirrors_for-requires-after_bounds
 mirrors_for-requires-after_bounds g c κs within =
     ap has_duplicate (ap (λ users. map (λ user. string_bytes user.name) users) c.as_slice.ensures.value) ∙ c.in-Ok.ensures.names
 
-pub copied_batch-end-requires-clause-silent : goal.copied_batch-end-requires-clause-silent
-copied_batch-end-requires-clause-silent g c κs within = c.in-Ok-mirrors_for.ensures.silent
+pub mirrored_batch-end-requires-clause-silent : goal.mirrored_batch-end-requires-clause-silent
+mirrored_batch-end-requires-clause-silent g c κs within = c.in-Ok-mirrors_for.ensures.silent
 
-pub copied_batch-end-requires-clause-there : goal.copied_batch-end-requires-clause-there
-copied_batch-end-requires-clause-there g c κs within =
+pub mirrored_batch-end-requires-clause-there : goal.mirrored_batch-end-requires-clause-there
+mirrored_batch-end-requires-clause-there g c κs within =
     unused_there g.L.Dial.Dial.tells g.L.Dial.Dial.faults g.L.Dial.Dial.exchanged (slots_of c.in-Ok-mirrors_for.mirrors) c.in-Ok-mirrors_for.ensures.unused
 
-pub copied_serve-end-requires-clause-silent : goal.copied_serve-end-requires-clause-silent
-copied_serve-end-requires-clause-silent g c κs within = c.in-Ok-mirrors_for.ensures.silent
+pub mirrored_serve-end-requires-clause-silent : goal.mirrored_serve-end-requires-clause-silent
+mirrored_serve-end-requires-clause-silent g c κs within = c.in-Ok-mirrors_for.ensures.silent
 
-pub copied_serve-end-requires-clause-there : goal.copied_serve-end-requires-clause-there
-copied_serve-end-requires-clause-there g c κs within =
+pub mirrored_serve-end-requires-clause-there : goal.mirrored_serve-end-requires-clause-there
+mirrored_serve-end-requires-clause-there g c κs within =
     unused_there g.L.Dial.Dial.tells g.L.Dial.Dial.faults g.L.Dial.Dial.exchanged (slots_of c.in-Ok-mirrors_for.mirrors) c.in-Ok-mirrors_for.ensures.unused
 
 pub hang_up_all-requires-after_bounds : goal.hang_up_all-requires-after_bounds
 hang_up_all-requires-after_bounds g c κs within =
-    all_dialling g.L.Dial.Dial.name g.L.Dial.Dial.address (slots_of c.in-Ok-mirrors_for.mirrors) (slots_of c.copied_batch-end.new.mirrors)
-    c.copied_batch-end.ensures.made (g.L.Links.dialling c.args.links.now) (g.L.Links.dialling c.mirrors_for.new.links) c.in-Ok-mirrors_for.ensures.dialling
-    c.copied_batch-end.ensures.all_there
+    all_dialling g.L.Dial.Dial.name g.L.Dial.Dial.address (slots_of c.in-Ok-mirrors_for.mirrors) (slots_of c.mirrored_batch-end.new.mirrors)
+    c.mirrored_batch-end.ensures.made (g.L.Links.dialling c.args.links.now) (g.L.Links.dialling c.mirrors_for.new.links) c.in-Ok-mirrors_for.ensures.dialling
+    c.mirrored_batch-end.ensures.all_there
 
 pub hang_up_all-requires-in-Serve-after_bounds : goal.hang_up_all-requires-in-Serve-after_bounds
 hang_up_all-requires-in-Serve-after_bounds g c κs within =
-    all_dialling g.L.Dial.Dial.name g.L.Dial.Dial.address (slots_of c.in-Ok-mirrors_for.mirrors) (slots_of c.copied_serve-end.new.mirrors)
-    c.copied_serve-end.ensures.made (g.L.Links.dialling c.args.links.now) (g.L.Links.dialling c.copied_serve-end.new.links)
-    (c.copied_serve-end.ensures.dialling ∙ c.in-Ok-mirrors_for.ensures.dialling) c.copied_serve-end.ensures.all_there
+    all_dialling g.L.Dial.Dial.name g.L.Dial.Dial.address (slots_of c.in-Ok-mirrors_for.mirrors) (slots_of c.mirrored_serve-end.new.mirrors)
+    c.mirrored_serve-end.ensures.made (g.L.Links.dialling c.args.links.now) (g.L.Links.dialling c.mirrored_serve-end.new.links)
+    (c.mirrored_serve-end.ensures.dialling ∙ c.in-Ok-mirrors_for.ensures.dialling) c.mirrored_serve-end.ensures.all_there
 
 -- ---- files that weren't read
 
@@ -86,9 +86,9 @@ returns-in-Err g c = record {
       let scene = unread_scene g c in
       let is = c.in-Err.ensures in
       let cause = files_cause scene c.in-Err.end is.cause in
-      let reading = Some (reading_copied (names_of_files c.args.files) c.args.task c.args.standby.now) in
+      let reading = Some (reading_mirrored (names_of_files c.args.files) c.args.task c.args.standby.now) in
       plainly scene reading (ends.Files c.in-Err.end) (counted_same scene reading (λ name. refl))
-      (unread_copied scene (names_of_files c.args.files) c.args.task c.args.standby.now c.in-Err.end
+      (unread_mirrored scene (names_of_files c.args.files) c.args.task c.args.standby.now c.in-Err.end
       (record { refused = is.refused; looks = is.looks; disks = (is.disks, is.counts) }) cause refl refl (doors_same g.L.Links c.args.links.now)
       (nobody_called g.L.Links c.args.links.now))
       cause
@@ -125,9 +125,9 @@ returns-in-Err-mirrors_for g c = record {
       let made = c.mirrors_for.ensures in
       let same = made.doors.faults in
       let cause = files_cause scene files_end.Memory (λ failed. absurd failed) in
-      let reading = Some (reading_copied (names_of_files c.args.files) c.args.task c.args.standby.now) in
+      let reading = Some (reading_mirrored (names_of_files c.args.files) c.args.task c.args.standby.now) in
       plainly scene reading (ends.Files files_end.Memory) (counted_same scene reading made.calls.exchange_faults)
-      (unread_copied scene (names_of_files c.args.files) c.args.task c.args.standby.now files_end.Memory
+      (unread_mirrored scene (names_of_files c.args.files) c.args.task c.args.standby.now files_end.Memory
       (record { refused = λ told. tt; looks = is.looks; disks = (is.disks, is.counts) }) cause refl refl
       (doors_kept g.L.Links c.args.links.now c.mirrors_for.new.links made.doors)
       (record { exchanged = made.calls.exchanged; exchange_faults = made.calls.exchange_faults }))
@@ -153,15 +153,16 @@ returns-in-Err-mirrors_for g c = record {
 -- ---- a batch
 
 abbrev batch_failed : (g : Over) → After-drop-inputs-in-Batch-4 g → Text → ℕ
-batch_failed g c name = dial_faults g.L.Dial.Dial.faults c.copied_batch-end.new.mirrors name
+batch_failed g c name = dial_faults g.L.Dial.Dial.faults c.mirrored_batch-end.new.mirrors name
 
 abbrev batch_marks : (g : Over) → After-drop-inputs-in-Batch-4 g → Text → ℕ
-batch_marks g c name = dial_marks g.L.Dial.Dial.answered (g.F.Shelf.disk c.copied_batch-end.new.shelf) c.copied_batch-end.new.mirrors name
+batch_marks g c name = dial_marks g.L.Dial.Dial.answered (g.F.Shelf.disk c.mirrored_batch-end.new.shelf) c.mirrored_batch-end.new.mirrors name
 
 abbrev batch_scene : (g : Over) → After-drop-inputs-in-Batch-4 g → Scene
 batch_scene g c =
-    scene_of (shelf_of g.F.Shelf g.F.D.Disk c.args.shelf.now c.copied_batch-end.new.shelf) (input_of g.S.Source c.args.source.now c.copied_batch-end.new.source)
-    (output_of g.K.Sink c.args.sink.now c.copied_batch-end.new.sink) (links_of g.L.Links c.args.links.now c.hang_up_all.new.links)
+    scene_of (shelf_of g.F.Shelf g.F.D.Disk c.args.shelf.now c.mirrored_batch-end.new.shelf)
+    (input_of g.S.Source c.args.source.now c.mirrored_batch-end.new.source)
+    (output_of g.K.Sink c.args.sink.now c.mirrored_batch-end.new.sink) (links_of g.L.Links c.args.links.now c.hang_up_all.new.links)
 
 pub returns-in-Batch : goal.returns-in-Batch
 returns-in-Batch g c = record {
@@ -169,7 +170,7 @@ returns-in-Batch g c = record {
       let read = c.in-Ok.ensures in
       let made = c.mirrors_for.ensures in
       let hung = c.hang_up_all.ensures in
-      let ran = c.copied_batch-end.ensures in
+      let ran = c.mirrored_batch-end.ensures in
       let files = names_of_files c.args.files in
       let inputs = c.in-Ok.inputs in
       let failed = batch_failed g c in
@@ -178,11 +179,11 @@ returns-in-Batch g c = record {
       let marked = with_told scene marks in
       let old = c.args.shelf.now in
       let mid = c.read_files.new.shelf in
-      let new = c.copied_batch-end.new.shelf in
-      let cause = batch_cause scene inputs.policy.users c.copied_batch-end.result ran.read_cause ran.write_cause
+      let new = c.mirrored_batch-end.new.shelf in
+      let cause = batch_cause scene inputs.policy.users c.mirrored_batch-end.result ran.read_cause ran.write_cause
       (λ is. rose_since (g.F.Shelf.faults old) (g.F.Shelf.faults mid) (g.F.Shelf.faults new) read.later (ran.shelf_cause is))
       (λ is. some_rose_counted g.F.Shelf g.F.D.Disk old mid new read.disks read.counts failed files (ran.disk_cause is)) in
-      let runs : RunsBatch marked.shelf scene.input scene.output files inputs.policy.users c.copied_batch-end.result = record {
+      let runs : RunsBatch marked.shelf scene.input scene.output files inputs.policy.users c.mirrored_batch-end.result = record {
         over_files = λ told. (
           policy_value_of inputs.policy,
           inputs.world,
@@ -192,11 +193,11 @@ returns-in-Batch g c = record {
             of_policy = refl;
             touches = touches_counted g.F.Shelf g.F.D.Disk old mid new read.disks read.counts failed files inputs.policy c.as_slice.result.now
                 c.as_slice.ensures.value ran.disks ran.other_counts;
-            journals = batch_left inputs.policy inputs.world (header_bytes inputs.header) c.as_slice.result.now _ _ c.copied_batch-end.result
+            journals = batch_left inputs.policy inputs.world (header_bytes inputs.header) c.as_slice.result.now _ _ c.mirrored_batch-end.result
                 (same_counted g.F.Shelf g.F.D.Disk old mid new read.disks read.counts failed files marks) c.as_slice.ensures.value (ran.journals told);
             answers =
                 λ in_told out_told.
-                batch_over inputs.policy inputs.world (header_bytes inputs.header) c.as_slice.result.now _ _ c.copied_batch-end.result _ _ _ _
+                batch_over inputs.policy inputs.world (header_bytes inputs.header) c.as_slice.result.now _ _ c.mirrored_batch-end.result _ _ _ _
                 (same_counted g.F.Shelf g.F.D.Disk old mid new read.disks read.counts failed files marks) c.as_slice.ensures.value
                 (ran.ends told in_told out_told);
           },
@@ -209,8 +210,8 @@ returns-in-Batch g c = record {
       let last = hung.doors.faults in
       let earlier = read.later in
       let later = ran.shelf_later in
-      let reading = Some (reading_copied files (copied.Batch c.in-Batch.workers) c.args.standby.now) in
-      let end = ends.Batch inputs.policy.users c.copied_batch-end.result in
+      let reading = Some (reading_mirrored files (copied.Batch c.in-Batch.workers) c.args.standby.now) in
+      let end = ends.Batch inputs.policy.users c.mirrored_batch-end.result in
       let calls : CallsStandby scene files c.args.standby.now marks end = λ told links_told. (
         policy_value_of inputs.policy,
         inputs.world,
@@ -221,8 +222,8 @@ returns-in-Batch g c = record {
             _
             (g.L.Links.exchanged c.mirrors_for.new.links) (ran.lie told)
             (ran.made ∙ c.in-Ok-mirrors_for.ensures.made) (made.calls.exchanged links_told) (hung.exchanged links_told)
-            (marks_answered g.L.Dial.Dial.name g.L.Dial.Dial.address g.L.Dial.Dial.answered (g.F.Shelf.disk new) (slots_of c.copied_batch-end.new.mirrors)
-            ran.none_away (λ slot. slot.named) IsCallBy (hung.exchanged links_told).exchanges c.copied_batch-end.new.mirrors.distinct
+            (marks_answered g.L.Dial.Dial.name g.L.Dial.Dial.address g.L.Dial.Dial.answered (g.F.Shelf.disk new) (slots_of c.mirrored_batch-end.new.mirrors)
+            ran.none_away (λ slot. slot.named) IsCallBy (hung.exchanged links_told).exchanges c.mirrored_batch-end.new.mirrors.distinct
             (hung.exchanged links_told).answered),
       ) in
       let does : Does (batch_scene g c) reading end =
@@ -230,7 +231,7 @@ returns-in-Batch g c = record {
       (record {
         told = marks;
         ends = runs;
-        succeeds = batch_succeeds marked files inputs.policy.users c.copied_batch-end.result runs (causes_told scene marks end cause);
+        succeeds = batch_succeeds marked files inputs.policy.users c.mirrored_batch-end.result runs (causes_told scene marks end cause);
         calls = calls;
         listens_nowhere = inr (record {
           faults = last ∙ first;
@@ -254,7 +255,7 @@ returns-in-Batch g c = record {
         held = ran.held;
         left = ran.left;
         doors = hung.doors.out ∙ made.doors.out;
-        dials = all_hung_up g.L.Dial.Dial.name g.L.Dial.Dial.address (slots_of c.in-Ok-mirrors_for.mirrors) (slots_of c.copied_batch-end.new.mirrors)
+        dials = all_hung_up g.L.Dial.Dial.name g.L.Dial.Dial.address (slots_of c.in-Ok-mirrors_for.mirrors) (slots_of c.mirrored_batch-end.new.mirrors)
             ran.made (g.L.Links.dialling c.args.links.now) (g.L.Links.dialling c.mirrors_for.new.links) (g.L.Links.dialling c.hang_up_all.new.links)
             c.in-Ok-mirrors_for.ensures.dialling ran.all_there hung.dialling;
         input_faults = ran.source_later;
@@ -265,21 +266,22 @@ returns-in-Batch g c = record {
             let kept = made.calls.exchange_faults name in
             omega (arith, rose, kept);
       }) in
-      subst (λ task. Does (batch_scene g c) (Some (reading_copied files task c.args.standby.now)) (ends.Batch inputs.policy.users c.copied_batch-end.result))
+      subst (λ task. Does (batch_scene g c) (Some (reading_mirrored files task c.args.standby.now))
+      (ends.Batch inputs.policy.users c.mirrored_batch-end.result))
       (sym c.in-Batch.is) does;
 }
 
 -- ---- a server
 
 abbrev serve_failed : (g : Over) → After-drop-inputs-5 g → Text → ℕ
-serve_failed g c name = dial_faults g.L.Dial.Dial.faults c.copied_serve-end.new.mirrors name
+serve_failed g c name = dial_faults g.L.Dial.Dial.faults c.mirrored_serve-end.new.mirrors name
 
 abbrev serve_marks : (g : Over) → After-drop-inputs-5 g → Text → ℕ
-serve_marks g c name = dial_marks g.L.Dial.Dial.answered (g.F.Shelf.disk c.copied_serve-end.new.shelf) c.copied_serve-end.new.mirrors name
+serve_marks g c name = dial_marks g.L.Dial.Dial.answered (g.F.Shelf.disk c.mirrored_serve-end.new.shelf) c.mirrored_serve-end.new.mirrors name
 
 abbrev serve_scene : (g : Over) → After-drop-inputs-5 g → Scene
 serve_scene g c =
-    scene_of (shelf_of g.F.Shelf g.F.D.Disk c.args.shelf.now c.copied_serve-end.new.shelf) (input_of g.S.Source c.args.source.now c.args.source.now)
+    scene_of (shelf_of g.F.Shelf g.F.D.Disk c.args.shelf.now c.mirrored_serve-end.new.shelf) (input_of g.S.Source c.args.source.now c.args.source.now)
     (output_of g.K.Sink c.args.sink.now c.args.sink.now) (links_of g.L.Links c.args.links.now c.hang_up_all-in-Serve.new.links)
 
 pub returns : goal.returns
@@ -288,7 +290,7 @@ returns g c = record {
       let read = c.in-Ok.ensures in
       let made = c.mirrors_for.ensures in
       let hung = c.hang_up_all-in-Serve.ensures in
-      let ran = c.copied_serve-end.ensures in
+      let ran = c.mirrored_serve-end.ensures in
       let files = names_of_files c.args.files in
       let inputs = c.in-Ok.inputs in
       let listening = c.in-Serve.listening in
@@ -298,14 +300,14 @@ returns g c = record {
       let marked = with_told scene marks in
       let old = c.args.shelf.now in
       let mid = c.read_files.new.shelf in
-      let new = c.copied_serve-end.new.shelf in
-      let links = c.copied_serve-end.new.links in
+      let new = c.mirrored_serve-end.new.shelf in
+      let links = c.mirrored_serve-end.new.links in
       let doors = served_between g.L.Links c.args.links.now c.mirrors_for.new.links links c.hang_up_all-in-Serve.new.links made.doors hung.doors in
-      let cause = serve_cause scene inputs.policy.users c.copied_serve-end.result (λ is. doors.rose (ran.links_cause is))
+      let cause = serve_cause scene inputs.policy.users c.mirrored_serve-end.result (λ is. doors.rose (ran.links_cause is))
       (λ is. rose_since (g.F.Shelf.faults old) (g.F.Shelf.faults mid) (g.F.Shelf.faults new) read.later (ran.shelf_cause is))
       (λ is. some_rose_counted g.F.Shelf g.F.D.Disk old mid new read.disks read.counts failed files (ran.disk_cause is)) in
       let runs : RunsServe marked.shelf scene.links files listening.address.now listening.workers listening.sessions inputs.policy.users
-      c.copied_serve-end.result = record {
+      c.mirrored_serve-end.result = record {
         over_files = λ told. (
           policy_value_of inputs.policy,
           inputs.world,
@@ -315,25 +317,25 @@ returns g c = record {
             of_policy = refl;
             touches = touches_counted g.F.Shelf g.F.D.Disk old mid new read.disks read.counts failed files inputs.policy c.as_slice.result.now
                 c.as_slice.ensures.value ran.disks ran.other_counts;
-            journals = serve_left inputs.policy inputs.world (header_bytes inputs.header) c.as_slice.result.now _ _ c.copied_serve-end.result
+            journals = serve_left inputs.policy inputs.world (header_bytes inputs.header) c.as_slice.result.now _ _ c.mirrored_serve-end.result
                 (same_counted g.F.Shelf g.F.D.Disk old mid new read.disks read.counts failed files marks) c.as_slice.ensures.value (ran.journals told);
             serves = λ links_told.
                 doors.served links_told (λ given given' back back'.
                 serving.EndsServing inputs.policy.schema inputs.world (header_bytes inputs.header) (journals_of marked.shelf files) inputs.policy.users.items
-                given given' back back' c.copied_serve-end.result)
-                (serve_over inputs.policy inputs.world (header_bytes inputs.header) c.as_slice.result.now _ _ c.copied_serve-end.result _ _ _ _
+                given given' back back' c.mirrored_serve-end.result)
+                (serve_over inputs.policy inputs.world (header_bytes inputs.header) c.as_slice.result.now _ _ c.mirrored_serve-end.result _ _ _ _
                 (same_counted g.F.Shelf g.F.D.Disk old mid new read.disks read.counts failed files marks) c.as_slice.ensures.value (ran.ends told links_told));
           },
         );
         looks = λ told. ran.looked ∙ read.both told;
         listens = λ told.
             doors.heard told (λ before after.
-            (after ≡ before) ⊎ (after ≡ before ++ place_of listening.address.now listening.workers ∷ [])) (ran.listens told);
+            (after ≡ before) ⊎ (after ≡ before ++ door_place_of listening.address.now listening.workers ∷ [])) (ran.listens told);
         unheard = λ told same.
             let is = ran.unheard told (doors.unheard told same) in
             (λ name. is.0 name ∙ read.disks name, λ name. is.1 name ∙ read.counts name);
         heard = λ told done.
-            doors.heard told (λ before after. after ≡ before ++ place_of listening.address.now listening.workers ∷ []) (ran.heard told done);
+            doors.heard told (λ before after. after ≡ before ++ door_place_of listening.address.now listening.workers ∷ []) (ran.heard told done);
         few_ended =
             let first = made.doors.ended in
             let last = hung.doors.ended in
@@ -354,8 +356,8 @@ returns g c = record {
       let between = ran.links_later in
       let earlier = read.later in
       let later = ran.shelf_later in
-      let reading = Some (reading_copied files (copied.Serve listening) c.args.standby.now) in
-      let end = ends.Serve inputs.policy.users c.copied_serve-end.result in
+      let reading = Some (reading_mirrored files (copied.Serve listening) c.args.standby.now) in
+      let end = ends.Serve inputs.policy.users c.mirrored_serve-end.result in
       let calls : CallsStandby scene files c.args.standby.now marks end = λ told links_told. (
         policy_value_of inputs.policy,
         inputs.world,
@@ -366,8 +368,8 @@ returns g c = record {
             _
             (g.L.Links.exchanged links) (ran.lie told)
             (ran.made ∙ c.in-Ok-mirrors_for.ensures.made) (ran.exchanged links_told ∙ made.calls.exchanged links_told) (hung.exchanged links_told)
-            (marks_answered g.L.Dial.Dial.name g.L.Dial.Dial.address g.L.Dial.Dial.answered (g.F.Shelf.disk new) (slots_of c.copied_serve-end.new.mirrors)
-            ran.none_away (λ slot. slot.named) IsCallBy (hung.exchanged links_told).exchanges c.copied_serve-end.new.mirrors.distinct
+            (marks_answered g.L.Dial.Dial.name g.L.Dial.Dial.address g.L.Dial.Dial.answered (g.F.Shelf.disk new) (slots_of c.mirrored_serve-end.new.mirrors)
+            ran.none_away (λ slot. slot.named) IsCallBy (hung.exchanged links_told).exchanges c.mirrored_serve-end.new.mirrors.distinct
             (hung.exchanged links_told).answered),
       ) in
       let does : Does (serve_scene g c) reading end =
@@ -377,7 +379,7 @@ returns g c = record {
         told = marks;
         ends = runs;
         succeeds = serve_succeeds c.law_openings.ensures.unrefused marked files listening.address.now listening.workers listening.sessions
-            inputs.policy.users c.copied_serve-end.result runs (causes_told scene marks end cause);
+            inputs.policy.users c.mirrored_serve-end.result runs (causes_told scene marks end cause);
         reads_nothing = refl;
         writes_nothing = refl;
         calls = calls;
@@ -393,7 +395,7 @@ returns g c = record {
         held = refl;
         left = λ told bytes rest. rest;
         doors = hung.doors.out ∙ ran.out ∙ made.doors.out;
-        dials = all_hung_up g.L.Dial.Dial.name g.L.Dial.Dial.address (slots_of c.in-Ok-mirrors_for.mirrors) (slots_of c.copied_serve-end.new.mirrors)
+        dials = all_hung_up g.L.Dial.Dial.name g.L.Dial.Dial.address (slots_of c.in-Ok-mirrors_for.mirrors) (slots_of c.mirrored_serve-end.new.mirrors)
             ran.made (g.L.Links.dialling c.args.links.now) (g.L.Links.dialling links) (g.L.Links.dialling c.hang_up_all-in-Serve.new.links)
             (ran.dialling ∙ c.in-Ok-mirrors_for.ensures.dialling) ran.all_there hung.dialling;
         input_faults = omega arith;
@@ -405,6 +407,7 @@ returns g c = record {
             let kept = made.calls.exchange_faults name in
             omega (arith, rose, same, kept);
       }) in
-      subst (λ task. Does (serve_scene g c) (Some (reading_copied files task c.args.standby.now)) (ends.Serve inputs.policy.users c.copied_serve-end.result))
+      subst (λ task. Does (serve_scene g c) (Some (reading_mirrored files task c.args.standby.now))
+      (ends.Serve inputs.policy.users c.mirrored_serve-end.result))
       (sym c.in-Serve.is) does;
 }

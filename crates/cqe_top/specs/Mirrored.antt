@@ -9,7 +9,8 @@ use Rattle.std.specs.List.{AllByRecursion, slice_get}
 use Rattle.outside.specs.Dials.{Exchange}
 use Rattle.cqe_base.specs.Facts.{FactSet}
 use Rattle.cqe_base.specs.Schema.{Text}
-use Rattle.command_words.specs.Readings.{FileNames, Reading, runs_copied_batch, runs_copied_serve}
+use Rattle.command_words.specs.Readings.{FileNames, Reading}
+use Rattle.command_words.specs.Readings.{runs_mirrored_batch, runs_mirrored_serve}
 use Rattle.log_journal.specs.Names.{journal_name}
 use Rattle.log_journal.specs.Opening.{header_bytes}
 use Rattle.log_journal.specs.Walk.{IsNumbered}
@@ -28,8 +29,8 @@ use Rattle.cqe_top.specs.Serve.{RunsServe, ServeSucceeds}
 
 -- whether the words name a standby that copies journals
 abbrev pub has_standby : Option Reading → Bool
-has_standby (Some (runs_copied_batch files workers standby)) = true
-has_standby (Some (runs_copied_serve files address workers limit standby)) = true
+has_standby (Some (runs_mirrored_batch files workers standby)) = true
+has_standby (Some (runs_mirrored_serve files address workers limit standby)) = true
 has_standby reading = false
 
 -- how many exchanges failed in the call under a name
@@ -48,8 +49,8 @@ counted_by s false = s
 counted_by s true = with_failed s (failed_exchanges s.links)
 
 -- the scene of a call with this reading: they are counted where it has a standby
-abbrev pub counted_with : Scene → Option Reading → Scene
-counted_with s reading = counted_by s (has_standby reading)
+abbrev pub with_exchange_faults : Scene → Option Reading → Scene
+with_exchange_faults s reading = counted_by s (has_standby reading)
 
 -- ---- whom the dials call, and what they tell
 
@@ -112,7 +113,7 @@ pub record KeepsDoors (links : LinksScene) : Type 0 where
 -- `batch` with a standby at this address, as `OfBatch`: it listens nowhere, and opens connections
 -- to the standby, or leaves the links alone. The marks that may be told are those that the standby
 -- answered for.
-pub record OfCopiedBatch (s : Scene) (files : FileNames) (standby : Text) (end : CommandEnd)
+pub record OfMirroredBatch (s : Scene) (files : FileNames) (standby : Text) (end : CommandEnd)
     : Type 0 where
   pub told : Text → ℕ
   pub ends : BatchEnds (with_told s told).shelf s.input s.output files end
@@ -121,20 +122,20 @@ pub record OfCopiedBatch (s : Scene) (files : FileNames) (standby : Text) (end :
   pub succeeds : BatchSucceeds s.shelf s.input s.output files end
 
 -- the ends that `serve` with a standby may have
-abbrev pub CopiedServeEnds : Scene → FileNames → Text → ℕ → ℕ → CommandEnd → Type 0
-CopiedServeEnds s files address workers limit (command_end.Serve users engine_end) =
+abbrev pub MirroredServeEnds : Scene → FileNames → Text → ℕ → ℕ → CommandEnd → Type 0
+MirroredServeEnds s files address workers limit (command_end.Serve users engine_end) =
     RunsServe s.shelf s.links files address workers limit users engine_end
-CopiedServeEnds s files address workers limit (command_end.Files why) =
+MirroredServeEnds s files address workers limit (command_end.Files why) =
     IsUnread s.shelf files why × KeepsDoors s.links
-CopiedServeEnds s files address workers limit command_end.Memory =
+MirroredServeEnds s files address workers limit command_end.Memory =
     SameShelf s.shelf × SameLinks s.links
-CopiedServeEnds s files address workers limit end = ⊥
+MirroredServeEnds s files address workers limit end = ⊥
 
 -- `serve` with a standby at this address, as `OfServe`, with marks as of `batch`
-pub record OfCopiedServe (s : Scene) (files : FileNames) (address : Text) (workers limit : ℕ)
+pub record OfMirroredServe (s : Scene) (files : FileNames) (address : Text) (workers limit : ℕ)
     (standby : Text) (end : CommandEnd) : Type 0 where
   pub told : Text → ℕ
-  pub ends : CopiedServeEnds (with_told s told) files address workers limit end
+  pub ends : MirroredServeEnds (with_told s told) files address workers limit end
   pub reads_nothing : SameInput s.input
   pub writes_nothing : SameOutput s.output
   pub calls : CallsStandby s files standby told end

@@ -9,10 +9,10 @@ use Rattle.standby_core.specs.Places.{faults_in, is_away}
 use Rattle.standby_core.specs.MirrorSets.{slots_of, dial_faults, dial_marks, DialsLie}
 use Rattle.standby_core.specs.Slots.{place_at, slot_texts, there_among}
 use Rattle.standby_core.proofs.There.{all_there}
-use Rattle.cqe_top.specs.Steps.{copied_counts, copied_journals}
-use Rattle.cqe_top.proofs.Copying.{same_copied, dials_lie, disks_under, counts_under, all_counts_under, some_rose_under, none_fell_under}
+use Rattle.cqe_top.specs.Steps.{mirrored_counts, mirrored_journals}
+use Rattle.cqe_top.proofs.Copying.{same_mirrored, dials_lie, disks_under, counts_under, all_counts_under, some_rose_under, none_fell_under}
 use Rattle.cqe_top.proofs.Copying.{shelf_back, mirrors_back, lent_one, lent_two}
-use Rattle.cqe_top.proofs.copied.copied_batch.Goals as goal
+use Rattle.cqe_top.proofs.mirrored.mirrored_batch.Goals as goal
 
 pub run_batch-requires-clause-inside : goal.run_batch-requires-clause-inside
 run_batch-requires-clause-inside g c κs within =
@@ -23,7 +23,7 @@ run_batch-requires-clause-inside g c κs within =
 pub returns-clause-ends : goal.returns-clause-ends
 returns-clause-ends g c = λ told in_told out_told.
     lent_two (λ shelf mirrors. batch.EndsBatch c.args.registry.now.schema.now c.args.registry.now.world.now (header_bytes c.args.registry.now.header.now)
-    (copied_journals g.F.Shelf g.F.D.Disk c.args.registry.now.directory.now c.args.shelf.now shelf (dial_faults g.C.Dial.faults mirrors)
+    (mirrored_journals g.F.Shelf g.F.D.Disk c.args.registry.now.directory.now c.args.shelf.now shelf (dial_faults g.C.Dial.faults mirrors)
     (dial_marks g.C.Dial.answered (g.F.Shelf.disk shelf) mirrors))
     (map named_user c.args.registry.now.users.now) c.run_batch.result (g.S.Source.left c.args.source.now) (g.S.Source.left c.run_batch.new.source)
     (g.K.Sink.written c.args.sink.now) (g.K.Sink.written c.run_batch.new.sink))
@@ -34,7 +34,7 @@ returns-clause-ends g c = λ told in_told out_told.
     journals
     (map named_user c.args.registry.now.users.now) c.run_batch.result (g.S.Source.left c.args.source.now) (g.S.Source.left c.run_batch.new.source)
     (g.K.Sink.written c.args.sink.now) (g.K.Sink.written c.run_batch.new.sink))
-    (same_copied g.F.Shelf g.F.D.Disk g.C.Dial.faults c.new-mirrored.result.shelf.now c.args.shelf.now c.run_batch.new.shelf.shelf.now
+    (same_mirrored g.F.Shelf g.F.D.Disk g.C.Dial.faults c.new-mirrored.result.shelf.now c.args.shelf.now c.run_batch.new.shelf.shelf.now
     c.new-mirrored.ensures.shelf
     (slots_of c.new-mirrored.result.mirrors.now) (slots_of c.args.mirrors.now) (slots_of c.run_batch.new.shelf.mirrors.now)
     (ap slots_of c.new-mirrored.ensures.mirrors) c.requires.fresh g.C.Dial.answered c.args.registry.now.directory.now)
@@ -43,7 +43,7 @@ returns-clause-ends g c = λ told in_told out_told.
 pub returns-clause-journals : goal.returns-clause-journals
 returns-clause-journals g c = λ told.
     lent_two (λ shelf mirrors. batch.LeavesJournals c.args.registry.now.schema.now c.args.registry.now.world.now (header_bytes c.args.registry.now.header.now)
-    (copied_journals g.F.Shelf g.F.D.Disk c.args.registry.now.directory.now c.args.shelf.now shelf (dial_faults g.C.Dial.faults mirrors)
+    (mirrored_journals g.F.Shelf g.F.D.Disk c.args.registry.now.directory.now c.args.shelf.now shelf (dial_faults g.C.Dial.faults mirrors)
     (dial_marks g.C.Dial.answered (g.F.Shelf.disk shelf) mirrors))
     (map named_user c.args.registry.now.users.now) c.run_batch.result)
     _ c.run_batch.new.shelf.shelf.now c.mirrors-1.given.0 c.run_batch.new.shelf.mirrors.now
@@ -52,7 +52,7 @@ returns-clause-journals g c = λ told.
     (subst (λ journals. batch.LeavesJournals c.args.registry.now.schema.now c.args.registry.now.world.now (header_bytes c.args.registry.now.header.now)
     journals
     (map named_user c.args.registry.now.users.now) c.run_batch.result)
-    (same_copied g.F.Shelf g.F.D.Disk g.C.Dial.faults c.new-mirrored.result.shelf.now c.args.shelf.now c.run_batch.new.shelf.shelf.now
+    (same_mirrored g.F.Shelf g.F.D.Disk g.C.Dial.faults c.new-mirrored.result.shelf.now c.args.shelf.now c.run_batch.new.shelf.shelf.now
     c.new-mirrored.ensures.shelf
     (slots_of c.new-mirrored.result.mirrors.now) (slots_of c.args.mirrors.now) (slots_of c.run_batch.new.shelf.mirrors.now)
     (ap slots_of c.new-mirrored.ensures.mirrors) c.requires.fresh g.C.Dial.answered c.args.registry.now.directory.now)
@@ -91,7 +91,7 @@ returns-clause-looked g c =
 pub returns-clause-counts : goal.returns-clause-counts
 returns-clause-counts g c =
     lent_two (λ shelf mirrors. NoneFell (g.F.Shelf.disk_faults c.args.shelf.now)
-    (copied_counts (g.F.Shelf.disk_faults shelf) (dial_faults g.C.Dial.faults mirrors)))
+    (mirrored_counts (g.F.Shelf.disk_faults shelf) (dial_faults g.C.Dial.faults mirrors)))
     _ c.run_batch.new.shelf.shelf.now c.mirrors-1.given.0 c.run_batch.new.shelf.mirrors.now
     (shelf_back _ c.run_batch.new.shelf.shelf.now _ _ c.run_batch.ensures.lent (search rules))
     (mirrors_back c.mirrors-1.given.0 c.run_batch.new.shelf.mirrors.now _ _ c.run_batch.ensures.lent (search rules))
@@ -104,7 +104,7 @@ returns-clause-counts g c =
 pub returns-clause-other_counts : goal.returns-clause-other_counts
 returns-clause-other_counts g c =
     lent_two (λ shelf mirrors. SameBeside (registered_journals c.args.registry.now.directory.now c.args.registry.now.users.now)
-    (g.F.Shelf.disk_faults c.args.shelf.now) (copied_counts (g.F.Shelf.disk_faults shelf) (dial_faults g.C.Dial.faults mirrors)))
+    (g.F.Shelf.disk_faults c.args.shelf.now) (mirrored_counts (g.F.Shelf.disk_faults shelf) (dial_faults g.C.Dial.faults mirrors)))
     _ c.run_batch.new.shelf.shelf.now c.mirrors-1.given.0 c.run_batch.new.shelf.mirrors.now
     (shelf_back _ c.run_batch.new.shelf.shelf.now _ _ c.run_batch.ensures.lent (search rules))
     (mirrors_back c.mirrors-1.given.0 c.run_batch.new.shelf.mirrors.now _ _ c.run_batch.ensures.lent (search rules))
@@ -117,7 +117,7 @@ returns-clause-other_counts g c =
 pub returns-clause-disk_cause : goal.returns-clause-disk_cause
 returns-clause-disk_cause g c broken =
     lent_two (λ shelf mirrors. SomeRose (g.F.Shelf.disk_faults c.args.shelf.now)
-    (copied_counts (g.F.Shelf.disk_faults shelf) (dial_faults g.C.Dial.faults mirrors)))
+    (mirrored_counts (g.F.Shelf.disk_faults shelf) (dial_faults g.C.Dial.faults mirrors)))
     _ c.run_batch.new.shelf.shelf.now c.mirrors-1.given.0 c.run_batch.new.shelf.mirrors.now
     (shelf_back _ c.run_batch.new.shelf.shelf.now _ _ c.run_batch.ensures.lent (search rules))
     (mirrors_back c.mirrors-1.given.0 c.run_batch.new.shelf.mirrors.now _ _ c.run_batch.ensures.lent (search rules))
@@ -147,7 +147,7 @@ returns-clause-unopened g c is =
           (shelf_back _ c.run_batch.new.shelf.shelf.now _ _ c.run_batch.ensures.lent (search rules))
           (λ name. (λ i. g.F.Shelf.disk (same i).shelf.now name) ∙ ap (λ shelf. g.F.Shelf.disk shelf name) c.new-mirrored.ensures.shelf),
       lent_two (λ shelf mirrors. SameNames (g.F.Shelf.disk_faults c.args.shelf.now)
-          (copied_counts (g.F.Shelf.disk_faults shelf) (dial_faults g.C.Dial.faults mirrors)))
+          (mirrored_counts (g.F.Shelf.disk_faults shelf) (dial_faults g.C.Dial.faults mirrors)))
           _ c.run_batch.new.shelf.shelf.now c.mirrors-1.given.0 c.run_batch.new.shelf.mirrors.now
           (shelf_back _ c.run_batch.new.shelf.shelf.now _ _ c.run_batch.ensures.lent (search rules))
           (mirrors_back c.mirrors-1.given.0 c.run_batch.new.shelf.mirrors.now _ _ c.run_batch.ensures.lent (search rules))

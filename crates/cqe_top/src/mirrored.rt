@@ -4,7 +4,7 @@ ghost use Rattle.std.specs.Prelude.{map, length, false};
 ghost use Rattle.outside.specs.Faults.{Rose};
 ghost use Rattle.outside.specs.Shelf.{SameNames, SameBeside, NoneOut, NoneFell, SomeRose};
 ghost use Rattle.outside.specs.Shelf.{bytes_on};
-ghost use Rattle.outside.specs.Visits.{place_of};
+ghost use Rattle.outside.specs.Visits.{door_place_of};
 ghost use Rattle.batch_engine.specs.Batch as batch;
 ghost use Rattle.command_words.specs.Readings.{names_of_files};
 ghost use Rattle.desk_crew.specs.Crew.{named_user};
@@ -19,8 +19,8 @@ ghost use Rattle.standby_core.specs.Places.{is_away};
 ghost use Rattle.standby_core.specs.Slots.{place_at, slot_texts, there_among};
 ghost use Rattle.cqe_top.specs.Promise.{Does};
 ghost use Rattle.cqe_top.specs.Scene.{scene_of, shelf_of, input_of, output_of, links_of};
-ghost use Rattle.cqe_top.specs.Steps.{reading_copied, KeepsCopiedBounds, copied_journals};
-ghost use Rattle.cqe_top.specs.Steps.{copied_counts};
+ghost use Rattle.cqe_top.specs.Steps.{reading_mirrored, KeepsMirroredBounds, mirrored_journals};
+ghost use Rattle.cqe_top.specs.Steps.{mirrored_counts};
 ghost use Rattle.batch_engine.specs.declared.run.BatchEnd.{BatchEnd};
 ghost use Rattle.serve_engine.specs.declared.run.ServeEnd.{ServeEnd};
 
@@ -39,7 +39,7 @@ use user_desk::laws::law_openings;
 
 /// What is done over files with a standby.
 #[derive(Clone, Copy)]
-pub(crate) enum CopiedTask<'w> {
+pub(crate) enum MirroredTask<'w> {
     /// A batch is answered by so many workers, 1 to 64.
     Batch(u32),
     /// Connections are served.
@@ -48,7 +48,7 @@ pub(crate) enum CopiedTask<'w> {
 
 /// Reads the files of these names, and does what is to be done over them, with a standby at an
 /// address.
-pub(crate) fn run_copied<
+pub(crate) fn run_mirrored<
     'w,
     R: Threads + Wait + Sync,
     F: Shelf,
@@ -60,7 +60,7 @@ pub(crate) fn run_copied<
     rt: &R,
     alloc: Global,
     files: Files<'w>,
-    task: CopiedTask<'w>,
+    task: MirroredTask<'w>,
     standby: &'w str,
     shelf: &mut F,
     source: &mut S,
@@ -71,11 +71,11 @@ pub(crate) fn run_copied<
 where
     F::D: Send,
     requires inside { NoneOut (F.is_out shelf.old) }
-    requires bounds { KeepsCopiedBounds task }
+    requires bounds { KeepsMirroredBounds task }
     ensures does { Does (scene_of (shelf_of F.Shelf F.D.Disk shelf.old shelf.new)
         (input_of S.Source source.old source.new) (output_of K.Sink sink.old sink.new)
         (links_of L.Links links.old links.new))
-        (Some (reading_copied (names_of_files files.entry) task.entry standby.now)) result }
+        (Some (reading_mirrored (names_of_files files.entry) task.entry standby.now)) result }
 {
     let inputs = match read_files(alloc, shelf, &files) {
         Ok(inputs) => inputs,
@@ -100,8 +100,8 @@ where
         Err(AllocError) => return CommandEnd::Files(FilesEnd::Memory),
     };
     match task {
-        CopiedTask::Batch(workers) => {
-            let end = copied_batch(
+        MirroredTask::Batch(workers) => {
+            let end = mirrored_batch(
                 rt,
                 alloc,
                 &registry,
@@ -115,9 +115,9 @@ where
             hang_up_all(links, mirrors);
             CommandEnd::Batch(inputs.policy.users, end)
         }
-        CopiedTask::Serve(listening) => {
+        MirroredTask::Serve(listening) => {
             law_openings();
-            let end = copied_serve(
+            let end = mirrored_serve(
                 rt,
                 alloc,
                 &registry,
@@ -135,7 +135,7 @@ where
 
 // Answers a batch over the journals of a shelf with these mirrors. Of each name the faults of its
 // dial are counted with those of its disk.
-fn copied_batch<
+fn mirrored_batch<
     R: Threads + Wait + Sync,
     F: Shelf,
     C: Dial + Drop + Send,
@@ -173,7 +173,7 @@ where
     ensures ends { F.tells → S.tells → K.tells
         → batch.EndsBatch registry.now.schema.now registry.now.world.now
         (header_bytes registry.now.header.now)
-        (copied_journals F.Shelf F.D.Disk registry.now.directory.now shelf.old shelf.new
+        (mirrored_journals F.Shelf F.D.Disk registry.now.directory.now shelf.old shelf.new
         (dial_faults C.faults mirrors.new)
         (dial_marks C.answered (F.disk shelf.new) mirrors.new))
         (map named_user registry.now.users.now) result (S.left source.old) (S.left source.new)
@@ -181,7 +181,7 @@ where
     ensures journals { F.tells
         → batch.LeavesJournals registry.now.schema.now registry.now.world.now
         (header_bytes registry.now.header.now)
-        (copied_journals F.Shelf F.D.Disk registry.now.directory.now shelf.old shelf.new
+        (mirrored_journals F.Shelf F.D.Disk registry.now.directory.now shelf.old shelf.new
         (dial_faults C.faults mirrors.new)
         (dial_marks C.answered (F.disk shelf.new) mirrors.new))
         (map named_user registry.now.users.now) result }
@@ -192,14 +192,14 @@ where
     ensures files { SameNames (F.file shelf.old) (F.file shelf.new) }
     ensures looked { F.looked shelf.new ≡ F.looked shelf.old }
     ensures counts { NoneFell (F.disk_faults shelf.old)
-        (copied_counts (F.disk_faults shelf.new) (dial_faults C.faults mirrors.new)) }
+        (mirrored_counts (F.disk_faults shelf.new) (dial_faults C.faults mirrors.new)) }
     ensures other_counts { SameBeside
         (registered_journals registry.now.directory.now registry.now.users.now)
         (F.disk_faults shelf.old)
-        (copied_counts (F.disk_faults shelf.new) (dial_faults C.faults mirrors.new)) }
+        (mirrored_counts (F.disk_faults shelf.new) (dial_faults C.faults mirrors.new)) }
     ensures unopened { batch.IsUnopened result → SameNames (F.disk shelf.old) (F.disk shelf.new)
         × SameNames (F.disk_faults shelf.old)
-        (copied_counts (F.disk_faults shelf.new) (dial_faults C.faults mirrors.new)) }
+        (mirrored_counts (F.disk_faults shelf.new) (dial_faults C.faults mirrors.new)) }
     ensures silent { batch.IsSilent result → sink.new ≡ sink.old }
     ensures left { S.tells → IsRest (S.left source.old) (S.left source.new) }
     ensures held { S.held source.new ≡ S.held source.old }
@@ -213,7 +213,7 @@ where
     ensures shelf_cause { result ≡ BatchEnd.ShelfFault
         → Rose (F.faults shelf.old) (F.faults shelf.new) }
     ensures disk_cause { batch.IsBroken result → SomeRose (F.disk_faults shelf.old)
-        (copied_counts (F.disk_faults shelf.new) (dial_faults C.faults mirrors.new)) }
+        (mirrored_counts (F.disk_faults shelf.new) (dial_faults C.faults mirrors.new)) }
 {
     let mut mirrored = MirroredShelf::new(shelf, mirrors);
     run_batch(
@@ -229,7 +229,7 @@ where
 }
 
 // The same of serving connections.
-fn copied_serve<
+fn mirrored_serve<
     R: Threads + Wait + Sync,
     F: Shelf,
     C: Dial + Drop + Send,
@@ -266,7 +266,7 @@ where
     ensures ends { F.tells → L.tells
         → serving.EndsServing registry.now.schema.now registry.now.world.now
         (header_bytes registry.now.header.now)
-        (copied_journals F.Shelf F.D.Disk registry.now.directory.now shelf.old shelf.new
+        (mirrored_journals F.Shelf F.D.Disk registry.now.directory.now shelf.old shelf.new
         (dial_faults C.faults mirrors.new)
         (dial_marks C.answered (F.disk shelf.new) mirrors.new))
         registry.now.users.now (L.given links.old) (L.given links.new) (L.back links.old)
@@ -274,21 +274,21 @@ where
     ensures journals { F.tells
         → serving.LeavesJournals registry.now.schema.now registry.now.world.now
         (header_bytes registry.now.header.now)
-        (copied_journals F.Shelf F.D.Disk registry.now.directory.now shelf.old shelf.new
+        (mirrored_journals F.Shelf F.D.Disk registry.now.directory.now shelf.old shelf.new
         (dial_faults C.faults mirrors.new)
         (dial_marks C.answered (F.disk shelf.new) mirrors.new))
         registry.now.users.now result }
     ensures listens { L.tells → (L.listened links.new ≡ L.listened links.old)
         ⊎ (L.listened links.new
-        ≡ L.listened links.old ++ place_of listening.entry.address.now listening.entry.workers
+        ≡ L.listened links.old ++ door_place_of listening.entry.address.now listening.entry.workers
         ∷ []) }
     ensures heard { L.tells → IsDone result
         → L.listened links.new
-        ≡ L.listened links.old ++ place_of listening.entry.address.now listening.entry.workers
+        ≡ L.listened links.old ++ door_place_of listening.entry.address.now listening.entry.workers
         ∷ [] }
     ensures unheard { L.tells → L.listened links.new ≡ L.listened links.old
         → SameNames (F.disk shelf.old) (F.disk shelf.new) × SameNames (F.disk_faults shelf.old)
-        (copied_counts (F.disk_faults shelf.new) (dial_faults C.faults mirrors.new)) }
+        (mirrored_counts (F.disk_faults shelf.new) (dial_faults C.faults mirrors.new)) }
     ensures limited { L.tells → L.given links.new ≤ L.given links.old + listening.entry.sessions }
     ensures left { L.tells → L.left links.old ≡ L.at_hand links.old
         → L.left links.new ≡ L.at_hand links.new }
@@ -308,11 +308,11 @@ where
     ensures files { SameNames (F.file shelf.old) (F.file shelf.new) }
     ensures looked { F.looked shelf.new ≡ F.looked shelf.old }
     ensures counts { NoneFell (F.disk_faults shelf.old)
-        (copied_counts (F.disk_faults shelf.new) (dial_faults C.faults mirrors.new)) }
+        (mirrored_counts (F.disk_faults shelf.new) (dial_faults C.faults mirrors.new)) }
     ensures other_counts { SameBeside
         (registered_journals registry.now.directory.now registry.now.users.now)
         (F.disk_faults shelf.old)
-        (copied_counts (F.disk_faults shelf.new) (dial_faults C.faults mirrors.new)) }
+        (mirrored_counts (F.disk_faults shelf.new) (dial_faults C.faults mirrors.new)) }
     ensures out { L.out links.new ≡ L.out links.old }
     ensures dialling { L.dialling links.new ≡ L.dialling links.old }
     ensures exchanged { L.tells → L.exchanged links.new ≡ L.exchanged links.old }
@@ -325,7 +325,7 @@ where
     ensures links_cause { result ≡ ServeEnd.LinksFault
         → Rose (L.faults links.old) (L.faults links.new) }
     ensures disk_cause { serving.IsBroken result → SomeRose (F.disk_faults shelf.old)
-        (copied_counts (F.disk_faults shelf.new) (dial_faults C.faults mirrors.new)) }
+        (mirrored_counts (F.disk_faults shelf.new) (dial_faults C.faults mirrors.new)) }
 {
     let mut mirrored = MirroredShelf::new(shelf, mirrors);
     run_serve(rt, alloc, registry, &mut mirrored, links, listening, gate)

@@ -8,10 +8,10 @@ use Rattle.standby_core.specs.Places.{faults_in, is_away}
 use Rattle.standby_core.specs.MirrorSets.{slots_of, dial_faults, dial_marks, DialsLie}
 use Rattle.standby_core.specs.Slots.{place_at, slot_texts, there_among}
 use Rattle.standby_core.proofs.There.{all_there}
-use Rattle.cqe_top.specs.Steps.{copied_counts, copied_journals}
-use Rattle.cqe_top.proofs.Copying.{same_copied, dials_lie, disks_under, counts_under, all_counts_under, some_rose_under, none_fell_under}
+use Rattle.cqe_top.specs.Steps.{mirrored_counts, mirrored_journals}
+use Rattle.cqe_top.proofs.Copying.{same_mirrored, dials_lie, disks_under, counts_under, all_counts_under, some_rose_under, none_fell_under}
 use Rattle.cqe_top.proofs.Copying.{shelf_back, mirrors_back, lent_one, lent_two}
-use Rattle.cqe_top.proofs.copied.copied_serve.Goals as goal
+use Rattle.cqe_top.proofs.mirrored.mirrored_serve.Goals as goal
 
 pub run_serve-requires-clause-inside : goal.run_serve-requires-clause-inside
 run_serve-requires-clause-inside g c κs within =
@@ -22,7 +22,7 @@ run_serve-requires-clause-inside g c κs within =
 pub returns-clause-ends : goal.returns-clause-ends
 returns-clause-ends g c = λ told links_told.
     lent_two (λ shelf mirrors. serving.EndsServing c.args.registry.now.schema.now c.args.registry.now.world.now (header_bytes c.args.registry.now.header.now)
-    (copied_journals g.F.Shelf g.F.D.Disk c.args.registry.now.directory.now c.args.shelf.now shelf (dial_faults g.C.Dial.faults mirrors)
+    (mirrored_journals g.F.Shelf g.F.D.Disk c.args.registry.now.directory.now c.args.shelf.now shelf (dial_faults g.C.Dial.faults mirrors)
     (dial_marks g.C.Dial.answered (g.F.Shelf.disk shelf) mirrors))
     c.args.registry.now.users.now (g.L.Links.given c.args.links.now) (g.L.Links.given c.run_serve.new.links) (g.L.Links.back c.args.links.now)
     (g.L.Links.back c.run_serve.new.links) c.run_serve.result)
@@ -33,7 +33,7 @@ returns-clause-ends g c = λ told links_told.
     journals
     c.args.registry.now.users.now (g.L.Links.given c.args.links.now) (g.L.Links.given c.run_serve.new.links) (g.L.Links.back c.args.links.now)
     (g.L.Links.back c.run_serve.new.links) c.run_serve.result)
-    (same_copied g.F.Shelf g.F.D.Disk g.C.Dial.faults c.new-mirrored.result.shelf.now c.args.shelf.now c.run_serve.new.shelf.shelf.now
+    (same_mirrored g.F.Shelf g.F.D.Disk g.C.Dial.faults c.new-mirrored.result.shelf.now c.args.shelf.now c.run_serve.new.shelf.shelf.now
     c.new-mirrored.ensures.shelf
     (slots_of c.new-mirrored.result.mirrors.now) (slots_of c.args.mirrors.now) (slots_of c.run_serve.new.shelf.mirrors.now)
     (ap slots_of c.new-mirrored.ensures.mirrors) c.requires.fresh g.C.Dial.answered c.args.registry.now.directory.now)
@@ -42,7 +42,7 @@ returns-clause-ends g c = λ told links_told.
 pub returns-clause-journals : goal.returns-clause-journals
 returns-clause-journals g c = λ told.
     lent_two (λ shelf mirrors. serving.LeavesJournals c.args.registry.now.schema.now c.args.registry.now.world.now (header_bytes c.args.registry.now.header.now)
-    (copied_journals g.F.Shelf g.F.D.Disk c.args.registry.now.directory.now c.args.shelf.now shelf (dial_faults g.C.Dial.faults mirrors)
+    (mirrored_journals g.F.Shelf g.F.D.Disk c.args.registry.now.directory.now c.args.shelf.now shelf (dial_faults g.C.Dial.faults mirrors)
     (dial_marks g.C.Dial.answered (g.F.Shelf.disk shelf) mirrors))
     c.args.registry.now.users.now c.run_serve.result)
     _ c.run_serve.new.shelf.shelf.now c.mirrors-1.given.0 c.run_serve.new.shelf.mirrors.now
@@ -51,7 +51,7 @@ returns-clause-journals g c = λ told.
     (subst (λ journals. serving.LeavesJournals c.args.registry.now.schema.now c.args.registry.now.world.now (header_bytes c.args.registry.now.header.now)
     journals
     c.args.registry.now.users.now c.run_serve.result)
-    (same_copied g.F.Shelf g.F.D.Disk g.C.Dial.faults c.new-mirrored.result.shelf.now c.args.shelf.now c.run_serve.new.shelf.shelf.now
+    (same_mirrored g.F.Shelf g.F.D.Disk g.C.Dial.faults c.new-mirrored.result.shelf.now c.args.shelf.now c.run_serve.new.shelf.shelf.now
     c.new-mirrored.ensures.shelf
     (slots_of c.new-mirrored.result.mirrors.now) (slots_of c.args.mirrors.now) (slots_of c.run_serve.new.shelf.mirrors.now)
     (ap slots_of c.new-mirrored.ensures.mirrors) c.requires.fresh g.C.Dial.answered c.args.registry.now.directory.now)
@@ -90,7 +90,7 @@ returns-clause-looked g c =
 pub returns-clause-counts : goal.returns-clause-counts
 returns-clause-counts g c =
     lent_two (λ shelf mirrors. NoneFell (g.F.Shelf.disk_faults c.args.shelf.now)
-    (copied_counts (g.F.Shelf.disk_faults shelf) (dial_faults g.C.Dial.faults mirrors)))
+    (mirrored_counts (g.F.Shelf.disk_faults shelf) (dial_faults g.C.Dial.faults mirrors)))
     _ c.run_serve.new.shelf.shelf.now c.mirrors-1.given.0 c.run_serve.new.shelf.mirrors.now
     (shelf_back _ c.run_serve.new.shelf.shelf.now _ _ c.run_serve.ensures.lent (search rules))
     (mirrors_back c.mirrors-1.given.0 c.run_serve.new.shelf.mirrors.now _ _ c.run_serve.ensures.lent (search rules))
@@ -103,7 +103,7 @@ returns-clause-counts g c =
 pub returns-clause-other_counts : goal.returns-clause-other_counts
 returns-clause-other_counts g c =
     lent_two (λ shelf mirrors. SameBeside (registered_journals c.args.registry.now.directory.now c.args.registry.now.users.now)
-    (g.F.Shelf.disk_faults c.args.shelf.now) (copied_counts (g.F.Shelf.disk_faults shelf) (dial_faults g.C.Dial.faults mirrors)))
+    (g.F.Shelf.disk_faults c.args.shelf.now) (mirrored_counts (g.F.Shelf.disk_faults shelf) (dial_faults g.C.Dial.faults mirrors)))
     _ c.run_serve.new.shelf.shelf.now c.mirrors-1.given.0 c.run_serve.new.shelf.mirrors.now
     (shelf_back _ c.run_serve.new.shelf.shelf.now _ _ c.run_serve.ensures.lent (search rules))
     (mirrors_back c.mirrors-1.given.0 c.run_serve.new.shelf.mirrors.now _ _ c.run_serve.ensures.lent (search rules))
@@ -116,7 +116,7 @@ returns-clause-other_counts g c =
 pub returns-clause-disk_cause : goal.returns-clause-disk_cause
 returns-clause-disk_cause g c broken =
     lent_two (λ shelf mirrors. SomeRose (g.F.Shelf.disk_faults c.args.shelf.now)
-    (copied_counts (g.F.Shelf.disk_faults shelf) (dial_faults g.C.Dial.faults mirrors)))
+    (mirrored_counts (g.F.Shelf.disk_faults shelf) (dial_faults g.C.Dial.faults mirrors)))
     _ c.run_serve.new.shelf.shelf.now c.mirrors-1.given.0 c.run_serve.new.shelf.mirrors.now
     (shelf_back _ c.run_serve.new.shelf.shelf.now _ _ c.run_serve.ensures.lent (search rules))
     (mirrors_back c.mirrors-1.given.0 c.run_serve.new.shelf.mirrors.now _ _ c.run_serve.ensures.lent (search rules))
@@ -146,7 +146,7 @@ returns-clause-unheard g c told still =
           (shelf_back _ c.run_serve.new.shelf.shelf.now _ _ c.run_serve.ensures.lent (search rules))
           (λ name. (λ i. g.F.Shelf.disk (same i).shelf.now name) ∙ ap (λ shelf. g.F.Shelf.disk shelf name) c.new-mirrored.ensures.shelf),
       lent_two (λ shelf mirrors. SameNames (g.F.Shelf.disk_faults c.args.shelf.now)
-          (copied_counts (g.F.Shelf.disk_faults shelf) (dial_faults g.C.Dial.faults mirrors)))
+          (mirrored_counts (g.F.Shelf.disk_faults shelf) (dial_faults g.C.Dial.faults mirrors)))
           _ c.run_serve.new.shelf.shelf.now c.mirrors-1.given.0 c.run_serve.new.shelf.mirrors.now
           (shelf_back _ c.run_serve.new.shelf.shelf.now _ _ c.run_serve.ensures.lent (search rules))
           (mirrors_back c.mirrors-1.given.0 c.run_serve.new.shelf.mirrors.now _ _ c.run_serve.ensures.lent (search rules))
