@@ -4,7 +4,7 @@ use Rattle.std.specs.Prelude.{option_map}
 use Rattle.outside.specs.Dials.{Exchange}
 use Rattle.outside.specs.Disk.{HeardNothing}
 use Rattle.outside.specs.Faults.{Rose}
-use Rattle.outside.specs.Visits.{Visit, Place as Listened}
+use Rattle.outside.specs.Visits.{Visit, DoorPlace as Listened}
 use Rattle.outside.specs.Shelf.{SameNames, SameBeside, NoneFell, SomeRose, Lent, bytes_on, image_on, since_on, is_among}
 use Rattle.outside.specs.declared.disk.Disk.{Ghosts as DiskGhosts}
 use Rattle.outside.specs.declared.shelf.Shelf.{Ghosts as ShelfGhosts}

@@ -17,7 +17,7 @@ use Rattle.log_journal.specs.declared.header.OpenError.{OpenError}
 use Rattle.log_journal.specs.declared.header.OpenError.TheVariants as open_errors
 use Rattle.user_desk.specs.declared.standing.DeskError.{DeskError}
 use Rattle.user_desk.specs.declared.standing.DeskError.TheVariants as desk_errors
-use Rattle.policy_files.specs.declared.error.Place.{Place}
+use Rattle.policy_files.specs.declared.error.KeyPlace.{KeyPlace}
 use Rattle.policy_files.specs.declared.error.PolicyError.{PolicyError}
 use Rattle.policy_files.specs.declared.error.PolicyError.TheVariants as policy_errors
 use Rattle.policy_files.specs.declared.error.FactsError.{FactsError}
@@ -72,12 +72,12 @@ cause_text None = []
 cause_text (Some why) = codes " " ++ decimal why.kind ++ codes " " ++ decimal why.place
 
 -- a place: the key, as `users[0].know[1]`, and why its text is no sentence
-abbrev pub place_text : Place → Text
+abbrev pub place_text : KeyPlace → Text
 place_text place =
     user_text place.user ++ place.key ++ index_text place.index ++ cause_text place.text
 
 -- the number of a policy's refusal with its place
-abbrev pub place_complaint : ℕ → Place → Text
+abbrev pub place_complaint : ℕ → KeyPlace → Text
 place_complaint number place =
     codes "cqe: policy " ++ decimal number ++ place_text place ++ codes "\n"
 

@@ -11,7 +11,7 @@ use Rattle.std.specs.Prelude.{◌≡◌, ℕ, ◌≤◌, Bool, List, Option}
 use Rattle.outside.specs.Dials.{Exchange}
 use Rattle.outside.specs.Faults.{Rose}
 use Rattle.outside.specs.Shelf.{SameNames}
-use Rattle.outside.specs.Visits.{Visit, Place}
+use Rattle.outside.specs.Visits.{Visit, DoorPlace}
 use Rattle.outside.specs.declared.disk.Disk.{Ghosts as DiskGhosts}
 use Rattle.outside.specs.declared.links.Links.{Ghosts as LinksGhosts}
 use Rattle.outside.specs.declared.shelf.Shelf.{Ghosts as ShelfGhosts}
@@ -105,8 +105,8 @@ pub record LinksScene : Type 1 where
   pub ended : ℕ
   pub ended' : ℕ
   -- where the links listened, in order
-  pub listened : List Place
-  pub listened' : List Place
+  pub listened : List DoorPlace
+  pub listened' : List DoorPlace
   -- their count of faults
   pub faults : Count
   -- how many dials aren't hung up

@@ -21,7 +21,7 @@ use dossier_engine::CheckRefusal;
 use line_protocol::{LineText, Reply, text_of};
 use log_journal::OpenError;
 use outside::{Failed, Sink, write_all, write_parts};
-use policy_files::{FactsError, Place, PolicyError};
+use policy_files::{FactsError, KeyPlace, PolicyError};
 use user_desk::DeskError;
 
 /// Gives the complaint of a report to a sink. Where that fails nobody is left to be told.
@@ -248,7 +248,7 @@ fn give_policy<E: Sink>(complaints: &mut E, why: &PolicyError) -> Result<(), Fai
 }
 
 /// Gives the complaint of a policy's refusal that has a place.
-fn give_place<E: Sink>(complaints: &mut E, number: u32, place: &Place) -> Result<(), Failed>
+fn give_place<E: Sink>(complaints: &mut E, number: u32, place: &KeyPlace) -> Result<(), Failed>
     ensures all { E.tells → OnOk result (E.written complaints.new
         ≡ E.written complaints.old ++ place_complaint number place.now) }
     ensures part { E.tells → OnErr result (AppendsPart (E.written complaints.old)

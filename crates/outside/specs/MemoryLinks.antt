@@ -1,7 +1,7 @@
 -- What links in memory show.
 use Rattle.std.specs.Prelude.{ℕ, ◌+◌, List, [], ◌∷◌, ◌++◌, length, map, string_bytes}
 use Rattle.std.specs.List.{sum_by}
-use Rattle.outside.specs.Visits.{Visit, Place, place_of, one_if_any}
+use Rattle.outside.specs.Visits.{Visit, DoorPlace, door_place_of, one_if_any}
 use Rattle.outside.specs.Dials.{Exchange, faults_under}
 use Rattle.outside.specs.MemoryDials.{dial_name, dial_exchanged, dial_faults}
 use Rattle.outside.specs.MemoryDoors.{visits_of}
@@ -37,15 +37,15 @@ abbrev pub links_out : MemoryLinks → ℕ
 links_out links = links.out
 
 -- places in memory, by their addresses' bytes
-abbrev pub places_of : List Listened → List Place
-places_of places = map (λ place. place_of (string_bytes place.address) place.doors) places
+abbrev pub places_of : List Listened → List DoorPlace
+places_of places = map (λ place. door_place_of (string_bytes place.address) place.doors) places
 
 -- how many of the doors that are back had answered that no further connection comes
 abbrev pub links_ended : MemoryLinks → ℕ
 links_ended links = sum_by (λ door. one_if_any door.ends) links.doors_back.items
 
 -- where they listened
-abbrev pub links_listened : MemoryLinks → List Place
+abbrev pub links_listened : MemoryLinks → List DoorPlace
 links_listened links = places_of links.places.items
 
 -- their count of faults

@@ -21,7 +21,7 @@ use Rattle.session_core.specs.Members.{users_of, fixeds_of, passes_in, HaveSeenL
 use Rattle.worker_pool.specs.declared.worker.Worker.{Worker}
 use Rattle.worker_pool.specs.declared.worker.WorkerEnd.{WorkerEnd}
 use Rattle.worker_pool.specs.declared.worker.WorkerEnd.TheVariants.{LinksEnded, LimitReached, LinksFailed as LinksHaveFailed}
-use Rattle.worker_pool.specs.Workers.{IsServed, lost}
+use Rattle.worker_pool.specs.Workers.{IsWorkedThrough, lost}
 use Rattle.worker_pool.proofs.Serving.{none_isnt}
 use Rattle.serve_engine.specs.declared.job.SessionJobOf.{SessionJobOf}
 use Rattle.serve_engine.specs.declared.serving.Outcome.{Outcome}
@@ -114,7 +114,7 @@ neither false b is = (refl, is)
 module _ {D G O S K : Type 0} {g h : _} (Door : DoorGhosts O S K) where
   -- a worker before he served and after he ended
   abbrev pub Was : Worker (SessionJobOf (TicketedDesk D g) D G h) O → Worker (SessionJobOf (TicketedDesk D g) D G h) O → Type 0
-  Was = IsServed Door.tells Door.given Door.left Door.ends Door.faults Door.back (λ job. room_in (passes_in (job_passes job))) job_runs (λ first job visits.
+  Was = IsWorkedThrough Door.tells Door.given Door.left Door.ends Door.faults Door.back (λ job. room_in (passes_in (job_passes job))) job_runs (λ first job visits.
       AreServedBy (job_counters job) (job_passes first) (job_passes job) visits)
       (λ before after. (job_counters after ≡ job_counters before) × ArePassesLater (job_passes before) (job_passes after))
 
