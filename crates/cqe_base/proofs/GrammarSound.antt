@@ -12,7 +12,7 @@ use Rattle.cqe_base.specs.Formula.{universal, existential}
 use Rattle.cqe_base.specs.Schema.{DatabaseSchema, domain_named, relation_named}
 use Rattle.cqe_base.specs.Tokens.{Token, symbol_of, symbol_number}
 use Rattle.cqe_base.specs.Reading
-use Rattle.cqe_base.specs.Reading.{◌>>=◌, Reader, Scope, Binder, TypedTerm, Level, column_domains, term_named, named, is_symbol, is_next, chain}
+use Rattle.cqe_base.specs.Reading.{◌>>=◌, Reader, Scope, Binder, TypedTerm, Level, column_domains, term_named, looked_up, is_symbol, is_next, chain}
 use Rattle.cqe_base.specs.Grammar.{unary, both, either, conditional, whole, IsSymbol, IsTerm, Columns, no_column, last_column, next_column, MayEndQuantified}
 use Rattle.cqe_base.specs.Grammar.{IsQuantifier, Begins, is_true, is_false, is_atom, is_equal, is_differs, is_not, in_parentheses, is_forall, is_exists}
 use Rattle.cqe_base.specs.Grammar.{one_and, more_and, one_or, more_or, no_arrow, one_arrow, no_double_arrow, one_double_arrow}
@@ -39,9 +39,9 @@ typed-same x a d term domain =
     let make : Term → ℕ → TypedTerm = λ a d. record { term = a; domain = d } in
     ap (λ (y : Term). make y x.domain) term ∙ ap (make a) domain
 
-pub named_ok : {A : Type 0} (t : Token) (o : Option A) (x : A) → named t o ≡ Ok x → o ≡ Some x
-named_ok t (Some y) x h = cc
-named_ok t None x h = absurd (cc)
+pub looked_up_ok : {A : Type 0} (t : Token) (o : Option A) (x : A) → looked_up t o ≡ Ok x → o ≡ Some x
+looked_up_ok t (Some y) x h = cc
+looked_up_ok t None x h = absurd (cc)
 
 -- what is read is what is said to be read
 pub moved : {A : Type 0} (P : A → List Token → Type 0) (x y : A × List Token) → ◌≡◌ {A = Result (A × List Token) Refusal} (Ok x) (Ok y) → P x.0 x.1 → P y.0 y.1
@@ -96,7 +96,7 @@ module _ (schema : DatabaseSchema) (end : Refusal) where
   unfolding Reading.term_of
   term-sound scope d ts rest a h =
       let s = bind_ok (Reading.name schema end ts) _ (a, rest) h in
-      let k = bind_ok (named s.0.0 (term_named schema scope s.0.0.text)) _ (a, rest) s.2 in
+      let k = bind_ok (looked_up s.0.0 (term_named schema scope s.0.0.text)) _ (a, rest) s.2 in
       let g = if_ok (k.0.domain == d) (k.0.term, s.0.1) (a, rest) _ k.2 in
       let n = name-sound ts s.0.1 s.0.0 s.1 in
       let domain : k.0.domain ≡ d = grind (arith, nat_tests) in (
@@ -105,7 +105,7 @@ module _ (schema : DatabaseSchema) (end : Refusal) where
         record {
           is_name = n.1;
           stands_for =
-              named_ok s.0.0 (term_named schema scope s.0.0.text) k.0 k.1 ∙ ap Some (typed-same k.0 a d (ap (λ (x : Term × List Token). x.0) g.1) domain);
+              looked_up_ok s.0.0 (term_named schema scope s.0.0.text) k.0 k.1 ∙ ap Some (typed-same k.0 a d (ap (λ (x : Term × List Token). x.0) g.1) domain);
         },
       )
 
@@ -114,13 +114,13 @@ module _ (schema : DatabaseSchema) (end : Refusal) where
   unfolding Reading.domain
   domain-sound ts rest d h =
       let s = bind_ok (Reading.name schema end ts) _ (d, rest) h in
-      let k = bind_ok (named s.0.0 (domain_named schema s.0.0.text)) _ (d, rest) s.2 in
+      let k = bind_ok (looked_up s.0.0 (domain_named schema s.0.0.text)) _ (d, rest) s.2 in
       let n = name-sound ts s.0.1 s.0.0 s.1 in
       let e : (k.0, s.0.1) ≡ (d, rest) = cc in (
         s.0.0,
         n.0 ∙ ap (λ (x : ℕ × List Token). s.0.0 ∷ x.1) e,
         n.1,
-        named_ok s.0.0 (domain_named schema s.0.0.text) k.0 k.1 ∙ ap (λ (x : ℕ × List Token). Some x.0) e,
+        looked_up_ok s.0.0 (domain_named schema s.0.0.text) k.0 k.1 ∙ ap (λ (x : ℕ × List Token). Some x.0) e,
       )
 
   pub after_column-sound : (last : Bool) (ts rest : List Token) → Reading.after_column schema end last ts ≡ Ok rest → (t : Token) × (ts ≡ t ∷ rest)
@@ -206,11 +206,11 @@ module _ (schema : DatabaseSchema) (end : Refusal) where
       → Reading.comparison schema end scope t ts ≡ Ok (a, rest) → Begins schema unary room scope (t ∷ ts) a rest
   unfolding Reading.comparison
   comparison-sound scope t room ts rest a name h =
-      let k = bind_ok (named t (term_named schema scope t.text)) _ (a, rest) h in
+      let k = bind_ok (looked_up t (term_named schema scope t.text)) _ (a, rest) h in
       let s = bind_ok (Reading.comparison_sign schema end ts) _ (a, rest) k.2 in
       let u = bind_ok (Reading.term_of schema end scope k.0.domain s.0.1) _ (a, rest) s.2 in
       let b = term-sound scope k.0.domain s.0.1 u.0.1 u.0.0 u.1 in
-      let first : IsTerm schema scope t k.0.term k.0.domain = record { is_name = name; stands_for = named_ok t (term_named schema scope t.text) k.0 k.1 } in
+      let first : IsTerm schema scope t k.0.term k.0.domain = record { is_name = name; stands_for = looked_up_ok t (term_named schema scope t.text) k.0 k.1 } in
       moved (λ a rest. Begins schema unary room scope (t ∷ ts) a rest) (s.0.0 k.0.term u.0.0, u.0.1) (a, rest) u.2
       (sign-sound scope t room ts s.0.1 u.0.1 s.0.0 k.0.term u.0.0 k.0.domain b.0 first b.2 b.1 s.1)
 
@@ -219,10 +219,10 @@ module _ (schema : DatabaseSchema) (end : Refusal) where
       → Begins schema unary room scope (t ∷ open_ ∷ ts) a rest
   unfolding Reading.relation_atom
   atom-sound scope t room open_ ts rest a name opens h =
-      let k = bind_ok (named t (relation_named schema t.text)) _ (a, rest) h in
+      let k = bind_ok (looked_up t (relation_named schema t.text)) _ (a, rest) h in
       let c = bind_ok (Reading.arguments schema end scope (column_domains schema k.0) ts) _ (a, rest) k.2 in
       moved (λ a rest. Begins schema unary room scope (t ∷ open_ ∷ ts) a rest) (atom k.0 c.0.0, c.0.1) (a, rest) c.2
-      (is_atom name opens (named_ok t (relation_named schema t.text) k.0 k.1) (arguments-sound scope (column_domains schema k.0) ts c.0.1 c.0.0 c.1))
+      (is_atom name opens (looked_up_ok t (relation_named schema t.text) k.0 k.1) (arguments-sound scope (column_domains schema k.0) ts c.0.1 c.0.0 c.1))
 
   named-sound : (scope : Scope) (t : Token) (room : ℕ) (ts rest : List Token) (a : Formula) → IsSymbol symbols.Name t
       → Reading.named schema end scope t ts ≡ Ok (a, rest) → Begins schema unary room scope (t ∷ ts) a rest

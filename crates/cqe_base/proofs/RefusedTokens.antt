@@ -8,7 +8,7 @@ use Rattle.cqe_base.specs.Formula.{Formula}
 use Rattle.cqe_base.specs.Schema.{DatabaseSchema, domain_named}
 use Rattle.cqe_base.specs.Tokens.{Token, symbol_of, same_symbol}
 use Rattle.cqe_base.specs.Reading
-use Rattle.cqe_base.specs.Reading.{◌>>=◌, Refusal, Scope, term_named, named, is_symbol, is_next, unexpected, unknown_name, wrong_domain, wrong_columns}
+use Rattle.cqe_base.specs.Reading.{◌>>=◌, Refusal, Scope, term_named, looked_up, is_symbol, is_next, unexpected, unknown_name, wrong_domain, wrong_columns}
 use Rattle.cqe_base.specs.Refusals.{Wanted, variable, colon, domain, dot, term, no_term, behind_column, sign, behind_operand, may_stand, MustGoOn, Refuses}
 use Rattle.cqe_base.specs.Refusals.{at_end, not_allowed, no_such_term, no_domain, other_domain, comma_behind_last, close_before_last}
 use Rattle.cqe_base.proofs.GrammarSound.{is_symbol-IsSymbol, name-sound}
@@ -21,7 +21,7 @@ by_step P (Ok x) f e first later h = later x refl h
 by_step P (Err d) f e first later h = let same : d ≡ e = cc in first (ap Err same)
 
 pub by_name : {A B : Type 0} (P : Type 0) (t : Token) (o : Option A) (f : A → Result B Refusal) (e : Refusal) → (o ≡ None → unknown_name t.start ≡ e → P)
-    → ((x : A) → o ≡ Some x → f x ≡ Err e → P) → (named t o >>= f) ≡ Err e → P
+    → ((x : A) → o ≡ Some x → f x ≡ Err e → P) → (looked_up t o >>= f) ≡ Err e → P
 by_name P t (Some x) f e missing found h = found x refl h
 by_name P t None f e missing found h = missing refl (cc)
 

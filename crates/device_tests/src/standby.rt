@@ -98,7 +98,7 @@ fn book_of(alloc: Global, name: &str) -> Result<StandbyBook<MemoryDisk>, Fail> {
     Ok(StandbyBook::new(journals))
 }
 
-// ServesConnection a book to a primary who sends these bytes: how it ends, and what is answered.
+// Serves a book to a primary who sends these bytes: how it ends, and what is answered.
 fn served(
     rt: &impl Wait,
     alloc: Global,
@@ -111,7 +111,7 @@ fn served(
     (end, sink)
 }
 
-// ServesConnection it so, and checks how it ends, and that nothing is answered.
+// Serves it so, and checks how it ends, and that nothing is answered.
 fn check_refused<R: Wait + Abort>(
     rt: &R,
     alloc: Global,

@@ -89,7 +89,7 @@ fn connections(alloc: Global, count: usize) -> Result<Vec<Connection>, Fail> {
     Ok(all)
 }
 
-// ServesConnection these links with so many workers up to a limit.
+// Serves these links with so many workers up to a limit.
 fn serve<R: Threads + Wait + Abort + Sync>(
     rt: &R,
     alloc: Global,

@@ -41,7 +41,7 @@ impl Reader<'_> {
     /// What a term's name stands for: a variable, else a constant.
     fn term_named(&self, scope: &Scope<'_>, token: Token<'_>) -> Result<TypedTerm, ReadError>
         requires { length (binders scope.now) ≤ 8 }
-        ensures { Gives typed_term result (Reading.named (token_of token.entry)
+        ensures { Gives typed_term result (Reading.looked_up (token_of token.entry)
             (Reading.term_named self.now.schema (binders scope.now) token.entry.text.now)) }
     {
         if let Some(variable) = scope.variable(token.text) {

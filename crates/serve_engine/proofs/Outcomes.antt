@@ -114,7 +114,8 @@ neither false b is = (refl, is)
 module _ {D G O S K : Type 0} {g h : _} (Door : DoorGhosts O S K) where
   -- a worker before he served and after he ended
   abbrev pub Was : Worker (SessionJobOf (TicketedDesk D g) D G h) O → Worker (SessionJobOf (TicketedDesk D g) D G h) O → Type 0
-  Was = IsWorkedThrough Door.tells Door.given Door.left Door.ends Door.faults Door.back (λ job. room_in (passes_in (job_passes job))) job_runs (λ first job visits.
+  Was = IsWorkedThrough Door.tells Door.given Door.left Door.ends Door.faults Door.back
+      (λ job. room_in (passes_in (job_passes job))) job_runs (λ first job visits.
       AreServedBy (job_counters job) (job_passes first) (job_passes job) visits)
       (λ before after. (job_counters after ≡ job_counters before) × ArePassesLater (job_passes before) (job_passes after))
 
