@@ -26,7 +26,6 @@ use Rattle.batch_engine.proofs.Along.{goes_on}
 use Rattle.batch_engine.proofs.Joining.{batches_are_calls, cut_batches_are_calls, later_cuts_are_calls}
 use Rattle.command_words.specs.Readings.{FileNames, reading_of}
 use Rattle.policy_files.specs.Policies.{PolicyUser, PolicyValue}
-use Rattle.cqe_top.specs.Audit.{user_named}
 use Rattle.cqe_top.specs.Calls.{BeginsWith, EachFollows, GoesOn, OpensOn, HisBatch, HasCome, to_its_end, to_a_stretch, IsTold, by_batch, by_serving}
 use Rattle.cqe_top.specs.Calls.{ComesTo, IsCallOf, with_events, unopened_yet, EachStands, LeaveOneHistory, AreCallsOf, AreRunOf}
 use Rattle.cqe_top.specs.Calls.{Promised, scene_at, journals_at, AnyCallsJoin, AnsweredBatch, journals_in_batch, AnyBatchesJoin}
@@ -35,6 +34,7 @@ use Rattle.cqe_top.specs.Files.{journals_of}
 use Rattle.cqe_top.specs.Lives.{IsLeft, LeavesPart, LeavesParts}
 use Rattle.cqe_top.specs.Scene.{Scene, input_of, output_of, links_of}
 use Rattle.cqe_top.proofs.Lives.{calls_are_parts, IsLeftOpened, batch_left}
+use Rattle.cqe_top.specs.Files.{user_named}
 
 -- a history that goes on from one that goes on
 pub goes_further : (first next last : History) → GoesOn first next → GoesOn next last → GoesOn first last

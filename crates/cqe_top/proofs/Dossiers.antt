@@ -14,7 +14,6 @@ use Rattle.user_desk.specs.Standings.{is_sealed}
 use Rattle.user_desk.specs.declared.standing.Standing.{Standing}
 use Rattle.user_desk.specs.declared.standing.Standing.TheVariants.{Open, Closed, Sealed}
 use Rattle.user_desk.proofs.Deciding.{opens_once}
-use Rattle.cqe_top.specs.Audit.{user_named}
 use Rattle.cqe_top.specs.Check.{two_files, CanBeChecked, ChecksOverFiles, CheckEnds, OfCheck}
 use Rattle.cqe_top.specs.Dossier.{ServedIsAccepted, ShowsOverFiles, DossierEnds, OfDossier}
 use Rattle.cqe_top.specs.Dossiers.{HasWritten, HasChecked, WrittenIsFoundSound}
@@ -28,6 +27,7 @@ use Rattle.cqe_top.specs.declared.end.FilesEnd.TheVariants as files_end
 use Rattle.cqe_top.specs.declared.report.Report.TheVariants as report
 use Rattle.cqe_top.proofs.Good.{same_one}
 use Rattle.cqe_top.proofs.Lives.{said_once}
+use Rattle.cqe_top.specs.Files.{user_named}
 
 module _ (files : FileNames) (user : Text) (policy : PolicyValue) (world : FactSet) (header : List ℕ) (one : PolicyUser) where
   -- ---- what was written

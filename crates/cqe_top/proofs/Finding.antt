@@ -8,7 +8,7 @@ use Rattle.cqe_base.specs.Schema.{Text}
 use Rattle.cqe_base.specs.declared.user.User.{User}
 use Rattle.policy_files.specs.Memory.{policy_user_of}
 use Rattle.policy_files.specs.Policies.{PolicyUser}
-use Rattle.cqe_top.specs.Audit.{user_named}
+use Rattle.cqe_top.specs.Files.{user_named}
 
 module _ {X : Type 0} (p : X → Bool) where
   -- how many elements stand before the first that passes

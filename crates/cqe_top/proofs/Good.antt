@@ -47,7 +47,7 @@ use Rattle.cqe_top.specs.declared.end.FilesEnd.{FilesEnd}
 use Rattle.cqe_top.specs.declared.end.FilesEnd.TheVariants as files_end
 use Rattle.cqe_top.specs.declared.report.Report.{Report}
 use Rattle.cqe_top.specs.declared.report.Report.TheVariants as report
-use Rattle.cqe_top.specs.Audit.{NamesNobody, CanBeAudited, AuditsOverFiles, RunsAudit, FindsNobody, AuditSucceeds}
+use Rattle.cqe_top.specs.Audit.{AuditsOverFiles, RunsAudit, AuditSucceeds}
 use Rattle.cqe_top.specs.Batch.{AnswersOverFiles, RunsBatch, BatchSucceeds}
 use Rattle.cqe_top.specs.Case.{RunsCase}
 use Rattle.cqe_top.specs.Check.{two_files, CanBeChecked, ChecksOverFiles, RunsCheck, CheckSucceeds}
@@ -68,6 +68,8 @@ use Rattle.cqe_top.specs.declared.over_files.Task.TheVariants as task
 use Rattle.cqe_top.specs.declared.over_files.UserTask.{UserTask}
 use Rattle.cqe_top.specs.declared.over_files.UserTask.TheVariants as user_task
 use Rattle.cqe_top.proofs.Failing.{CanOpen, none_refused, none_broken}
+use Rattle.cqe_top.specs.Files.{FindsNobody, NamesNobody}
+use Rattle.cqe_top.specs.Ready.{CanBeAudited}
 
 -- ---- what the files say
 

@@ -40,10 +40,11 @@ use Rattle.serve_engine.specs.declared.run.ServeEnd.{ServeEnd}
 use Rattle.standby_engine.specs.Standing as standing
 use Rattle.standby_engine.specs.declared.run.CopyEnd.{CopyEnd}
 use Rattle.cqe_top.specs.Files.{TouchesOnlyJournals, CountsOnlyJournals, journals_of, new_users}
-use Rattle.cqe_top.specs.Init.{change_on, NamesOneOf}
+use Rattle.cqe_top.specs.Init.{NamesOneOf}
 use Rattle.cqe_top.specs.Migrate.{CountsOnlyBoth, IsAtOneOf}
 use Rattle.cqe_top.specs.Scene.{shelf_of}
 use Rattle.cqe_top.proofs.Users.{names_are, batch_names_are, new_users_are}
+use Rattle.cqe_top.specs.Files.{change_on}
 
 module _ {F D : Type 0} (Shelf : ShelfGhosts F D) (Disk : DiskGhosts D) (old mid new : F)
     (disks : SameNames (Shelf.disk old) (Shelf.disk mid)) (counts : SameNames (Shelf.disk_faults old) (Shelf.disk_faults mid)) where

@@ -30,7 +30,6 @@ use Rattle.user_desk.specs.declared.standing.DeskError.{DeskError}
 use Rattle.user_desk.specs.declared.standing.DeskError.TheVariants as desk_error
 use Rattle.user_desk.proofs.Bytes.{records_are}
 use Rattle.cqe_top.specs.Around.{Around, scene_around}
-use Rattle.cqe_top.specs.Audit.{user_named}
 use Rattle.cqe_top.specs.Calls.{BeginsWith, FollowsOn, EachFollows, GoesOn, OpensOn, Promised, LeaveOneHistory, journals_at, AnyCallsJoin}
 use Rattle.cqe_top.specs.Files.{both, said_on, journals_of}
 use Rattle.cqe_top.specs.Lives.{IsLeft}
@@ -42,6 +41,7 @@ use Rattle.cqe_top.specs.declared.end.CommandEnd.{CommandEnd}
 use Rattle.cqe_top.specs.declared.end.CommandEnd.TheVariants as end
 use Rattle.cqe_top.proofs.Calls.{any_calls_join, goes_further}
 use Rattle.cqe_top.proofs.Lives.{said_once}
+use Rattle.cqe_top.specs.Files.{user_named}
 
 -- ---- what a standby leaves of one journal
 

@@ -1,6 +1,6 @@
 -- The command `audit`: what the journal of one user holds, to the output.
 -- Ends: Audit, Nobody, Files, Memory.
-use Rattle.std.specs.Prelude.{◌≡◌, ℕ, Bool, List, find, bytes_eq, Option, Some, None}
+use Rattle.std.specs.Prelude.{◌≡◌, ℕ, Bool, List, Some}
 use Rattle.outside.specs.Disk.{Only}
 use Rattle.outside.specs.Shelf.{SameOthers, SameBytes, NoNewImages, NoNewMoments}
 use Rattle.outside.specs.Shelf.{bytes_on, image_on}
@@ -10,39 +10,16 @@ use Rattle.audit_engine.specs.declared.end.AuditEnd.TheVariants as audit_end
 use Rattle.cqe_base.specs.Facts.{FactSet}
 use Rattle.cqe_base.specs.Schema.{Text}
 use Rattle.command_words.specs.Readings.{FileNames}
-use Rattle.desk_crew.specs.Shelved.{Journals}
 use Rattle.log_journal.specs.Names.{journal_name}
 use Rattle.policy_files.specs.Policies.{PolicyUser, PolicyValue}
 use Rattle.cqe_top.specs.declared.end.CommandEnd.{CommandEnd}
 use Rattle.cqe_top.specs.declared.end.CommandEnd.TheVariants as command_end
 use Rattle.cqe_top.specs.Files.{SayOn, LooksAtBoth, IsUnread, journals_of}
-use Rattle.cqe_top.specs.Ready.{IsOpenable}
 use Rattle.cqe_top.specs.Reports.{IsDoneUnlessMemory}
-use Rattle.cqe_top.specs.Scene.{Scene, ShelfScene, Output, HasRisen, SameDisks}
+use Rattle.cqe_top.specs.Scene.{Scene, ShelfScene, Output, HasRisen}
 use Rattle.cqe_top.specs.Scene.{SameShelf, SameInput, SameOutput, SameLinks}
-
--- the user of this name, if there is one
-abbrev pub user_named : Text → List PolicyUser → Option PolicyUser
-user_named name users = find (λ user. bytes_eq user.name name) users
-
--- the policy has no user of this name
-abbrev pub NamesNobody : Text → PolicyValue → FactSet → List ℕ → Type 0
-NamesNobody name policy world header = user_named name policy.users ≡ None
-
--- the policy has a user of this name, whose journal can be opened, and its disk has no fault in the
--- call
-abbrev pub CanBeAudited : Journals → Text → PolicyValue → FactSet → List ℕ → Type 0
-CanBeAudited journals name policy world header =
-    (user : PolicyUser) × (user_named name policy.users ≡ Some user)
-    × IsOpenable journals policy world header user
-
-module _ (shelf : ShelfScene) (output : Output) (files : FileNames) (user : Text) where
-  -- the policy has no user of the name, and no disk was touched
-  pub record FindsNobody : Type 0 where
-    pub over_files : shelf.tells → SayOn shelf files (NamesNobody user)
-    pub looks : shelf.tells → LooksAtBoth shelf files
-    pub disks : SameDisks shelf
-    pub writes_nothing : SameOutput output
+use Rattle.cqe_top.specs.Files.{FindsNobody, user_named}
+use Rattle.cqe_top.specs.Ready.{CanBeAudited}
 
 module _ (shelf : ShelfScene) (output : Output) (files : FileNames) (user : Text) (json : Bool)
   where

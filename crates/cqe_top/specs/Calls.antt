@@ -26,12 +26,12 @@ use Rattle.policy_files.specs.Memory.{policy_user_of}
 use Rattle.policy_files.specs.Policies.{PolicyUser, PolicyValue}
 use Rattle.serve_engine.specs.Served.{Member}
 use Rattle.serve_engine.specs.Serving.{HasServed}
-use Rattle.cqe_top.specs.Audit.{user_named}
 use Rattle.cqe_top.specs.Mirrored.{with_exchange_faults}
 use Rattle.cqe_top.specs.Files.{both, said_on, journals_of, new_user}
 use Rattle.cqe_top.specs.Lives.{IsLeft, UsesJournals}
 use Rattle.cqe_top.specs.Promise.{Promise}
 use Rattle.cqe_top.specs.Scene.{Scene, shelf_of, input_of, output_of, links_of, scene_of}
+use Rattle.cqe_top.specs.Files.{user_named}
 
 -- ---- one call after another
 
@@ -78,8 +78,8 @@ module _ (policy : PolicyValue) (world : FactSet) (header : List ℕ) (user : Po
     pub serves : ServesUser policy.schema world header journals users script him
 
   -- When a crash could leave these bytes, a batch had come through at least these of his events,
-  -- and an opening of his journal had held among them: through all, as it had ended; or through
-  -- those up to the end of a stretch, as his journal had been closed there.
+  -- among which his journal was opened. Either the batch had ended, and these are all of his
+  -- events; or they end where a stretch ended, and his journal had been closed there.
   pub data HasCome (journals : Journals) (batch : HisBatch journals) (least : List Event)
       (left : List ℕ) : Type 0 where
     to_its_end : list_any is_opened (own_events batch.him.name batch.script) ≡ true
@@ -92,8 +92,9 @@ module _ (policy : PolicyValue) (world : FactSet) (header : List ℕ) (user : Po
         (batch.serves.closings least rest split ends held).closing left
         → HasCome journals batch least left
 
-  -- by then a call had told him of these entries: a batch of those behind such events; or a serving
-  -- that had ended, unless his journal was refused, of all his entries
+  -- When a crash could leave these bytes, he had been told of these entries: by a batch, of those
+  -- that he has behind the events that it had come through; or by a server that had ended and
+  -- hadn't refused his journal, of all of his.
   pub data IsTold (journals : Journals) (left : List ℕ) (entries : History) : Type 0 where
     by_batch : (batch : HisBatch journals) (least : List Event)
         → HasCome journals batch least left
@@ -106,14 +107,15 @@ module _ (policy : PolicyValue) (world : FactSet) (header : List ℕ) (user : Po
         → journals.image (string_bytes one.name) left → entries ≡ member.history
         → IsTold journals left entries
 
-  -- it had come through at least these, or through none that is known, at any moment of it
+  -- When a crash could leave these bytes, a batch had come through at least these of his events;
+  -- at a moment at which his journal wasn't closed, none is known.
   abbrev pub ComesTo : (journals : Journals) → HisBatch journals → List Event → List ℕ → Type 0
   ComesTo journals batch least left =
       HasCome journals batch least left ⊎ ((least ≡ []) × IsLeft journals user.name left)
 
-  -- A batch that came at least so far is this call to him: with some of his events, at least these,
-  -- and all that he was told of them; or with none, where a crash could leave it so as the batch
-  -- began.
+  -- To him a batch that came at least so far is this call. Either it has these of his events, and
+  -- maybe more, with all that they told him; or it has none and told him nothing, where a crash
+  -- could leave these bytes as the batch began.
   pub data IsCallOf (journals : Journals) (batch : HisBatch journals) (least : List Event)
       (call : Call) : Type 0 where
     with_events : (more further : List Event)

@@ -10,11 +10,11 @@ use Rattle.dossier_engine.specs.declared.end.CheckEnd.{CheckEnd}
 use Rattle.policy_files.specs.Policies.{PolicyUser, PolicyValue}
 use Rattle.cqe_top.specs.declared.end.CommandEnd.{CommandEnd}
 use Rattle.cqe_top.specs.declared.end.CommandEnd.TheVariants as command_end
-use Rattle.cqe_top.specs.Audit.{user_named, FindsNobody}
 use Rattle.cqe_top.specs.Files.{SayOn, LooksAtBoth, IsUnread}
 use Rattle.cqe_top.specs.Reports.{IsDoneUnlessMemory}
 use Rattle.cqe_top.specs.Scene.{Scene, ShelfScene, Input, Output, HasRisen, SameDisks}
 use Rattle.cqe_top.specs.Scene.{SameShelf, SameInput, SameOutput, SameLinks}
+use Rattle.cqe_top.specs.Files.{FindsNobody, user_named}
 
 -- a policy file and a facts file, without a directory of journals
 abbrev pub two_files : Text → Text → FileNames

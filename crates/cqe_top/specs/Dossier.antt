@@ -16,11 +16,12 @@ use Rattle.policy_files.specs.Policies.{PolicyUser, PolicyValue}
 use Rattle.user_desk.specs.declared.standing.Standing.TheVariants.{Open}
 use Rattle.cqe_top.specs.declared.end.CommandEnd.{CommandEnd}
 use Rattle.cqe_top.specs.declared.end.CommandEnd.TheVariants as command_end
-use Rattle.cqe_top.specs.Audit.{user_named, CanBeAudited, FindsNobody}
 use Rattle.cqe_top.specs.Files.{SayOn, LooksAtBoth, IsUnread, journals_of}
 use Rattle.cqe_top.specs.Reports.{IsDoneUnlessMemory}
 use Rattle.cqe_top.specs.Scene.{Scene, ShelfScene, Output, HasRisen}
 use Rattle.cqe_top.specs.Scene.{SameShelf, SameInput, SameOutput, SameLinks}
+use Rattle.cqe_top.specs.Files.{FindsNobody, user_named}
+use Rattle.cqe_top.specs.Ready.{CanBeAudited}
 
 module _ (shelf : ShelfScene) (files : FileNames) where
   -- Each text that is the dossier of this user as one who is served is accepted, where it isn't too

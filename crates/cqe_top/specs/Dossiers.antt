@@ -8,10 +8,10 @@ use Rattle.command_words.specs.Readings.{FileNames, reading_of, runs_check, runs
 use Rattle.dossier_engine.specs.Checks.{sound_text}
 use Rattle.policy_files.specs.Policies.{PolicyUser, PolicyValue}
 use Rattle.user_desk.specs.Causes.{Opens}
-use Rattle.cqe_top.specs.Audit.{user_named}
 use Rattle.cqe_top.specs.Files.{both, said_on, journals_of}
 use Rattle.cqe_top.specs.Promise.{Promise}
 use Rattle.cqe_top.specs.Scene.{Scene, Output, HasRisen}
+use Rattle.cqe_top.specs.Files.{user_named}
 
 module _ (files : FileNames) (user : Text) (policy : PolicyValue) (world : FactSet)
     (header : List ℕ) (one : PolicyUser) where

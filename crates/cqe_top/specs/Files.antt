@@ -1,5 +1,6 @@
 -- What the policy file and the facts file say, and why they weren't read.
-use Rattle.std.specs.Prelude.{◌≡◌, ◌⊎◌, ℕ, List, [], ◌∷◌, ◌++◌, map, Option, Some, None}
+use Rattle.std.specs.Prelude.{◌≡◌, ◌⊎◌, ℕ, List, [], ◌∷◌, ◌++◌, map, find, bytes_eq}
+use Rattle.std.specs.Prelude.{Option, Some, None}
 use Rattle.std.specs.Prelude.{Result, Ok, Err, Vec}
 use Rattle.std.specs.declared.alloc.Global.{Global}
 use Rattle.sha2.specs.Sha256.{sha256}
@@ -9,6 +10,7 @@ use Rattle.cqe_base.specs.Schema.{Text}
 use Rattle.cqe_base.specs.Transcript.{NamedUser}
 use Rattle.cqe_base.specs.declared.user.User.{User}
 use Rattle.command_words.specs.Readings.{FileNames}
+use Rattle.init_engine.specs.Ends.{Change}
 use Rattle.desk_crew.specs.Shelved.{Journals, journals_by}
 use Rattle.log_journal.specs.Names.{journal_name}
 use Rattle.log_journal.specs.Opening.{first_eight}
@@ -23,7 +25,7 @@ use Rattle.cqe_top.specs.declared.end.FileKind.TheVariants as kind
 use Rattle.cqe_top.specs.declared.end.FilesEnd.{FilesEnd}
 use Rattle.cqe_top.specs.declared.end.FilesEnd.TheVariants.{Missing, ShelfFault, Policy}
 use Rattle.cqe_top.specs.declared.end.FilesEnd.TheVariants.{Facts, Memory}
-use Rattle.cqe_top.specs.Scene.{ShelfScene, SameDisks}
+use Rattle.cqe_top.specs.Scene.{ShelfScene, Output, SameDisks, SameOutput}
 
 -- ---- what two files say
 
@@ -148,3 +150,30 @@ new_user user = record { name = user.name; profile = user.profile; opened = [] }
 -- the users of a policy before their journals are opened
 abbrev pub new_users : PolicyValue → List NamedUser
 new_users policy = map new_user policy.users
+
+-- the user of this name, if there is one
+abbrev pub user_named : Text → List PolicyUser → Option PolicyUser
+user_named name users = find (λ user. bytes_eq user.name name) users
+
+-- the policy has no user of this name
+abbrev pub NamesNobody : Text → PolicyValue → FactSet → List ℕ → Type 0
+NamesNobody name policy world header = user_named name policy.users ≡ None
+
+module _ (shelf : ShelfScene) (output : Output) (files : FileNames) (user : Text) where
+  -- the policy has no user of the name, and no disk was touched
+  pub record FindsNobody : Type 0 where
+    pub over_files : shelf.tells → SayOn shelf files (NamesNobody user)
+    pub looks : shelf.tells → LooksAtBoth shelf files
+    pub disks : SameDisks shelf
+    pub writes_nothing : SameOutput output
+
+-- the disks of a shelf before and after, with the counts of their faults and the shelf's own
+abbrev pub change_on : (shelf : ShelfScene) → Change shelf.D
+change_on shelf = record {
+  old = shelf.disk;
+  new = shelf.disk';
+  before = shelf.disk_faults;
+  now = shelf.disk_faults';
+  shelf_before = shelf.faults.before;
+  shelf_now = shelf.faults.now;
+}

@@ -5,7 +5,7 @@ use Rattle.std.specs.declared.alloc.Global.{Global}
 use Rattle.cqe_base.specs.Facts.{FactSet}
 use Rattle.cqe_base.specs.declared.user.User.{User}
 use Rattle.command_words.specs.Readings.{FileNames}
-use Rattle.init_engine.specs.Ends.{Change, EndsInit}
+use Rattle.init_engine.specs.Ends.{EndsInit}
 use Rattle.init_engine.specs.declared.end.InitEnd.{InitEnd}
 use Rattle.init_engine.specs.declared.end.InitEnd.TheVariants as init_end
 use Rattle.policy_files.specs.Policies.{PolicyValue}
@@ -18,17 +18,7 @@ use Rattle.cqe_top.specs.Ready.{CanBeMade}
 use Rattle.cqe_top.specs.Reports.{IsDoneUnlessMemory}
 use Rattle.cqe_top.specs.Scene.{Scene, ShelfScene, HasRisen}
 use Rattle.cqe_top.specs.Scene.{SameShelf, SameInput, SameOutput, SameLinks}
-
--- the disks of a shelf before and after, with the counts of their faults and the shelf's own
-abbrev pub change_on : (shelf : ShelfScene) → Change shelf.D
-change_on shelf = record {
-  old = shelf.disk;
-  new = shelf.disk';
-  before = shelf.disk_faults;
-  now = shelf.disk_faults';
-  shelf_before = shelf.faults.before;
-  shelf_now = shelf.faults.now;
-}
+use Rattle.cqe_top.specs.Files.{change_on}
 
 -- a user whose journal is refused is one of these
 abbrev pub NamesOneOf : List User → InitEnd → Type 0

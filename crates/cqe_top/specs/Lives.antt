@@ -61,21 +61,20 @@ BatchCallsJoin s complaints s' complaints' =
 
 -- ---- calls of several kinds, with the histories that they leave
 
--- a crash may leave these bytes of the journal of a name as the call ends, or could at a moment of
--- it
+-- a crash may leave these bytes of the journal of a name: as the call ends, or at a moment of it
 abbrev pub IsLeft : Journals → Text → List ℕ → Type 0
 IsLeft journals name left = journals.image name left
     ⊎ ((begun : ℕ) × (journals.began name ≡ Some begun) × journals.since name begun left)
 
 module _ (journals : Journals) (policy : PolicyValue) (world : FactSet) (header : List ℕ) where
-  -- what a crash left of a user's journal it could leave as the call began; or the call is a part
-  -- of his history, which left it
+  -- These bytes of a user's journal a crash could leave as the call began; or the call is a part of
+  -- his history, and they are what that part leaves.
   abbrev pub LeavesPart : PolicyUser → List ℕ → Type 0
   LeavesPart user left = journals.image_before user.name left
       ⊎ ((span : Span) × (span.left ≡ left)
       × IsSpanOver policy.schema world user.profile header (journals.bytes user.name) span)
 
-  -- all journals were kept; or so it is with whatever a crash leaves of each user's
+  -- all journals were kept; or this holds of whatever bytes a crash leaves of a user's journal
   abbrev pub LeavesParts : Type 0
   LeavesParts = KeepsJournals journals
       ⊎ AllByRecursion (λ user. (left : List ℕ) → IsLeft journals user.name left

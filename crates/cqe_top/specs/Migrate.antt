@@ -16,11 +16,11 @@ use Rattle.policy_files.specs.Users.{names_of}
 use Rattle.cqe_top.specs.declared.end.CommandEnd.{CommandEnd}
 use Rattle.cqe_top.specs.declared.end.CommandEnd.TheVariants as command_end
 use Rattle.cqe_top.specs.Files.{SayOn, LooksAtBoth, IsUnread, AreUsersOf, journals_of}
-use Rattle.cqe_top.specs.Init.{change_on}
 use Rattle.cqe_top.specs.Ready.{CanBeMoved}
 use Rattle.cqe_top.specs.Reports.{IsDoneUnlessMemory}
 use Rattle.cqe_top.specs.Scene.{Scene, ShelfScene, HasRisen}
 use Rattle.cqe_top.specs.Scene.{SameShelf, SameInput, SameOutput, SameLinks}
+use Rattle.cqe_top.specs.Files.{change_on}
 
 -- a user at whose disks it stopped, and who is named, is one of these
 abbrev pub IsAtOneOf : List User → MigrateEnd → Type 0

@@ -1,15 +1,17 @@
 -- Policies whose journals are as a command needs them. Each clause says two things of a user: how
 -- his journal stands as the call begins, and that no fault of its disk comes in the call.
-use Rattle.std.specs.Prelude.{◌≡◌, ◌⊎◌, List, ℕ, []}
+use Rattle.std.specs.Prelude.{◌≡◌, ◌⊎◌, List, ℕ, [], Some}
 use Rattle.std.specs.List.{AllByRecursion}
 use Rattle.outside.specs.Faults.{Rose}
 use Rattle.cqe_base.specs.Facts.{FactSet}
 use Rattle.cqe_base.specs.History.{History}
+use Rattle.cqe_base.specs.Schema.{Text}
 use Rattle.log_journal.specs.Opening.{Refuses, RefusesOld}
 use Rattle.log_journal.specs.declared.header.OpenError.{OpenError}
 use Rattle.user_desk.specs.Causes.{Opens}
 use Rattle.desk_crew.specs.Shelved.{Journals}
 use Rattle.policy_files.specs.Policies.{PolicyUser, PolicyValue}
+use Rattle.cqe_top.specs.Files.{user_named}
 
 -- this user's disk has no fault in the call: its count doesn't rise
 abbrev pub HasNoFault : Journals → PolicyUser → Type 0
@@ -52,3 +54,10 @@ IsOpenable journals policy world header user =
 abbrev pub CanBeOpened : Journals → PolicyValue → FactSet → List ℕ → Type 0
 CanBeOpened journals policy world header =
     AllByRecursion (λ user. IsOpenable journals policy world header user) policy.users
+
+-- the policy has a user of this name, whose journal can be opened, and its disk has no fault in the
+-- call
+abbrev pub CanBeAudited : Journals → Text → PolicyValue → FactSet → List ℕ → Type 0
+CanBeAudited journals name policy world header =
+    (user : PolicyUser) × (user_named name policy.users ≡ Some user)
+    × IsOpenable journals policy world header user

@@ -7,11 +7,11 @@
 -- does is said by the type of the object. Those in memory tell all. Those of the system tell
 -- nothing that is proved, so of them each such clause is what holds as far as the system does what
 -- the object in memory does.
-use Rattle.std.specs.Prelude.{◌≡◌, ℕ, ◌≤◌, Bool, List, Option}
+use Rattle.std.specs.Prelude.{◌≡◌, ℕ, ◌≤◌, Bool, List, [], ◌∷◌, ◌++◌, Option}
 use Rattle.outside.specs.Dials.{Exchange}
 use Rattle.outside.specs.Faults.{Rose}
 use Rattle.outside.specs.Shelf.{SameNames}
-use Rattle.outside.specs.Visits.{Visit, DoorPlace}
+use Rattle.outside.specs.Visits.{Visit, DoorPlace, door_place_of}
 use Rattle.outside.specs.declared.disk.Disk.{Ghosts as DiskGhosts}
 use Rattle.outside.specs.declared.links.Links.{Ghosts as LinksGhosts}
 use Rattle.outside.specs.declared.shelf.Shelf.{Ghosts as ShelfGhosts}
@@ -246,6 +246,10 @@ SameDisks shelf =
 -- links are the same in every respect
 abbrev pub SameLinks : LinksScene → Type 0
 SameLinks links = links.object' ≡ links.object
+
+-- the links listened once more, at this address and with so many doors
+abbrev pub ListensAt : LinksScene → Text → ℕ → Type 0
+ListensAt links address doors = links.listened' ≡ links.listened ++ door_place_of address doors ∷ []
 
 -- nobody was called by a dial that was hung up
 pub record CallsNobody (links : LinksScene) : Type 0 where

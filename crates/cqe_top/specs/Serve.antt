@@ -1,9 +1,8 @@
 -- The command `serve`: connections at an address, side by side, over the journals of a policy's
 -- users.
 -- Ends: Serve, Files, Memory.
-use Rattle.std.specs.Prelude.{◌≡◌, ◌⊎◌, ◌++◌, ◌∷◌, [], ◌+◌, ◌<◌, ◌≤◌, ℕ, List, Vec}
+use Rattle.std.specs.Prelude.{◌≡◌, ◌⊎◌, ◌+◌, ◌<◌, ◌≤◌, ℕ, List, Vec}
 use Rattle.std.specs.declared.alloc.Global.{Global}
-use Rattle.outside.specs.Visits.{door_place_of}
 use Rattle.cqe_base.specs.Facts.{FactSet}
 use Rattle.cqe_base.specs.Schema.{Text}
 use Rattle.cqe_base.specs.declared.user.User.{User}
@@ -20,10 +19,7 @@ use Rattle.cqe_top.specs.Ready.{CanBeOpened}
 use Rattle.cqe_top.specs.Reports.{IsDoneUnlessMemory}
 use Rattle.cqe_top.specs.Scene.{Scene, ShelfScene, LinksScene, HasRisen, CallsNobody}
 use Rattle.cqe_top.specs.Scene.{SameDisks, SameShelf, SameInput, SameOutput, SameLinks}
-
--- the links listened once more, at this address and with so many doors
-abbrev pub ListensAt : LinksScene → Text → ℕ → Type 0
-ListensAt links address doors = links.listened' ≡ links.listened ++ door_place_of address doors ∷ []
+use Rattle.cqe_top.specs.Scene.{ListensAt}
 
 -- The connections that were given in this call come up to the limit. With one more for each door
 -- that answered in the call that no further one comes, they are at least the limit; with one more

@@ -20,14 +20,14 @@ use Rattle.cqe_top.specs.Ready.{CanBeMirrored}
 use Rattle.cqe_top.specs.Reports.{IsDoneUnlessMemory}
 use Rattle.cqe_top.specs.Scene.{Scene, ShelfScene, LinksScene, HasRisen, CallsNobody}
 use Rattle.cqe_top.specs.Scene.{SameDisks, SameShelf, SameInput, SameOutput, SameLinks}
-use Rattle.cqe_top.specs.Serve.{ListensAt}
+use Rattle.cqe_top.specs.Scene.{ListensAt}
 
 module _ (shelf : ShelfScene) (links : LinksScene) (files : FileNames) (address : Text)
     (limit : ℕ) where
-  -- Each connection was served by the copies of these users' journals. A copy began with the
-  -- records of its journal, and a crash as the call ends leaves the records that it came to; of one
-  -- whose append failed it may leave one more. At each moment since a journal was opened a crash
-  -- leaves the records that it had, and some first ones of those that came.
+  -- Each connection was served by the copies of these users' journals. A copy begins with the
+  -- records of its journal. As the call ends a crash leaves the records that the copy came to, and
+  -- of one whose append failed maybe one more. At each moment since its journal was opened a crash
+  -- leaves the records that it began with, and some first ones of those that came.
   pub record CopiesOverFiles (users : Vec User Global) (end : CopyEnd) (policy : PolicyValue)
       (world : FactSet) (header : List ℕ) : Type 0 where
     pub of_policy : AreUsersOf users policy

@@ -15,12 +15,12 @@ use Rattle.policy_files.specs.Policies.{PolicyUser, PolicyValue}
 use Rattle.standby_engine.specs.Standing.{HasBeginning}
 use Rattle.user_desk.specs.Causes.{Opens}
 use Rattle.cqe_top.specs.Around.{Around, scene_around, complaints_around}
-use Rattle.cqe_top.specs.Audit.{user_named}
 use Rattle.cqe_top.specs.Calls.{FollowsOn, EachFollows, OpensOn, LeaveOneHistory, Promised}
 use Rattle.cqe_top.specs.Calls.{journals_at}
 use Rattle.cqe_top.specs.Files.{both, said_on, journals_of}
 use Rattle.cqe_top.specs.Lives.{IsLeft}
 use Rattle.cqe_top.specs.Promise.{Promise}
+use Rattle.cqe_top.specs.Files.{user_named}
 
 -- the first bytes are a journal with this header, and so are the others, with the records of the
 -- first in front

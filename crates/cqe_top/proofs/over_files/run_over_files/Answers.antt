@@ -13,11 +13,11 @@ use Rattle.desk_crew.specs.Shelved.{Journals}
 use Rattle.log_journal.specs.Opening.{header_bytes}
 use Rattle.policy_files.specs.Memory.{policy_user_of, policy_value_of}
 use Rattle.policy_files.specs.Users.{names_of}
-use Rattle.cqe_top.specs.Audit.{OfAudit, RunsAudit, FindsNobody}
+use Rattle.cqe_top.specs.Audit.{OfAudit, RunsAudit}
 use Rattle.cqe_top.specs.Batch.{OfBatch, RunsBatch}
 use Rattle.cqe_top.specs.Check.{OfCheck, RunsCheck, two_files}
 use Rattle.cqe_top.specs.Dossier.{OfDossier, RunsDossier}
-use Rattle.cqe_top.specs.Init.{OfInit, RunsInit, change_on}
+use Rattle.cqe_top.specs.Init.{OfInit, RunsInit}
 use Rattle.cqe_top.specs.Migrate.{OfMigrate, RunsMigrate}
 use Rattle.cqe_top.specs.Scene.{Scene, scene_of, shelf_of, input_of, output_of, links_of}
 use Rattle.cqe_top.specs.Promise.{OfReading}
@@ -41,6 +41,7 @@ use Rattle.cqe_top.proofs.over_files.run_over_files.Goals as goal
 use Rattle.cqe_top.proofs.over_files.run_over_files.Goals.{After-drop-inputs-5, After-drop-inputs-in-Batch-4}
 use Rattle.cqe_top.proofs.over_files.run_over_files.Goals.{After-drop-inputs-in-Init-3, After-drop-inputs-in-Migrate-4, After-drop-inputs-in-Serve-4}
 use Rattle.cqe_top.proofs.over_files.run_over_files.Goals.{In-Err}
+use Rattle.cqe_top.specs.Files.{FindsNobody, change_on}
 
 pub run_batch-end-requires-clause-names : goal.run_batch-end-requires-clause-names
 run_batch-end-requires-clause-names g c κs within =
