@@ -4,13 +4,13 @@ ghost use Rattle.std.specs.Prelude.{length, sum_by};
 ghost use Rattle.std.specs.List.{flat_map};
 ghost use Rattle.outside.specs.Faults.{Rose};
 ghost use Rattle.outside.specs.Shelf.{SameNames, SameBeside, NoneOut, NoneFell, SomeRose};
-ghost use Rattle.outside.specs.Visits.{place_of, one_if_any};
+ghost use Rattle.outside.specs.Visits.{door_place_of, one_if_any};
 ghost use Rattle.log_journal.specs.Opening.{header_bytes};
 ghost use Rattle.desk_crew.specs.Shelved.{journals_on, StaysThere};
 ghost use Rattle.desk_crew.specs.Registered.{AllKeepLimits, registered_journals, HaveOwnNames};
 ghost use Rattle.serve_engine.specs.Doors.{SomeFailed};
 ghost use Rattle.serve_engine.specs.Serving.{EndsServing, EndsDoors, LeavesJournals, IsDone};
-ghost use Rattle.serve_engine.specs.Serving.{IsBroken};
+ghost use Rattle.serve_engine.specs.Serving.{IsBroken, IsDiskRefusal};
 ghost use Rattle.serve_engine.specs.Serving.{end_of};
 ghost use Rattle.serve_engine.specs.declared.run.ServeEnd.{ServeEnd};
 
@@ -90,11 +90,11 @@ where
     // It listens at that address alone, with a door for each worker, and before it opens a journal.
     ensures listens { L.tells → (L.listened links.new ≡ L.listened links.old)
         ⊎ (L.listened links.new
-        ≡ L.listened links.old ++ place_of listening.entry.address.now listening.entry.workers
+        ≡ L.listened links.old ++ door_place_of listening.entry.address.now listening.entry.workers
         ∷ []) }
     ensures heard { L.tells → IsDone result
         → L.listened links.new
-        ≡ L.listened links.old ++ place_of listening.entry.address.now listening.entry.workers
+        ≡ L.listened links.old ++ door_place_of listening.entry.address.now listening.entry.workers
         ∷ [] }
 
     ensures unheard { L.tells → L.listened links.new ≡ L.listened links.old
@@ -150,6 +150,8 @@ where
     ensures links_cause { result ≡ ServeEnd.LinksFault
         → Rose (L.faults links.old) (L.faults links.new) }
     ensures disk_cause { IsBroken result
+        → SomeRose (F.disk_faults shelf.old) (F.disk_faults shelf.new) }
+    ensures journal_cause { IsDiskRefusal result
         → SomeRose (F.disk_faults shelf.old) (F.disk_faults shelf.new) }
 {
     law_served_alike();
@@ -216,6 +218,8 @@ where
     ensures shelf_cause { result.0 ≡ ServeEnd.ShelfFault
         → Rose (F.faults shelf.old) (F.faults shelf.new) }
     ensures disk_cause { IsBroken result.0
+        → SomeRose (F.disk_faults shelf.old) (F.disk_faults shelf.new) }
+    ensures journal_cause { IsDiskRefusal result.0
         → SomeRose (F.disk_faults shelf.old) (F.disk_faults shelf.new) }
 {
     law_hides();

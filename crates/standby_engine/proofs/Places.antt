@@ -12,7 +12,7 @@ use Rattle.cqe_base.specs.declared.user.User.{User}
 use Rattle.cqe_base.proofs.Truths.{or_first, or_second}
 use Rattle.log_journal.specs.Names.{journal_name, JournalsDiffer}
 use Rattle.desk_crew.specs.Registered.{registered_journals}
-use Rattle.desk_crew.proofs.Giving.{AreReturned, Same, AreUnopened}
+use Rattle.desk_crew.proofs.Giving.{AreReturned}
 use Rattle.desk_crew.proofs.Placing.{zip_push}
 use Rattle.desk_crew.proofs.Shelving.{among-append, among_none_first, among_none_second, by_among, none_out, at_names}
 use Rattle.desk_crew.proofs.Taking.{names, names-append, names_split, next_apart, first_distinct, journal_among, journals_distinct}
@@ -33,6 +33,21 @@ zip_parts R f h [] ys zs are = (tt, are)
 zip_parts R f h (x ∷ xs) ys zs are =
     let rest = zip_parts R f h xs ys zs are.1 in
     ((are.0, rest.0), rest.1)
+
+-- what stands under a name reads as before, and no crash leaves anything new of it, at no moment either
+abbrev pub Same : {D : Type 0} → DiskGhosts D → (Text → Option D) → (Text → Option D) → Text → Type 0
+Same Disk old new name =
+    (bytes_on Disk.reads (new name) ≡ bytes_on Disk.reads (old name)) × ((c : List ℕ) → image_on Disk.image (new name) c → image_on Disk.image (old name) c)
+    × NoNewSince Disk.moment Disk.image_since Disk.image (old name) (new name)
+
+-- behind a refusal all disks are on the shelf, as they were
+pub record AreUnopened {D : Type 0} (told : Type 0) (Disk : DiskGhosts D) (names : List Text) (disk disk' : Text → Option D) (is_out' : Text → Bool)
+    (count count' : Text → ℕ) : Type 0 where
+  pub inside : NoneOut is_out'
+  pub same : told → (name : Text) → Same Disk disk disk' name
+  pub disks : SameBeside names disk disk'
+  pub counts : NoneFell count count'
+  pub other_counts : SameBeside names count count'
 
 -- ---- disks under their names
 

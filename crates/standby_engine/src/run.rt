@@ -3,7 +3,7 @@ ghost use Rattle.std.specs.Prelude.{◌≡◌, ◌⊎◌, ◌≤◌, ◌<◌, �
 ghost use Rattle.std.specs.Prelude.{IfOk, length, string_bytes, vec_len, vec_capacity};
 ghost use Rattle.outside.specs.Faults.{Rose};
 ghost use Rattle.outside.specs.Shelf.{SameNames, SameBeside, NoneOut, NoneFell, SomeRose};
-ghost use Rattle.outside.specs.Visits.{place_of};
+ghost use Rattle.outside.specs.Visits.{door_place_of};
 ghost use Rattle.log_journal.specs.Journal.{disk_of};
 ghost use Rattle.log_journal.specs.Opening.{header_bytes};
 ghost use Rattle.desk_crew.specs.Registered.{registered_journals, HaveOwnNames};
@@ -12,7 +12,7 @@ ghost use Rattle.standby_core.specs.Lasting.{has_broken};
 ghost use Rattle.standby_engine.specs.Opened.{given_journal, opened_in, names_in, others_in};
 ghost use Rattle.standby_engine.specs.Opened.{place_refusal};
 ghost use Rattle.standby_engine.specs.Standing.{LeavesCopies, EndsCopying, HasListened, IsBroken};
-ghost use Rattle.standby_engine.specs.Standing.{copy_end};
+ghost use Rattle.standby_engine.specs.Standing.{IsDiskRefusal, copy_end};
 ghost use Rattle.standby_engine.specs.declared.run.CopyEnd.{CopyEnd};
 
 use crate::opening::{Given, NotOpened, Place, give_back, open_journals};
@@ -79,9 +79,9 @@ pub fn run_standby<R: Wait, F: Shelf, L: Links>(
     // It listens at that address alone, with one door, and before it opens a journal.
     ensures listens { L.tells → (L.listened links.new ≡ L.listened links.old)
         ⊎ (L.listened links.new
-        ≡ L.listened links.old ++ place_of copying.entry.address.now 1 ∷ []) }
+        ≡ L.listened links.old ++ door_place_of copying.entry.address.now 1 ∷ []) }
     ensures heard { L.tells → HasListened result → L.listened links.new
-        ≡ L.listened links.old ++ place_of copying.entry.address.now 1 ∷ [] }
+        ≡ L.listened links.old ++ door_place_of copying.entry.address.now 1 ∷ [] }
     ensures unheard { L.tells → L.listened links.new ≡ L.listened links.old
         → shelf.new ≡ shelf.old }
     ensures limited { L.tells → L.given links.new ≤ L.given links.old + copying.entry.sessions }
@@ -116,6 +116,8 @@ pub fn run_standby<R: Wait, F: Shelf, L: Links>(
     ensures links_cause { result ≡ CopyEnd.LinksFault
         → Rose (L.faults links.old) (L.faults links.new) }
     ensures disk_cause { IsBroken result
+        → SomeRose (F.disk_faults shelf.old) (F.disk_faults shelf.new) }
+    ensures journal_cause { IsDiskRefusal result
         → SomeRose (F.disk_faults shelf.old) (F.disk_faults shelf.new) }
 {
     let doors = match links.listen(alloc, copying.address, 1) {
@@ -175,6 +177,8 @@ fn serve_opened<R: Wait, F: Shelf, O: Door>(
     ensures shelf_cause { result ≡ CopyEnd.ShelfFault
         → Rose (F.faults shelf.old) (F.faults shelf.new) }
     ensures disk_cause { IsBroken result
+        → SomeRose (F.disk_faults shelf.old) (F.disk_faults shelf.new) }
+    ensures journal_cause { IsDiskRefusal result
         → SomeRose (F.disk_faults shelf.old) (F.disk_faults shelf.new) }
 {
     law_journals_differ();

@@ -10,8 +10,10 @@ use Rattle.cqe_base.specs.Schema.{Text, has_duplicate}
 use Rattle.batch_engine.proofs.Posts.{named_so}
 use Rattle.batch_engine.proofs.Running.{Stay, stay_run, runs_then}
 use Rattle.batch_engine.proofs.Failing.{run_broken, all_weaker}
+use Rattle.batch_engine.proofs.Faulting.{faulted_run}
 use Rattle.desk_crew.proofs.Lasting.{keeps_same, keeps_all}
 use Rattle.desk_crew.proofs.Rising.{some_rose}
+use Rattle.desk_crew.proofs.Faulting.{first_faulted}
 use Rattle.desk_crew.specs.Shelved.{AreBack, StaysThere}
 use Rattle.desk_crew.proofs.Hearing.{there_first, all_there}
 use Rattle.desk_crew.proofs.Giving.{AllReturned}
@@ -283,6 +285,19 @@ returns-in-All-clause-disk_cause g c = λ broken.
     (run_broken c.args.registry.now.schema.now c.args.registry.now.world.now
     (header_bytes c.args.registry.now.header.now) g.F.D.Disk count
     (items_of c.in-Whole.batch) c.in-Ok-open_all.seats.items all.0 all.1.output c.in-All.is_broken all.1.runs first broken))
+
+pub returns-in-All-clause-journal_cause : goal.returns-in-All-clause-journal_cause
+returns-in-All-clause-journal_cause g c = λ is.
+    let registry = c.args.registry.now in
+    let all = c.in-All.ensures.answered in
+    let count = g.F.Shelf.disk_faults c.args.shelf.now in
+    faulted_run registry.schema.now registry.world.now (header_bytes registry.header.now) g.F.D.Disk count g.F.Shelf.tells
+    (g.F.Shelf.disk_faults c.answer_all.new.shelf) (g.F.Shelf.disk c.answer_all.new.shelf) g.K.Sink.tells (items_of c.in-Whole.batch)
+    c.in-Ok-open_all.seats.items all.0 c.in-All.is_broken _ _ all.1
+    (seated g (goal.at.returns-in-All-clause-journal_cause g c).In-Ok-open_all).first all.2
+    (first_faulted g.F.D.Disk count g.F.Shelf.tells registry.schema.now registry.world.now (header_bytes registry.header.now) registry.directory.now
+    (g.F.Shelf.disk c.args.shelf.now) registry.users.now c.in-Ok-open_all.seats.items c.in-Ok-open_all.ensures.opened)
+    c.in-All.refusals.items all.3 is
 
 -- ---- where a write failed
 

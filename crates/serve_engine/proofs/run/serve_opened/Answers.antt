@@ -4,17 +4,20 @@ use Rattle.desk_crew.specs.Registered.{registered_journals}
 use Rattle.desk_crew.specs.Shelved.{journals_on}
 use Rattle.desk_crew.proofs.Lasting.{keeps_same, keeps_all}
 use Rattle.desk_crew.proofs.Rising.{some_rose, any_failed}
+use Rattle.desk_crew.proofs.Faulting.{first_faulted, faulted_rose}
+use Rattle.desk_crew.specs.Refusals.{SomeFaulted}
 use Rattle.desk_crew.proofs.Giving.{CanGive, AllReturned}
 use Rattle.desk_crew.proofs.Hearing.{there_first, all_there}
 use Rattle.outside.specs.Shelf.{SameBeside}
 use Rattle.desk_crew.proofs.Taking.{AllSeated, all_seated}
-use Rattle.serve_engine.specs.Serving.{HaveServed, EndsDoors, IsDone, IsBroken}
+use Rattle.serve_engine.specs.Serving.{HaveServed, EndsDoors, IsDone, IsBroken, IsDiskRefusal}
 use Rattle.serve_engine.specs.Served.{Served}
 use Rattle.serve_engine.specs.Sharing.{seat_member, IsServedAt}
 use Rattle.serve_engine.proofs.Apart.{served_still, apart_own}
 use Rattle.serve_engine.proofs.Histories.{broken_end, have_served, all_in_world, broke_at, later_on_seats, own_on_seats, there_on_seats, journals_on_same}
 use Rattle.serve_engine.proofs.Histories.{doors_many, doors_gave, doors_left}
 use Rattle.serve_engine.proofs.Histories.{ended_at, failed_at, ends_at, own_from, all_told, AreReady, all_ready, served_can, served_returned}
+use Rattle.serve_engine.proofs.Faulting.{faulted_end, faulted_on_seats, refusals_on_seats}
 use Rattle.serve_engine.proofs.run.serve_opened.Given.{Over}
 use Rattle.serve_engine.proofs.run.serve_opened.Goals as goal
 use Rattle.serve_engine.proofs.run.serve_opened.Goals.{After-end_of, After-give_back-arg-1, In-Ok-open_all}
@@ -264,3 +267,20 @@ returns-clause-disk_cause g c broken =
     (any_failed g.F.Shelf.tells g.F.D.Disk count count' disk' seats
     (sym c.give_back-is_broken.ensures.broke
     ∙ broken_end c.serve_seats-outcome.result.0 c.refusals_of-refusals.result c.give_back-is_broken.result (subst IsBroken c.end_of.ensures broken)))
+
+pub returns-clause-journal_cause : goal.returns-clause-journal_cause
+returns-clause-journal_cause g c said =
+    let registry = c.args.registry.now in
+    let count = g.F.Shelf.disk_faults c.args.shelf.now in
+    let olds = c.in-Ok-open_all.seats.items in
+    let seats = c.serve_seats-outcome.result.1.items in
+    let on = c.serve_seats-outcome.ensures.on in
+    let first = (seated g (goal.at.returns-clause-journal_cause g c).In-Ok-open_all).first in
+    faulted_rose g.F.D.Disk count g.F.Shelf.tells (g.F.Shelf.disk_faults c.give_back-is_broken.new.shelf) (g.F.Shelf.disk c.give_back-is_broken.new.shelf) seats
+    (later_on_seats g.F.D.Disk.faults count olds seats on first) c.give_back-is_broken.ensures.back
+    (faulted_on_seats g.F.D.Disk count olds seats on
+    (first_faulted g.F.D.Disk count g.F.Shelf.tells registry.schema.now registry.world.now (header_bytes registry.header.now) registry.directory.now
+    (g.F.Shelf.disk c.args.shelf.now) registry.users.now olds c.in-Ok-open_all.ensures.opened))
+    (subst SomeFaulted
+    (c.refusals_of-refusals.ensures ∙ ap (map (λ x. x.refusal)) c.as_slice.ensures.value ∙ refusals_on_seats g.F.D.Disk count olds seats on)
+    (faulted_end c.serve_seats-outcome.result.0 c.refusals_of-refusals.result c.give_back-is_broken.result (subst IsDiskRefusal c.end_of.ensures said)))

@@ -7,11 +7,11 @@ use Rattle.cqe_base.specs.Schema.{has_duplicate}
 use Rattle.log_journal.specs.Names.{journal_name}
 use Rattle.log_journal.specs.Opening.{header_bytes}
 use Rattle.desk_crew.specs.Registered.{registered_journals}
-use Rattle.desk_crew.proofs.Giving.{AreUnopened}
 use Rattle.standby_engine.specs.Opened.{place_journal, ArePlacesOf, AreOwn, PlacesOwn}
 use Rattle.standby_engine.proofs.Owning.{place_more, own_disks}
 use Rattle.standby_engine.specs.declared.opening.NotOpened.TheVariants.{Shelf}
-use Rattle.standby_engine.proofs.Places.{Opening, StaysBut, opening_none, opening_distinct, opening_out, opening_beside, opening_in, opening_more, opening_back}
+use Rattle.standby_engine.proofs.Places.{AreUnopened, Opening, StaysBut, opening_none, opening_distinct, opening_out, opening_beside, opening_in, opening_more}
+use Rattle.standby_engine.proofs.Places.{opening_back}
 use Rattle.standby_engine.proofs.Returning.{stays_same}
 use Rattle.standby_engine.proofs.opening.open_journals.Given.{Over}
 use Rattle.standby_engine.proofs.opening.open_journals.Goals as goal
