@@ -29,13 +29,14 @@ module _ {D : Type 0} {g h : _} (Disk : DiskGhosts D) (t : Disk.tells) where
     back_there : (seats : List (DeskSeat D g h)) → AreBack S Disk disk' count' seats → SeatsThere Disk seats → (name : Text)
         → is_among (journals seats) name ≡ true → ThereOn Disk (disk' name)
     back_there [] back there name none = absurd cc
-    back_there (seat ∷ seats) back there name among = by (bytes_eq name (seat_journal seat)) refl among
+    back_there (seat ∷ seats) back there name among = by (bytes_eq name (seat_journal seat)) refl among (back_there seats back.1 there.1 name)
       where
-        by : (b : Bool) → bytes_eq name (seat_journal seat) ≡ b → (b || is_among (journals seats) name) ≡ true → ThereOn Disk (disk' name)
-        by true same some =
+        by : (b : Bool) → bytes_eq name (seat_journal seat) ≡ b → (b || is_among (journals seats) name) ≡ true
+            → (is_among (journals seats) name ≡ true → ThereOn Disk (disk' name)) → ThereOn Disk (disk' name)
+        by true same some behind =
             subst (λ o. ThereOn Disk o) (sym (ap disk' (same_text name (seat_journal seat) (sym same)) ∙ back.0.held s))
             (back.0.left.left.there t (back.0.left.is_closed.there t there.0))
-        by false differs some = back_there seats back.1 there.1 name some
+        by false differs some behind = behind some
 
     -- and with all others, which weren't touched
     pub all_there : (seats : List (DeskSeat D g h)) → AreBack S Disk disk' count' seats → SameBeside (journals seats) disk disk' → SeatsThere Disk seats
