@@ -1,7 +1,7 @@
 -- The items of a batch, carried out one after the other: what stays of the seats.
 use Rattle.std.proofs.Common.{◌≡◌, ℕ, zero, suc, ◌≤◌, ◌<◌, ◌+◌, Bool, false, List, [], ◌∷◌, ◌++◌, length, take, drop, get_or, map, refl, sym, ap}
 use Rattle.std.proofs.Common.{subst, ◌∙◌, ◌⊎◌, inl, inr, append-nil, append_assoc, arith}
-use Rattle.std.specs.Prelude.{Option, ◌||◌, Result, Ok, Err, IfOk, IfErr}
+use Rattle.std.specs.Prelude.{Option, ◌||◌, Result, Ok, Err, IfOk, IfErr, IsErrOf}
 use Rattle.std.specs.List.{AllByRecursion}
 use Rattle.outside.specs.declared.disk.Disk.{Ghosts as DiskGhosts}
 use Rattle.outside.specs.Shelf.{AllOut}
@@ -15,7 +15,7 @@ use Rattle.cqe_base.specs.declared.user.Purpose.{Purpose}
 use Rattle.std.specs.Prelude.{Vec}
 use Rattle.std.specs.declared.alloc.Global.{Global}
 use Rattle.std.proofs.Math.Bool.{or-false}
-use Rattle.std.proofs.lemmas.List.{take_more}
+use Rattle.std.proofs.lemmas.List.{take_more, take_all}
 use Rattle.cqe_base.proofs.Lists.{or_assoc, all_at}
 use Rattle.std.proofs.Common.{All}
 use Rattle.std.proofs.lemmas.List.Elements.{recursion_from_All}
@@ -38,6 +38,15 @@ use Rattle.batch_engine.specs.declared.closed.Stopped.{Stopped}
 use Rattle.batch_engine.specs.declared.closed.Stopped.TheVariants.{Write, Memory}
 use Rattle.desk_crew.proofs.Asking.{still_served}
 use Rattle.desk_crew.specs.Seats.{DeskSeat}
+
+-- an error of one call is that of another
+as_err : {T U E : Type 0} → E → Result T E → Result U E
+as_err why (Ok x) = Err why
+as_err why (Err other) = Err other
+
+pub same_error : {T U E : Type 0} (result : Result T E) (why other : E) → result ≡ Err why → IsErrOf result other → IsErrOf {T = U} (Err why) other
+unfolding as_err
+same_error {T} {U} {E} result why other is said = ap (as_err {T} {U} {E} other) (sym is ∙ said)
 
 -- stretches that a restart ended each end so
 pub stretches_end : (ended : List (Vec BatchAsk Global)) → EndsStretch (stretches_in ended)
@@ -242,6 +251,13 @@ module _ (schema : DatabaseSchema) (world : FactSet) (header : List ℕ) {D : Ty
     appended = λ w. second.appended w ∙ ap (λ l. l ++ second.output) (first.appended w) ∙ append_assoc before first.output second.output;
     runs = runs_then items next old mid new first.output second.output was says first.runs second.runs;
   }
+
+  -- stretches that were all carried out
+  pub all_ended : (wrote : Type 0) (ended all : List (Vec BatchAsk Global)) (i : ℕ) (old new : List (DeskSeat D g h)) (says : Bool) (before after : List ℕ)
+      → length all ≤ i → all ≡ ended → RunsAll schema world header Disk wrote (stretches_in (take i all)) old new says before after
+      → RunsAll schema world header Disk wrote (stretches_in ended) old new says before after
+  all_ended wrote ended all i old new says before after low are =
+      subst (λ e. RunsAll schema world header Disk wrote (stretches_in e) old new says before after) (take_all i all low ∙ are)
 
   -- ---- where a batch stopped
 

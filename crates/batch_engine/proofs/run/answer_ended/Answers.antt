@@ -43,7 +43,8 @@ returns-in_err-write_behind-clause-stopped g c =
           (ended_in c.args.asks.now) (stretch_in c.args.asks.now) (restarted ∷ []) c.args.seats.items c.in-Some.told.seats.items c.in-Some.told.is_broken _ _
           (output_bytes order.lines) refl (asks_one c.args.asks.now) tt order.runs
           (λ told. c.in_err-write_behind.ensures.written told order.lines order.numbered order.moved),
-      record { back = none.back; inside = none.inside; others_out = shelf.others_out; disks = shelf.disks; counts = shelf.counts },
+      subst (λ s. AllBack g.F.Shelf g.F.D.Disk s c.reopen_all.new.shelf c.in-Some.told.seats.items) c.in-Some.ensures.untouched
+          (record { back = none.back; inside = none.inside; others_out = shelf.others_out; disks = shelf.disks; counts = shelf.counts }),
     )
 
 pub returns-in_default-reopen_all-clause-stopped : goal.returns-in_default-reopen_all-clause-stopped
@@ -59,7 +60,8 @@ returns-in_default-reopen_all-clause-stopped g c =
             appended = λ told. c.in_ok-write_behind.ensures.written told order.lines order.numbered order.moved;
             runs = order.runs;
           }),
-      record { back = none.back; inside = none.inside; others_out = shelf.others_out; disks = shelf.disks; counts = shelf.counts },
+      subst (λ s. AllBack g.F.Shelf g.F.D.Disk s c.reopen_all.new.shelf c.in-Some.told.seats.items) c.in-Some.ensures.untouched
+          (record { back = none.back; inside = none.inside; others_out = shelf.others_out; disks = shelf.disks; counts = shelf.counts }),
     )
 
 -- ---- they are open again

@@ -1,4 +1,4 @@
-use Rattle.std.proofs.Common.{inl, inr, [], ◌++◌, take, map, refl, sym, ap, ◌∙◌, arith}
+use Rattle.std.proofs.Common.{inl, inr, [], ◌++◌, take, map, refl, sym, ap, subst, ◌∙◌, arith}
 use Rattle.cqe_base.specs.History.{UserProfile}
 use Rattle.log_journal.specs.Opening.{header_bytes}
 use Rattle.batch_engine.specs.BatchOf.{items_of}
