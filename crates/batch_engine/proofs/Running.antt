@@ -46,7 +46,7 @@ as_err why (Err other) = Err other
 
 pub same_error : {T U E : Type 0} (result : Result T E) (why other : E) → result ≡ Err why → IsErrOf result other → IsErrOf {T = U} (Err why) other
 unfolding as_err
-same_error {T} {U} {E} result why other is said = ap (as_err {T} {U} {E} other) (sym is ∙ said)
+same_error {T} {U} {E} result why other is said = ap (as_err {T = T} {U = U} {E = E} other) (sym is ∙ said)
 
 -- stretches that a restart ended each end so
 pub stretches_end : (ended : List (Vec BatchAsk Global)) → EndsStretch (stretches_in ended)

@@ -1,4 +1,5 @@
 use Rattle.std.proofs.Common.{◌||◌, take, refl, sym, ap, subst, ◌∙◌, arith, length}
+use Rattle.std.specs.Prelude.{Err}
 use Rattle.std.proofs.lemmas.Result.{err_from_is_err_and}
 use Rattle.outside.proofs.Rises.{rose_wide}
 use Rattle.log_journal.specs.Opening.{header_bytes}
