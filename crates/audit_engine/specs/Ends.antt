@@ -12,6 +12,7 @@ use Rattle.user_desk.specs.Standings.{is_sealed}
 use Rattle.user_desk.specs.declared.standing.Standing.{Standing}
 use Rattle.user_desk.specs.declared.standing.Standing.TheVariants.{Open, Closed, Sealed}
 use Rattle.desk_crew.specs.Openings.{OpensWith}
+use Rattle.desk_crew.specs.Refusals.{is_disk_fault}
 use Rattle.audit_text.specs.Said.{AuditSaid}
 use Rattle.audit_text.specs.Json.{audit_text}
 use Rattle.audit_print.specs.Audits.{Audits}
@@ -73,6 +74,14 @@ module _ (schema : DatabaseSchema) (world : FactSet) (header : List ℕ) (name :
       × AppendsPart old new (audit_text json said)
   EndsAudit json ShelfFault old new = new ≡ old
   EndsAudit json Memory old new = new ≡ old
+
+-- the end of an audit of a user whose journal was refused for a fault of its disk
+abbrev pub IsDiskRefusal : AuditEnd → Type 0
+IsDiskRefusal Done = ⊥
+IsDiskRefusal (Refused why) = is_disk_fault why ≡ true
+IsDiskRefusal WriteFault = ⊥
+IsDiskRefusal ShelfFault = ⊥
+IsDiskRefusal Memory = ⊥
 
 -- the end of an audit of which nothing was written
 abbrev pub IsSilent : AuditEnd → Type 0

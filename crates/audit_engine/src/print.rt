@@ -8,7 +8,7 @@ ghost use Rattle.log_journal.specs.Opening.{header_bytes};
 ghost use Rattle.user_desk.specs.Desks.{desk_schema, desk_user, desk_standing, desk_history};
 ghost use Rattle.user_desk.specs.Standings.{is_sealed};
 ghost use Rattle.audit_engine.specs.Printed.{IsPrinted, EndsBy};
-ghost use Rattle.audit_engine.specs.Ends.{EndsAudit, JudgesJournal};
+ghost use Rattle.audit_engine.specs.Ends.{EndsAudit, IsDiskRefusal, JudgesJournal};
 ghost use Rattle.audit_engine.specs.declared.end.AuditEnd.{AuditEnd};
 
 use crate::end::{AuditEnd, end_of};
@@ -49,6 +49,7 @@ pub(crate) fn audit_disk<'w, D: Disk, K: Sink>(
     ensures later { K.faults sink.old ≤ K.faults sink.new }
     ensures cause { result.1 ≡ AuditEnd.WriteFault → Rose (K.faults sink.old) (K.faults sink.new) }
     ensures shelf { result.1 ≡ AuditEnd.ShelfFault → ⊥ }
+    ensures journal_cause { IsDiskRefusal result.1 → Rose (D.faults disk) (D.faults result.0) }
 {
     law_openings();
     let Ok(admission) = admit(alloc, registry.schema, registry.world, user) else {
