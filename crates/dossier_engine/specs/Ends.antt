@@ -1,5 +1,5 @@
 -- How the writing of a user's dossier ends, by the bytes of his journal.
-use Rattle.std.specs.Prelude.{◌≡◌, ℕ, false, List, ◌++◌}
+use Rattle.std.specs.Prelude.{◌≡◌, ℕ, true, false, List, ◌++◌}
 use Rattle.outside.specs.Streams.{AppendsPart}
 use Rattle.cqe_base.specs.Schema.{DatabaseSchema, Text}
 use Rattle.cqe_base.specs.Facts.{FactSet}
@@ -9,6 +9,7 @@ use Rattle.user_desk.specs.Standings.{is_sealed}
 use Rattle.user_desk.specs.declared.standing.Standing.{Standing}
 use Rattle.user_desk.specs.declared.standing.Standing.TheVariants.{Sealed}
 use Rattle.desk_crew.specs.Openings.{OpensWith}
+use Rattle.desk_crew.specs.Refusals.{is_disk_fault}
 use Rattle.audit_engine.specs.Ends.{HasStanding, GivesStanding}
 use Rattle.dossier_engine.specs.Shown.{IsTextOf}
 use Rattle.dossier_engine.specs.declared.end.DossierEnd.{DossierEnd}
@@ -51,6 +52,14 @@ module _ (schema : DatabaseSchema) (world : FactSet) (header : List ℕ) (name :
       × AppendsPart old new text
   EndsDossier ShelfFault old new = new ≡ old
   EndsDossier Memory old new = new ≡ old
+
+-- the end of a dossier of a user whose journal was refused for a fault of its disk
+abbrev pub IsDiskRefusal : DossierEnd → Type 0
+IsDiskRefusal Done = ⊥
+IsDiskRefusal (Refused why) = is_disk_fault why ≡ true
+IsDiskRefusal WriteFault = ⊥
+IsDiskRefusal ShelfFault = ⊥
+IsDiskRefusal Memory = ⊥
 
 -- the end of a dossier of which nothing was written
 abbrev pub IsSilent : DossierEnd → Type 0

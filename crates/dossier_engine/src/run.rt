@@ -8,7 +8,7 @@ ghost use Rattle.cqe_base.specs.Limits.{KeepsLimits};
 ghost use Rattle.log_journal.specs.Names.{journal_name};
 ghost use Rattle.log_journal.specs.Opening.{header_bytes};
 ghost use Rattle.outside.specs.Shelf.{NoneOut, NoneFell, SameBytes, NoNewImages, NoNewMoments};
-ghost use Rattle.dossier_engine.specs.Ends.{EndsDossier, JudgesDossier};
+ghost use Rattle.dossier_engine.specs.Ends.{EndsDossier, IsDiskRefusal, JudgesDossier};
 ghost use Rattle.dossier_engine.specs.declared.end.DossierEnd.{DossierEnd};
 
 use crate::end::DossierEnd;
@@ -80,6 +80,11 @@ pub fn run_dossier<'w, F: Shelf, K: Sink>(
         → Rose (K.faults sink.old) (K.faults sink.new) }
     ensures shelf_cause { result ≡ DossierEnd.ShelfFault
         → Rose (F.faults shelf.old) (F.faults shelf.new) }
+    ensures journal_cause { IsDiskRefusal result → Rose
+        (F.disk_faults shelf.old
+        (journal_name registry.now.directory.now (string_bytes user.now.name)))
+        (F.disk_faults shelf.new
+        (journal_name registry.now.directory.now (string_bytes user.now.name))) }
 {
     let Ok(journal) = journal_name(alloc, registry.directory, user.name.as_str()) else {
         return DossierEnd::Memory;
@@ -131,6 +136,8 @@ fn dossier_of_journal<'w, F: Shelf, K: Sink>(
         → Rose (K.faults sink.old) (K.faults sink.new) }
     ensures shelf_cause { result ≡ DossierEnd.ShelfFault
         → Rose (F.faults shelf.old) (F.faults shelf.new) }
+    ensures journal_cause { IsDiskRefusal result
+        → Rose (F.disk_faults shelf.old journal.now) (F.disk_faults shelf.new journal.now) }
 {
     match shelf.take_disk(alloc, journal) {
         Ok(disk) => {

@@ -7,7 +7,7 @@ ghost use Rattle.cqe_base.specs.Limits.{KeepsLimits};
 ghost use Rattle.log_journal.specs.Opening.{header_bytes, recorded, IsRecord};
 ghost use Rattle.dossier_engine.specs.Shown.{IsShown, IsRefusalShown, JudgesRecords};
 ghost use Rattle.dossier_engine.specs.Shown.{JudgesRefusal};
-ghost use Rattle.dossier_engine.specs.Ends.{EndsDossier, JudgesDossier};
+ghost use Rattle.dossier_engine.specs.Ends.{EndsDossier, IsDiskRefusal, JudgesDossier};
 ghost use Rattle.dossier_engine.specs.declared.end.DossierEnd.{DossierEnd};
 
 use crate::end::{DossierEnd, end_of};
@@ -47,6 +47,7 @@ pub(crate) fn show_disk<'w, D: Disk, K: Sink>(
     ensures cause { result.1 ≡ DossierEnd.WriteFault
         → Rose (K.faults sink.old) (K.faults sink.new) }
     ensures shelf { result.1 ≡ DossierEnd.ShelfFault → ⊥ }
+    ensures journal_cause { IsDiskRefusal result.1 → Rose (D.faults disk) (D.faults result.0) }
 {
     law_openings();
     match open(alloc, disk, registry.header) {
