@@ -20,6 +20,7 @@ use Rattle.desk_crew.specs.Shelved.{ClosedBehind}
 use Rattle.script_lines.specs.Read.{IsReadThrough}
 use Rattle.batch_engine.specs.BatchLines.{BatchItem, asked, restarted, batch_of}
 use Rattle.desk_crew.specs.Openings.{OpensNone, OpensWith}
+use Rattle.desk_crew.specs.Refusals.{SomeFaulted}
 use Rattle.batch_engine.specs.Lives.{
   RoseBy,
   is_call,
@@ -281,6 +282,15 @@ IsSilent ReadFault = Unit {0}
 IsSilent WriteFault = ⊥
 IsSilent ShelfFault = Unit {0}
 IsSilent Memory = ⊥
+
+-- the end of a batch in which some user's journal was refused for a fault of its disk
+abbrev pub IsDiskRefusal : BatchEnd → Type 0
+IsDiskRefusal (Done refusals is_broken) = SomeFaulted refusals.items
+IsDiskRefusal (Refused refusal) = ⊥
+IsDiskRefusal ReadFault = ⊥
+IsDiskRefusal WriteFault = ⊥
+IsDiskRefusal ShelfFault = ⊥
+IsDiskRefusal Memory = ⊥
 
 -- the end of a batch in which some ask was answered that an append failed
 abbrev pub IsBroken : BatchEnd → Type 0

@@ -16,7 +16,7 @@ ghost use Rattle.batch_engine.specs.Answers.{says_broken};
 ghost use Rattle.batch_engine.specs.Stretches.{CanServe, InOrder, AllBack};
 ghost use Rattle.batch_engine.specs.Steps.{RunsAll, IsAnswered, IsStopped};
 ghost use Rattle.batch_engine.specs.Batch.{EndsBatch, LeavesJournals, IsUnopened, IsSilent};
-ghost use Rattle.batch_engine.specs.Batch.{IsBroken};
+ghost use Rattle.batch_engine.specs.Batch.{IsBroken, IsDiskRefusal};
 ghost use Rattle.batch_engine.specs.declared.closed.Stopped.{Stopped};
 ghost use Rattle.batch_engine.specs.declared.run.BatchEnd.{BatchEnd};
 
@@ -352,6 +352,8 @@ where
     ensures shelf_cause { result ≡ BatchEnd.ShelfFault
         → Rose (F.faults shelf.old) (F.faults shelf.new) }
     ensures disk_cause { IsBroken result
+        → SomeRose (F.disk_faults shelf.old) (F.disk_faults shelf.new) }
+    ensures journal_cause { IsDiskRefusal result
         → SomeRose (F.disk_faults shelf.old) (F.disk_faults shelf.new) }
 {
     let batch = match read_script(alloc, source, Batch::new(alloc)) {
