@@ -19,6 +19,7 @@ use Rattle.user_desk.specs.Standings.{standing_of, is_open, is_sealed}
 use Rattle.user_desk.specs.declared.standing.DeskError.{DeskError}
 use Rattle.user_desk.specs.declared.standing.Standing.{Standing}
 use Rattle.desk_crew.specs.Crew.{refusal_of}
+use Rattle.desk_crew.specs.Refusals.{SomeFaulted}
 use Rattle.desk_crew.specs.Shelved.{Journals, KeepsJournal, KeepsJournals, StandsAllAlong}
 use Rattle.worker_pool.specs.Workers.{HasVisits}
 use Rattle.serve_engine.specs.Doors.{AreServedDoors}
@@ -202,6 +203,14 @@ IsBroken (Done refusals is_broken) = is_broken ≡ true
 IsBroken LinksFault = ⊥
 IsBroken ShelfFault = ⊥
 IsBroken Memory = ⊥
+
+-- the end of a serving that came to its end, and in which some user's journal was refused for a
+-- fault of its disk
+abbrev pub IsDiskRefusal : ServeEnd → Type 0
+IsDiskRefusal (Done refusals is_broken) = SomeFaulted refusals.items
+IsDiskRefusal LinksFault = ⊥
+IsDiskRefusal ShelfFault = ⊥
+IsDiskRefusal Memory = ⊥
 
 -- the end of serving with this outcome
 abbrev pub end_of : Outcome → Vec (Option DeskError) Global → Bool → ServeEnd

@@ -10,7 +10,7 @@ ghost use Rattle.desk_crew.specs.Shelved.{journals_on, StaysThere};
 ghost use Rattle.desk_crew.specs.Registered.{AllKeepLimits, registered_journals, HaveOwnNames};
 ghost use Rattle.serve_engine.specs.Doors.{SomeFailed};
 ghost use Rattle.serve_engine.specs.Serving.{EndsServing, EndsDoors, LeavesJournals, IsDone};
-ghost use Rattle.serve_engine.specs.Serving.{IsBroken};
+ghost use Rattle.serve_engine.specs.Serving.{IsBroken, IsDiskRefusal};
 ghost use Rattle.serve_engine.specs.Serving.{end_of};
 ghost use Rattle.serve_engine.specs.declared.run.ServeEnd.{ServeEnd};
 
@@ -151,6 +151,8 @@ where
         → Rose (L.faults links.old) (L.faults links.new) }
     ensures disk_cause { IsBroken result
         → SomeRose (F.disk_faults shelf.old) (F.disk_faults shelf.new) }
+    ensures journal_cause { IsDiskRefusal result
+        → SomeRose (F.disk_faults shelf.old) (F.disk_faults shelf.new) }
 {
     law_served_alike();
     let doors = match links.listen(alloc, listening.address, listening.workers) {
@@ -216,6 +218,8 @@ where
     ensures shelf_cause { result.0 ≡ ServeEnd.ShelfFault
         → Rose (F.faults shelf.old) (F.faults shelf.new) }
     ensures disk_cause { IsBroken result.0
+        → SomeRose (F.disk_faults shelf.old) (F.disk_faults shelf.new) }
+    ensures journal_cause { IsDiskRefusal result.0
         → SomeRose (F.disk_faults shelf.old) (F.disk_faults shelf.new) }
 {
     law_hides();
