@@ -6,6 +6,7 @@ use Rattle.std.specs.declared.alloc.Global.{Global}
 use Rattle.outside.specs.Faults.{Rose}
 use Rattle.outside.specs.Visits.{Visit}
 use Rattle.cqe_base.specs.declared.user.User.{User}
+use Rattle.desk_crew.specs.Refusals.{SomeFaulted}
 use Rattle.desk_crew.specs.Shelved.{Journals, KeepsJournal, KeepsJournals, StandsAllAlong}
 use Rattle.log_journal.specs.Opening.{IsRefused, header_bytes}
 use Rattle.log_journal.specs.Records.{Recorded, IsJournal, needed_bytes}
@@ -139,6 +140,11 @@ HasListened end = ⊥
 abbrev pub IsBroken : CopyEnd → Type 0
 IsBroken (Done refusals broken wanting) = broken ≡ true
 IsBroken end = ⊥
+
+-- the standby served, and some user's journal was refused for a fault of its disk
+abbrev pub IsDiskRefusal : CopyEnd → Type 0
+IsDiskRefusal (Done refusals broken wanting) = SomeFaulted refusals.items
+IsDiskRefusal end = ⊥
 
 -- the end of a standby whose door came to this one: where the door didn't fail it has the refusals,
 -- whether an append failed, and whether memory was wanting for a record

@@ -12,7 +12,7 @@ ghost use Rattle.standby_core.specs.Lasting.{has_broken};
 ghost use Rattle.standby_engine.specs.Opened.{given_journal, opened_in, names_in, others_in};
 ghost use Rattle.standby_engine.specs.Opened.{place_refusal};
 ghost use Rattle.standby_engine.specs.Standing.{LeavesCopies, EndsCopying, HasListened, IsBroken};
-ghost use Rattle.standby_engine.specs.Standing.{copy_end};
+ghost use Rattle.standby_engine.specs.Standing.{IsDiskRefusal, copy_end};
 ghost use Rattle.standby_engine.specs.declared.run.CopyEnd.{CopyEnd};
 
 use crate::opening::{Given, NotOpened, Place, give_back, open_journals};
@@ -117,6 +117,8 @@ pub fn run_standby<R: Wait, F: Shelf, L: Links>(
         → Rose (L.faults links.old) (L.faults links.new) }
     ensures disk_cause { IsBroken result
         → SomeRose (F.disk_faults shelf.old) (F.disk_faults shelf.new) }
+    ensures journal_cause { IsDiskRefusal result
+        → SomeRose (F.disk_faults shelf.old) (F.disk_faults shelf.new) }
 {
     let doors = match links.listen(alloc, copying.address, 1) {
         Ok(doors) => doors,
@@ -175,6 +177,8 @@ fn serve_opened<R: Wait, F: Shelf, O: Door>(
     ensures shelf_cause { result ≡ CopyEnd.ShelfFault
         → Rose (F.faults shelf.old) (F.faults shelf.new) }
     ensures disk_cause { IsBroken result
+        → SomeRose (F.disk_faults shelf.old) (F.disk_faults shelf.new) }
+    ensures journal_cause { IsDiskRefusal result
         → SomeRose (F.disk_faults shelf.old) (F.disk_faults shelf.new) }
 {
     law_journals_differ();
