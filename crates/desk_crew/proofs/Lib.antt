@@ -8,6 +8,7 @@ pub mod Taking
 pub mod Asking
 pub mod Seated
 pub mod Rising
+pub mod Faulting
 pub mod Lasting
 pub mod Giving
 pub mod Crossing
