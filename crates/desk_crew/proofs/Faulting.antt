@@ -10,6 +10,8 @@ use Rattle.cqe_base.specs.Schema.{Text, DatabaseSchema}
 use Rattle.cqe_base.specs.Facts.{FactSet}
 use Rattle.cqe_base.specs.History.{UserProfile, History, profile_of}
 use Rattle.cqe_base.specs.declared.user.User.{User}
+use Rattle.log_journal.specs.Opening.{IsRefused}
+use Rattle.log_journal.specs.declared.header.OpenError.{OpenError}
 use Rattle.log_journal.specs.declared.header.OpenError.TheVariants.{NotAJournal, OtherPolicy, Damaged, DiskFault, Memory, OldVersion}
 use Rattle.user_desk.specs.Causes.{IsSealedBy, IsStanding}
 use Rattle.user_desk.specs.declared.standing.DeskError.{DeskError}
@@ -42,6 +44,16 @@ module _ (schema : DatabaseSchema) (world : FactSet) (user : UserProfile) (told 
   standing_faulted entries Open stands is = let clash : false ≡ true = is in absurd cc
   standing_faulted entries (Closed admission) stands is = let clash : false ≡ true = is in absurd cc
   standing_faulted entries (Sealed why) stands is = faulted why stands.1 is
+
+-- so has one of the journal alone
+pub refusal_faulted : (told : Type 0) (header bytes : List ℕ) (before now : ℕ) (why : OpenError) → IsRefused told header bytes before now why
+    → is_disk_fault (Journal why) ≡ true → Rose before now
+refusal_faulted told header bytes before now DiskFault refused is = refused
+refusal_faulted told header bytes before now NotAJournal refused is = let clash : false ≡ true = is in absurd cc
+refusal_faulted told header bytes before now OtherPolicy refused is = let clash : false ≡ true = is in absurd cc
+refusal_faulted told header bytes before now (Damaged number) refused is = let clash : false ≡ true = is in absurd cc
+refusal_faulted told header bytes before now OldVersion refused is = let clash : false ≡ true = is in absurd cc
+refusal_faulted told header bytes before now Memory refused is = let clash : false ≡ true = is in absurd cc
 
 module _ {D : Type 0} {g h : _} (Disk : DiskGhosts D) (count : Text → ℕ) where
   -- where a seat's refusal says so, the count of its disk had risen as its desk was opened
