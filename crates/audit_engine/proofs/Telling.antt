@@ -1,5 +1,5 @@
 -- What the audit of a desk writes, as what the bytes of the journal say.
-use Rattle.std.proofs.Common.{◌≡◌, ◌⊎◌, inl, inr, ℕ, Bool, false, List, [], refl, subst}
+use Rattle.std.proofs.Common.{◌≡◌, ◌⊎◌, ◌∙◌, inl, inr, ℕ, Bool, false, List, [], refl, ap, subst}
 use Rattle.outside.specs.Faults.{Rose}
 use Rattle.cqe_base.specs.Schema.{DatabaseSchema, Text}
 use Rattle.cqe_base.specs.Facts.{FactSet}
@@ -16,7 +16,9 @@ use Rattle.user_desk.specs.declared.standing.Standing.TheVariants.{Open, Closed,
 use Rattle.audit_text.specs.Said.{AuditSaid}
 use Rattle.audit_print.specs.Audits.{Audits}
 use Rattle.audit_engine.specs.Printed.{IsPrinted, EndsBy, end_of}
-use Rattle.audit_engine.specs.Ends.{IsAuditOf, GivesStanding, EndsAudit, JudgesJournal}
+use Rattle.desk_crew.proofs.Faulting.{faulted}
+use Rattle.desk_crew.specs.Refusals.{is_disk_fault}
+use Rattle.audit_engine.specs.Ends.{IsAuditOf, GivesStanding, EndsAudit, JudgesJournal, IsDiskRefusal}
 use Rattle.audit_engine.specs.declared.end.AuditEnd.{AuditEnd}
 use Rattle.audit_engine.specs.declared.end.AuditEnd.TheVariants as ends
 
@@ -164,3 +166,17 @@ pub ends_by : (standing : Standing) → EndsBy standing (end_of standing)
 ends_by Open = refl
 ends_by (Closed admission) = refl
 ends_by (Sealed why) = refl
+
+-- where the end says that the disk failed, the count of its faults rose
+pub disk_refused : (schema : DatabaseSchema) (world : FactSet) (user : UserProfile) (told : Type 0) (header bytes : List ℕ) (before now : ℕ)
+    (entries : History) (standing : Standing) (end : AuditEnd) → IsStanding schema world user told header bytes entries before now standing
+    → EndsBy standing end → IsDiskRefusal end → Rose before now
+disk_refused schema world user told header bytes before now entries standing ends.Done stands same is = absurd is
+disk_refused schema world user told header bytes before now entries Open (ends.Refused why) stands same is = absurd (cc)
+disk_refused schema world user told header bytes before now entries (Closed admission) (ends.Refused why) stands same is = absurd (cc)
+disk_refused schema world user told header bytes before now entries (Sealed why') (ends.Refused why) stands same is =
+    let one : why' ≡ why = cc in
+    faulted schema world user told header bytes before now why' stands.1 (ap is_disk_fault one ∙ is)
+disk_refused schema world user told header bytes before now entries standing ends.WriteFault stands same is = absurd is
+disk_refused schema world user told header bytes before now entries standing ends.ShelfFault stands same is = absurd is
+disk_refused schema world user told header bytes before now entries standing ends.Memory stands same is = absurd is

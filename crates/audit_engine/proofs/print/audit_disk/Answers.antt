@@ -1,10 +1,11 @@
 use Rattle.std.proofs.Common.{string_bytes, sym, subst}
 use Rattle.outside.specs.Disk.{Only}
+use Rattle.outside.specs.Faults.{Rose}
 use Rattle.cqe_base.specs.History.{profile_of}
 use Rattle.log_journal.specs.Opening.{header_bytes}
-use Rattle.user_desk.specs.Desks.{desk_standing, desk_history}
+use Rattle.user_desk.specs.Desks.{desk_standing, desk_history, desk_disk}
 use Rattle.user_desk.specs.Causes.{IsStanding}
-use Rattle.audit_engine.proofs.Telling.{ends_so, judges_so}
+use Rattle.audit_engine.proofs.Telling.{ends_so, judges_so, disk_refused}
 use Rattle.audit_engine.proofs.print.audit_disk.Goals as goal
 
 pub returns-in-Ok-open_desk-clause-ends : goal.returns-in-Ok-open_desk-clause-ends
@@ -44,3 +45,12 @@ pub returns-in-Ok-open_desk-clause-durable : goal.returns-in-Ok-open_desk-clause
 returns-in-Ok-open_desk-clause-durable g c = λ done.
     subst (λ d. Only (g.D.Disk.reads c.args.disk) (g.D.Disk.image d)) (sym c.close.ensures)
     (c.in-Ok-open_desk.ensures.durable (c.print_desk-end.ensures.served done))
+
+pub returns-in-Ok-open_desk-clause-journal_cause : goal.returns-in-Ok-open_desk-clause-journal_cause
+returns-in-Ok-open_desk-clause-journal_cause g c = λ is.
+    let registry = c.args.registry.now in
+    let desk = c.in-Ok-open_desk.desk in
+    subst (λ d. Rose (g.D.Disk.faults c.args.disk) (g.D.Disk.faults d)) (sym c.close.ensures)
+    (disk_refused registry.schema.now registry.world.now (profile_of c.args.user.now) g.D.Disk.tells (header_bytes registry.header.now)
+    (g.D.Disk.reads c.args.disk) (g.D.Disk.faults c.args.disk) (g.D.Disk.faults (desk_disk desk)) (desk_history desk) (desk_standing desk)
+    c.print_desk-end.result c.in-Ok-open_desk.ensures.standing c.print_desk-end.ensures.ends_by is)
