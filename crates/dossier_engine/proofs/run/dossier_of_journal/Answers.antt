@@ -1,5 +1,6 @@
 use Rattle.std.proofs.Common.{ap, sym, refl, subst, ◌∙◌}
 use Rattle.outside.proofs.Taken.{taken_reads, same_moments, given_moments}
+use Rattle.outside.specs.Faults.{Rose}
 use Rattle.outside.specs.Shelf.{Lent, image_on}
 use Rattle.dossier_engine.proofs.run.dossier_of_journal.Goals as goal
 
@@ -33,3 +34,8 @@ pub returns-in-Ok-clause-durable : goal.returns-in-Ok-clause-durable
 returns-in-Ok-clause-durable g c = λ told done c' left.
     c.show_disk-disk.ensures.durable done c' (subst (λ o. image_on g.F.D.Disk.image o c') (c.give_disk.ensures.held told) left)
     ∙ taken_reads g.F.D.Disk.reads g.F.D.Disk.image (g.F.Shelf.disk c.args.shelf.now c.args.journal.now) c.in-Ok.disk (c.in-Ok.ensures.taken told)
+
+pub returns-in-Ok-clause-journal_cause : goal.returns-in-Ok-clause-journal_cause
+returns-in-Ok-clause-journal_cause g c = λ is.
+    subst (λ n. Rose n (g.F.Shelf.disk_faults c.give_disk.new.self c.args.journal.now)) c.in-Ok.ensures.count
+    (subst (λ n. Rose (g.F.D.Disk.faults c.in-Ok.disk) n) (sym c.give_disk.ensures.count) (c.show_disk-disk.ensures.journal_cause is))

@@ -3,6 +3,7 @@ use Rattle.outside.specs.Disk.{Only}
 use Rattle.cqe_base.specs.History.{profile_of}
 use Rattle.log_journal.specs.Opening.{header_bytes, recorded}
 use Rattle.log_journal.specs.Records.{IsJournal}
+use Rattle.dossier_engine.proofs.Causes.{records_whole, refused_cause}
 use Rattle.dossier_engine.proofs.Telling.{ends_so, refused_so, judges_so, refused_judges}
 use Rattle.dossier_engine.proofs.show.show_disk.Goals as goal
 
@@ -53,3 +54,15 @@ returns-in-Err-clause-ends g c = λ told sink_told.
 
 pub returns-in-Err-clause-durable : goal.returns-in-Err-clause-durable
 returns-in-Err-clause-durable g c = λ done. absurd (c.show_refused-end.ensures.undone done)
+
+pub returns-in-Ok-clause-journal_cause : goal.returns-in-Ok-clause-journal_cause
+returns-in-Ok-clause-journal_cause g c = λ is.
+    let registry = c.args.registry.now in
+    absurd (records_whole registry.schema.now registry.world.now (string_bytes c.args.user.now.name) (profile_of c.args.user.now)
+    (map recorded c.deref.result.now) c.show_records-end.result c.show_records-end.ensures.judged is)
+
+pub returns-in-Err-clause-journal_cause : goal.returns-in-Err-clause-journal_cause
+returns-in-Err-clause-journal_cause g c = λ is.
+    refused_cause g.D.Disk.tells (header_bytes c.args.registry.now.header.now) (g.D.Disk.reads c.args.disk) (g.D.Disk.faults c.args.disk)
+    (g.D.Disk.faults c.in-Err.refused.disk) c.in-Err.refused.why c.in-Err.ensures.refused c.show_refused-end.result
+    c.show_refused-end.ensures.judged is
