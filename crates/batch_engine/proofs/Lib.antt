@@ -12,5 +12,6 @@ pub mod Posts
 pub mod Ordering
 pub mod Ending
 pub mod Failing
+pub mod Faulting
 pub mod Joining
 pub mod Crossing

@@ -10,6 +10,8 @@ use Rattle.batch_engine.specs.Stretches.{AllBack}
 use Rattle.batch_engine.proofs.Posts.{named_so}
 use Rattle.batch_engine.proofs.Running.{Stay, left_behind}
 use Rattle.batch_engine.proofs.Failing.{broken_rose}
+use Rattle.batch_engine.proofs.Faulting.{faulted_run}
+use Rattle.desk_crew.proofs.Faulting.{first_faulted}
 use Rattle.desk_crew.proofs.Lasting.{keeps_same, keeps_all}
 use Rattle.outside.specs.Shelf.{SameBeside}
 use Rattle.desk_crew.specs.Shelved.{StaysThere}
@@ -252,6 +254,19 @@ returns-in-Ok-answer_all-clause-disk_cause g c =
     (g.F.Shelf.disk_faults c.args.shelf.now) g.F.Shelf.tells (g.F.Shelf.disk_faults c.answer_all.new.shelf) (g.F.Shelf.disk c.answer_all.new.shelf)
     g.K.Sink.tells (items_of c.in-Whole.batch) c.in-Ok-open_all.seats.items all.0 c.in-Ok-answer_all.told.1 _ _ all.1
     (seated g (goal.at.returns-in-Ok-answer_all-clause-disk_cause g c).In-Ok-open_all).first all.2.back
+
+pub returns-in-Ok-answer_all-clause-journal_cause : goal.returns-in-Ok-answer_all-clause-journal_cause
+returns-in-Ok-answer_all-clause-journal_cause g c =
+    let registry = c.args.registry.now in
+    let all = c.in-Ok-answer_all.ensures.answered in
+    let count = g.F.Shelf.disk_faults c.args.shelf.now in
+    faulted_run registry.schema.now registry.world.now (header_bytes registry.header.now) g.F.D.Disk count g.F.Shelf.tells
+    (g.F.Shelf.disk_faults c.answer_all.new.shelf) (g.F.Shelf.disk c.answer_all.new.shelf) g.K.Sink.tells (items_of c.in-Whole.batch)
+    c.in-Ok-open_all.seats.items all.0 c.in-Ok-answer_all.told.1 _ _ all.1
+    (seated g (goal.at.returns-in-Ok-answer_all-clause-journal_cause g c).In-Ok-open_all).first all.2.back
+    (first_faulted g.F.D.Disk count g.F.Shelf.tells registry.schema.now registry.world.now (header_bytes registry.header.now) registry.directory.now
+    (g.F.Shelf.disk c.args.shelf.now) registry.users.now c.in-Ok-open_all.seats.items c.in-Ok-open_all.ensures.opened)
+    c.in-Ok-answer_all.told.0.items all.3
 
 -- ---- a write failed
 
