@@ -4,7 +4,7 @@ ghost use Rattle.std.specs.Prelude.{length, sum_by};
 ghost use Rattle.std.specs.List.{flat_map};
 ghost use Rattle.outside.specs.Faults.{Rose};
 ghost use Rattle.outside.specs.Shelf.{SameNames, SameBeside, NoneOut, NoneFell, SomeRose};
-ghost use Rattle.outside.specs.Visits.{place_of, one_if_any};
+ghost use Rattle.outside.specs.Visits.{door_place_of, one_if_any};
 ghost use Rattle.log_journal.specs.Opening.{header_bytes};
 ghost use Rattle.desk_crew.specs.Shelved.{journals_on, StaysThere};
 ghost use Rattle.desk_crew.specs.Registered.{AllKeepLimits, registered_journals, HaveOwnNames};
@@ -90,11 +90,11 @@ where
     // It listens at that address alone, with a door for each worker, and before it opens a journal.
     ensures listens { L.tells → (L.listened links.new ≡ L.listened links.old)
         ⊎ (L.listened links.new
-        ≡ L.listened links.old ++ place_of listening.entry.address.now listening.entry.workers
+        ≡ L.listened links.old ++ door_place_of listening.entry.address.now listening.entry.workers
         ∷ []) }
     ensures heard { L.tells → IsDone result
         → L.listened links.new
-        ≡ L.listened links.old ++ place_of listening.entry.address.now listening.entry.workers
+        ≡ L.listened links.old ++ door_place_of listening.entry.address.now listening.entry.workers
         ∷ [] }
 
     ensures unheard { L.tells → L.listened links.new ≡ L.listened links.old
