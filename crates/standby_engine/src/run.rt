@@ -3,7 +3,7 @@ ghost use Rattle.std.specs.Prelude.{◌≡◌, ◌⊎◌, ◌≤◌, ◌<◌, �
 ghost use Rattle.std.specs.Prelude.{IfOk, length, string_bytes, vec_len, vec_capacity};
 ghost use Rattle.outside.specs.Faults.{Rose};
 ghost use Rattle.outside.specs.Shelf.{SameNames, SameBeside, NoneOut, NoneFell, SomeRose};
-ghost use Rattle.outside.specs.Visits.{place_of};
+ghost use Rattle.outside.specs.Visits.{door_place_of};
 ghost use Rattle.log_journal.specs.Journal.{disk_of};
 ghost use Rattle.log_journal.specs.Opening.{header_bytes};
 ghost use Rattle.desk_crew.specs.Registered.{registered_journals, HaveOwnNames};
@@ -79,9 +79,9 @@ pub fn run_standby<R: Wait, F: Shelf, L: Links>(
     // It listens at that address alone, with one door, and before it opens a journal.
     ensures listens { L.tells → (L.listened links.new ≡ L.listened links.old)
         ⊎ (L.listened links.new
-        ≡ L.listened links.old ++ place_of copying.entry.address.now 1 ∷ []) }
+        ≡ L.listened links.old ++ door_place_of copying.entry.address.now 1 ∷ []) }
     ensures heard { L.tells → HasListened result → L.listened links.new
-        ≡ L.listened links.old ++ place_of copying.entry.address.now 1 ∷ [] }
+        ≡ L.listened links.old ++ door_place_of copying.entry.address.now 1 ∷ [] }
     ensures unheard { L.tells → L.listened links.new ≡ L.listened links.old
         → shelf.new ≡ shelf.old }
     ensures limited { L.tells → L.given links.new ≤ L.given links.old + copying.entry.sessions }
