@@ -376,7 +376,7 @@ module _ {D : Type 0} {g h : _} where
   journals_on_same [] (new ∷ news) on = absurd on
   journals_on_same (old ∷ olds) [] on = absurd on
 
-  later_on_seats : (faults : D → ℕ) (count : Text → ℕ) (olds news : List (DeskSeat D g h)) → AreSeatsOn olds news → AreLater faults count olds
+  pub later_on_seats : (faults : D → ℕ) (count : Text → ℕ) (olds news : List (DeskSeat D g h)) → AreSeatsOn olds news → AreLater faults count olds
       → AreLater faults count news
   later_on_seats faults count [] [] on later = tt
   later_on_seats faults count (old ∷ olds) (new ∷ news) on later = (

@@ -12,6 +12,7 @@ pub mod Outcomes
 pub mod Apart
 pub mod Backing
 pub mod Histories
+pub mod Faulting
 pub mod Connections
 pub mod Joining
 pub mod Alike

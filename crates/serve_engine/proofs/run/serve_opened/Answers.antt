@@ -1,13 +1,17 @@
 use Rattle.std.proofs.Common.{◌∙◌, length, map, inl, refl, sym, ap, subst, arith}
 use Rattle.log_journal.specs.Opening.{header_bytes}
 use Rattle.desk_crew.specs.Registered.{registered_journals}
+use Rattle.desk_crew.specs.Refusals.{SomeFaulted}
+use Rattle.desk_crew.proofs.Faulting.{first_faulted, faulted_rose}
 use Rattle.desk_crew.proofs.Lasting.{keeps_same, keeps_all}
 use Rattle.desk_crew.proofs.Giving.{CanGive, AllReturned}
 use Rattle.desk_crew.proofs.Hearing.{there_first, all_there}
 use Rattle.outside.specs.Shelf.{SameBeside}
 use Rattle.desk_crew.proofs.Taking.{AllSeated, all_seated}
-use Rattle.serve_engine.specs.Serving.{IsDone, IsBroken}
+use Rattle.serve_engine.specs.Serving.{IsDone, IsBroken, IsDiskRefusal}
 use Rattle.serve_engine.specs.Sharing.{IsServedAt}
+use Rattle.serve_engine.proofs.Faulting.{faulted_end, faulted_on_seats, refusals_on_seats}
+use Rattle.serve_engine.proofs.Histories.{later_on_seats}
 use Rattle.serve_engine.proofs.Histories.{broken_end, own_on_seats, there_on_seats, journals_on_same, doors_many, doors_gave, doors_left, ended_at, failed_at}
 use Rattle.serve_engine.proofs.Histories.{AreReady, all_ready, served_can, served_returned, served_rose, served_ends}
 use Rattle.serve_engine.proofs.run.serve_opened.Given.{Over}
@@ -195,3 +199,20 @@ returns-clause-disk_cause g c broken =
     (g.F.Shelf.disk back.new.shelf) (g.F.Shelf.disk_faults back.new.shelf) back.ensures.back
     (sym back.ensures.broke
     ∙ broken_end c.serve_seats-outcome.result.0 c.refusals_of-refusals.result back.result (subst IsBroken c.end_of.ensures broken))
+
+pub returns-clause-journal_cause : goal.returns-clause-journal_cause
+returns-clause-journal_cause g c said =
+    let registry = c.args.registry.now in
+    let count = g.F.Shelf.disk_faults c.args.shelf.now in
+    let olds = c.in-Ok-open_all.seats.items in
+    let seats = c.serve_seats-outcome.result.1.items in
+    let on = c.serve_seats-outcome.ensures.on in
+    let first = (seated g (goal.at.returns-clause-journal_cause g c).In-Ok-open_all).first in
+    faulted_rose g.F.D.Disk count g.F.Shelf.tells (g.F.Shelf.disk_faults c.give_back-is_broken.new.shelf) (g.F.Shelf.disk c.give_back-is_broken.new.shelf) seats
+    (later_on_seats g.F.D.Disk.faults count olds seats on first) c.give_back-is_broken.ensures.back
+    (faulted_on_seats g.F.D.Disk count olds seats on
+    (first_faulted g.F.D.Disk count g.F.Shelf.tells registry.schema.now registry.world.now (header_bytes registry.header.now) registry.directory.now
+    (g.F.Shelf.disk c.args.shelf.now) registry.users.now olds c.in-Ok-open_all.ensures.opened))
+    (subst SomeFaulted
+    (c.refusals_of-refusals.ensures ∙ ap (map (λ x. x.refusal)) c.as_slice.ensures.value ∙ refusals_on_seats g.F.D.Disk count olds seats on)
+    (faulted_end c.serve_seats-outcome.result.0 c.refusals_of-refusals.result c.give_back-is_broken.result (subst IsDiskRefusal c.end_of.ensures said)))
