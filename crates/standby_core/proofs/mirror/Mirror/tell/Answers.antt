@@ -51,8 +51,8 @@ invariant_of-self-2 g c =
 
 -- ---- what was told of
 
-pub returns-then-clause-heard : goal.returns-then-clause-heard
-returns-then-clause-heard g c = λ number one is. inl is
+pub returns-then-number-self-clause-heard : goal.returns-then-number-self-clause-heard
+returns-then-number-self-clause-heard g c = λ number one is. inl is
 
 pub returns-in_err-self-clause-heard : goal.returns-in_err-self-clause-heard
 returns-in_err-self-clause-heard g c =

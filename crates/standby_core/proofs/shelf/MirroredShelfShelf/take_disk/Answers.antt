@@ -119,8 +119,8 @@ returns-in-Ok-clause-unheard g c =
 
 -- ---- the shelf as it is left
 
-pub invariant_of-self-in_default : goal.invariant_of-self-in_default
-invariant_of-self-in_default g c = record {
+pub invariant_of-self : goal.invariant_of-self
+invariant_of-self g c = record {
   there = λ name is. ap is_some (c.in_default.ensures.none name) ∙ c.args.self.now.there name is;
   back = λ name is. ap is_away (c.in_default.ensures.none name) ∙ c.args.self.now.back name is;
   unused = λ told dials_told name none inside.
@@ -128,8 +128,8 @@ invariant_of-self-in_default g c = record {
 }
 
 -- a disk that is out has no mirror to speak of
-pub invariant_of-self-in-Ok : goal.invariant_of-self-in-Ok
-invariant_of-self-in-Ok g c = record {
+pub invariant_of-self-in-Ok-1 : goal.invariant_of-self-in-Ok-1
+invariant_of-self-in-Ok-1 g c = record {
   there = kept_places c.args.name.now (g.F.Shelf.is_out c.args.self.now.shelf.now) (g.F.Shelf.is_out c.take_disk.new.self)
       c.args.self.now.mirrors.now.slots.items c.take.new.self.slots.items c.args.self.now.there c.take_disk.ensures.others_out
       c.take.ensures.others (ap is_some c.in-Some.ensures.out);
