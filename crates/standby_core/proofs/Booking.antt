@@ -7,7 +7,7 @@ use Rattle.std.proofs.lemmas.Option.{same_Some}
 use Rattle.outside.specs.declared.disk.Disk.{Ghosts as DiskGhosts}
 use Rattle.log_journal.specs.Journal.{disk_of, is_broken}
 use Rattle.log_journal.specs.Records.{Recorded}
-use Rattle.standby_core.specs.Copies.{Copy, copy_in, copy_at, copy_after, copies_after, held_name, held_origin, HasCount, HasFailed}
+use Rattle.standby_core.specs.Copies.{Copy, copy_in, copy_at, copy_after, copies_after, held_name, held_origin, HasFailed}
 use Rattle.standby_core.specs.Frames.{Carried}
 use Rattle.standby_core.specs.Lasting.{Lasts, AllLast, CountsItsRecords, CountTheirRecords, has_broken}
 use Rattle.standby_core.specs.Named.{first_named}
@@ -68,85 +68,76 @@ module _ {D : Type 0} {g : _} where
         by true others = refl
         by false others = others
 
+    -- that of the first journal of the name
+    pub copy_there : (name : List ℕ) (journals : List (Held D g)) {held : Held D g} → first_named held_name journals name ≡ Some held
+        → copy_at (map (copy_in reads) journals) name ≡ Some (copy_in reads held)
+    copy_there name journals is = copy_of name journals ∙ ap (option_map (copy_in reads)) is
+
     -- where the first journal of a name takes a record, the copies do
-    pub copies_set : (one : Carried) (journals : List (Held D g)) (place : ℕ) (old new : Held D g)
-        → Stands (λ held. bytes_eq (held_name held) one.name) journals place old → copy_in reads new ≡ copy_after (copy_in reads old) one
+    pub copies_set : (one : Carried) {journals : List (Held D g)} {place : ℕ} {old : Held D g}
+        → Stands (λ held. bytes_eq (held_name held) one.name) journals place old → (new : Held D g) → copy_in reads new ≡ copy_after (copy_in reads old) one
         → map (copy_in reads) (slice_set journals place new) ≡ copies_after (map (copy_in reads) journals) one
-    copies_set one journals place old new (here held others is) took =
+    copies_set one (here held others is) new took =
         (λ i. took i ∷ map (copy_in reads) others)
         ∙ sym (ap (λ b. if b then copy_after (copy_in reads held) one ∷ map (copy_in reads) others
         else copy_in reads held ∷ copies_after (map (copy_in reads) others) one) is)
-    copies_set one journals place old new (further held first others after miss stands) took =
-        (λ i. copy_in reads held ∷ copies_set one others after first new stands took i)
+    copies_set one (further held first others after miss stands) new took =
+        (λ i. copy_in reads held ∷ copies_set one stands new took i)
         ∙ sym (ap (λ b. if b then copy_after (copy_in reads held) one ∷ map (copy_in reads) others
         else copy_in reads held ∷ copies_after (map (copy_in reads) others) one) miss)
 
     -- one whose copy stays leaves all copies
-    pub copies_same : (test : Held D g → Bool) (journals : List (Held D g)) (place : ℕ) (old new : Held D g) → Stands test journals place old
-        → copy_in reads new ≡ copy_in reads old → map (copy_in reads) (slice_set journals place new) ≡ map (copy_in reads) journals
-    copies_same test journals place old new (here held others is) same = λ i. same i ∷ map (copy_in reads) others
-    copies_same test journals place old new (further held first others after miss stands) same =
-        λ i. copy_in reads held ∷ copies_same test others after first new stands same i
+    pub copies_same : {test : Held D g → Bool} {journals : List (Held D g)} {place : ℕ} {old : Held D g} → Stands test journals place old
+        → (new : Held D g) → copy_in reads new ≡ copy_in reads old → map (copy_in reads) (slice_set journals place new) ≡ map (copy_in reads) journals
+    copies_same (here held others is) new same = λ i. same i ∷ map (copy_in reads) others
+    copies_same (further held first others after miss stands) new same = λ i. copy_in reads held ∷ copies_same stands new same i
 
   -- the names stay
-  pub names_set : (test : Held D g → Bool) (journals : List (Held D g)) (place : ℕ) (old new : Held D g) → Stands test journals place old
-      → held_name new ≡ held_name old → map held_name (slice_set journals place new) ≡ map held_name journals
-  names_set test journals place old new (here held others is) same = λ i. same i ∷ map held_name others
-  names_set test journals place old new (further held first others after miss stands) same =
-      λ i. held_name held ∷ names_set test others after first new stands same i
+  pub names_set : {test : Held D g → Bool} {journals : List (Held D g)} {place : ℕ} {old : Held D g} → Stands test journals place old
+      → (new : Held D g) → held_name new ≡ held_name old → map held_name (slice_set journals place new) ≡ map held_name journals
+  names_set (here held others is) new same = λ i. same i ∷ map held_name others
+  names_set (further held first others after miss stands) new same = λ i. held_name held ∷ names_set stands new same i
 
   -- what lasts of one lasts of all
-  pub lasts_set : (Disk : DiskGhosts D) (header : List ℕ) (test : Held D g → Bool) (journals : List (Held D g)) (place : ℕ) (old new : Held D g)
-      → Stands test journals place old
+  pub lasts_set : (Disk : DiskGhosts D) (header : List ℕ) {test : Held D g → Bool} {journals : List (Held D g)} {place : ℕ} {old : Held D g}
+      → Stands test journals place old → (new : Held D g)
       → ((opened : D) → Lasts Disk header opened (disk_of old.journal) (copy_in Disk.reads old)
       → Lasts Disk header opened (disk_of new.journal) (copy_in Disk.reads new))
       → (disks : List D) → AllLast Disk header disks journals → AllLast Disk header disks (slice_set journals place new)
-  lasts_set Disk header test journals place old new (here held others is) lasts [] all = absurd all
-  lasts_set Disk header test journals place old new (further held one others after miss stands) lasts [] all = absurd all
-  lasts_set Disk header test journals place old new (here held others is) lasts (opened ∷ disks) all = (lasts opened all.0, all.1)
-  lasts_set Disk header test journals place old new (further held one others after miss stands) lasts (opened ∷ disks) all =
-      (all.0, lasts_set Disk header test others after one new stands lasts disks all.1)
+  lasts_set Disk header (here held others is) new lasts [] all = absurd all
+  lasts_set Disk header (further held one others after miss stands) new lasts [] all = absurd all
+  lasts_set Disk header (here held others is) new lasts (opened ∷ disks) all = (lasts opened all.0, all.1)
+  lasts_set Disk header (further held one others after miss stands) new lasts (opened ∷ disks) all =
+      (all.0, lasts_set Disk header stands new lasts disks all.1)
 
   -- and where their disks come from
-  pub origins_set : (origin : D → List (List ℕ)) (test : Held D g → Bool) (journals : List (Held D g)) (place : ℕ) (old new : Held D g)
-      → Stands test journals place old → held_origin origin new ≡ held_origin origin old
+  pub origins_set : (origin : D → List (List ℕ)) {test : Held D g → Bool} {journals : List (Held D g)} {place : ℕ} {old : Held D g}
+      → Stands test journals place old → (new : Held D g) → held_origin origin new ≡ held_origin origin old
       → map (held_origin origin) (slice_set journals place new) ≡ map (held_origin origin) journals
-  origins_set origin test journals place old new (here held others is) same = λ i. same i ∷ map (held_origin origin) others
-  origins_set origin test journals place old new (further held first others after miss stands) same =
-      λ i. held_origin origin held ∷ origins_set origin test others after first new stands same i
+  origins_set origin (here held others is) new same = λ i. same i ∷ map (held_origin origin) others
+  origins_set origin (further held first others after miss stands) new same = λ i. held_origin origin held ∷ origins_set origin stands new same i
 
   -- the counts are kept
-  pub counted_set : (faults : D → ℕ) (test : Held D g → Bool) (journals : List (Held D g)) (place : ℕ) (old new : Held D g) → Stands test journals place old
-      → ((count : ℕ) → CountsItsRecords faults count old → CountsItsRecords faults count new)
+  pub counted_set : (faults : D → ℕ) {test : Held D g → Bool} {journals : List (Held D g)} {place : ℕ} {old : Held D g} → Stands test journals place old
+      → (new : Held D g) → ((count : ℕ) → CountsItsRecords faults count old → CountsItsRecords faults count new)
       → (counts : List ℕ) → CountTheirRecords faults counts journals → CountTheirRecords faults counts (slice_set journals place new)
-  counted_set faults test journals place old new (here held others is) keeps [] all = absurd all
-  counted_set faults test journals place old new (further held one others after miss stands) keeps [] all = absurd all
-  counted_set faults test journals place old new (here held others is) keeps (count ∷ counts) all = (keeps count all.0, all.1)
-  counted_set faults test journals place old new (further held one others after miss stands) keeps (count ∷ counts) all =
-      (all.0, counted_set faults test others after one new stands keeps counts all.1)
+  counted_set faults (here held others is) new keeps [] all = absurd all
+  counted_set faults (further held one others after miss stands) new keeps [] all = absurd all
+  counted_set faults (here held others is) new keeps (count ∷ counts) all = (keeps count all.0, all.1)
+  counted_set faults (further held one others after miss stands) new keeps (count ∷ counts) all = (all.0, counted_set faults stands new keeps counts all.1)
 
   -- an append to one of them failed
-  pub broken_set : (test : Held D g → Bool) (journals : List (Held D g)) (place : ℕ) (old new : Held D g) → Stands test journals place old
-      → is_broken new.journal ≡ true → has_broken (slice_set journals place new) ≡ true
-  broken_set test journals place old new (here held others is) broke = or_left broke
-    where
-      or_left : is_broken new.journal ≡ true → (is_broken new.journal || has_broken others) ≡ true
-      or_left is = ap (λ b. b || has_broken others) is
-  broken_set test journals place old new (further held first others after miss stands) broke =
-      by (is_broken held.journal) (broken_set test others after first new stands broke)
+  pub broken_set : {test : Held D g → Bool} {journals : List (Held D g)} {place : ℕ} {old : Held D g} → Stands test journals place old
+      → (new : Held D g) → is_broken new.journal ≡ true → has_broken (slice_set journals place new) ≡ true
+  broken_set (here held others is) new broke = ap (λ b. b || has_broken others) broke
+  broken_set (further held first others after miss stands) new broke = by (is_broken held.journal) (broken_set stands new broke)
     where
       by : (b : Bool) → has_broken (slice_set others after new) ≡ true → (b || has_broken (slice_set others after new)) ≡ true
       by true more = refl
       by false more = more
 
-  -- the count of the first one of a name
-  pub count_there : (reads : D → List ℕ) (name : List ℕ) (journals : List (Held D g)) (held : Held D g) → first_named held_name journals name ≡ Some held
-      → (count : ℕ) → held.count ≡ count → HasCount (map (copy_in reads) journals) name count
-  count_there reads name journals held is count same =
-      (copy_in reads held, copy_of reads name journals ∙ ap (option_map (copy_in reads)) is, same)
-
 -- whose append failed, where the copy of a name is this one
-pub failed_there : (copies : List Copy) (name : List ℕ) (copy : Copy) → Some copy ≡ copy_at copies name → HasFailed copies name → copy.failed ≡ true
+pub failed_there : (copies : List Copy) (name : List ℕ) (copy : Copy) → copy_at copies name ≡ Some copy → HasFailed copies name → copy.failed ≡ true
 failed_there copies name copy is failed =
-    let same : Some copy ≡ Some failed.0 = is ∙ failed.1 in
+    let same : Some copy ≡ Some failed.0 = sym is ∙ failed.1 in
     ap (λ (k : Copy). k.failed) (same_Some copy failed.0 same) ∙ failed.2

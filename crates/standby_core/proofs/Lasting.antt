@@ -17,6 +17,10 @@ use Rattle.standby_core.specs.Lasting.{HasCopied, Lasts}
 pub taken_all : (count : ℕ) (rs : List Recorded) → count ≡ length rs → take count rs ≡ rs
 taken_all count rs counted = take_all count rs (omega (arith, counted))
 
+-- so that so many are taken
+pub taken_count : (count : ℕ) (rs : List Recorded) → count ≡ length rs → count ≡ length (take count rs)
+taken_count count rs counted = counted ∙ ap length (sym (taken_all count rs counted))
+
 -- with one more
 pub taken_grown : (count count' : ℕ) (rs rs' : List Recorded) (one : Recorded) → count ≡ length rs → count' ≡ count + 1 → rs' ≡ rs ++ one ∷ []
     → take count' rs' ≡ take count rs ++ one ∷ []

@@ -18,7 +18,7 @@ use Rattle.standby_core.specs.MirroredDisks.{inner_of, mirrored, heard_by}
 use Rattle.standby_core.specs.Named.{first_named}
 use Rattle.standby_core.specs.Places.{mirror_in, new_in, faults_in, count_in, is_away}
 use Rattle.standby_core.specs.Slots.{slot_name, slot_texts, place_at, made_at, with_made, mirrored_at, SameMade, HavePlaces, HaveMirrors}
-use Rattle.standby_core.proofs.Naming.{IsAt, found, not_found, still_named}
+use Rattle.standby_core.proofs.Naming.{found, not_found}
 
 -- what holds of a name and of all others holds of all
 pub for_all : (P : List ℕ → Type 0) (name : List ℕ) → P name → ((one : List ℕ) → bytes_eq one name ≡ false → P one) → (one : List ℕ) → P one
@@ -70,12 +70,11 @@ module _ {C : Type 0} {g : _} where
       → Some place ≡ position (λ slot. bytes_eq (slot_name slot) name) slots → old ≡ get_or slots place old → slot_name new ≡ slot_name old
       → IsSlotSet name slots place old new
   slot_set name slots place old new is here named =
-      let at : IsAt slot_name name slots place old = found slot_name name slots place old (sym is) in
-      let it : bytes_eq (slot_name new) name ≡ true = still_named slot_name name slots place old new at here named in
+      let at = found slot_name name slots place old is here in
       record {
-        was = ap (λ o. option_map (λ (s : Slot C g). s.place) o) (at.is_first ∙ ap Some (sym here));
-        now = ap (λ o. option_map (λ (s : Slot C g). s.place) o) (at.set new it);
-        others = λ one differs. ap (λ o. option_map (λ (s : Slot C g). s.place) o) (at.others new it one differs);
+        was = ap (λ o. option_map (λ (s : Slot C g). s.place) o) at.is_first;
+        now = ap (λ o. option_map (λ (s : Slot C g). s.place) o) (at.set new named);
+        others = λ one differs. ap (λ o. option_map (λ (s : Slot C g). s.place) o) (at.others new named one differs);
       }
 
   -- its mirror was made as it was
@@ -83,14 +82,13 @@ module _ {C : Type 0} {g : _} where
       → Some place ≡ position (λ slot. bytes_eq (slot_name slot) name) slots → old ≡ get_or slots place old → slot_name new ≡ slot_name old
       → slot_texts own address new ≡ slot_texts own address old → SameMade own address slots (slice_set slots place new)
   made_set own address name slots place old new is here named made =
-      let at : IsAt slot_name name slots place old = found slot_name name slots place old (sym is) in
-      let it : bytes_eq (slot_name new) name ≡ true = still_named slot_name name slots place old new at here named in
+      let at = found slot_name name slots place old is here in
       let texts : Option (Slot C g) → Option (List (List ℕ)) = option_map (slot_texts own address) in
       record {
         all = set_same (slot_texts own address) slots place old new here made;
         each = for_all (λ one. made_at own address (slice_set slots place new) one ≡ made_at own address slots one) name
-            (ap texts (at.set new it) ∙ ap Some made ∙ sym (ap texts (at.is_first ∙ ap Some (sym here))))
-            (λ one differs. ap texts (at.others new it one differs));
+            (ap texts (at.set new named) ∙ ap Some made ∙ sym (ap texts at.is_first))
+            (λ one differs. ap texts (at.others new named one differs));
       }
 
   -- how the mirror of a slot that is found was made
@@ -98,8 +96,7 @@ module _ {C : Type 0} {g : _} where
       → Some place ≡ position (λ slot. bytes_eq (slot_name slot) name) slots → old ≡ get_or slots place old
       → made_at own address slots name ≡ Some (slot_texts own address old)
   made_there own address name slots place old is here =
-      let at : IsAt slot_name name slots place old = found slot_name name slots place old (sym is) in
-      ap (option_map (slot_texts own address)) (at.is_first ∙ ap Some (sym here))
+      ap (option_map (slot_texts own address)) (found slot_name name slots place old is here).is_first
 
   -- what says where a disk with a mirror comes from is what does of the mirror, and what does of the disk below
   pub own_parts : (own address : C → List ℕ) (name : List ℕ) (slots : List (Slot C g)) (mirror : Mirror C g) (rest below : List (List ℕ))
@@ -123,7 +120,7 @@ module _ {C : Type 0} {g : _} where
       by (Some slot) some none = absurd cc
 
   pub no_slot : (name : List ℕ) (slots : List (Slot C g)) → None ≡ position (λ slot. bytes_eq (slot_name slot) name) slots → place_at slots name ≡ None
-  no_slot name slots none = ap (λ o. option_map (λ (s : Slot C g). s.place) o) (not_found slot_name name slots (sym none))
+  no_slot name slots none = ap (λ o. option_map (λ (s : Slot C g). s.place) o) (not_found slot_name name slots none)
 
   pub no_place : (name : List ℕ) (slots : List (Slot C g)) → None ≡ position (λ slot. bytes_eq (slot_name slot) name) slots
       → is_some (place_at slots name) ≡ true → ⊥

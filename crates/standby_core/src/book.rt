@@ -172,14 +172,13 @@ impl<D: Disk> Held<D> {
         if number != count {
             return Ok(count);
         }
-        if self.journal.reserve(text.len() as u32).is_err() {
+        let Ok(()) = self.journal.reserve(text.len() as u32) else {
             return Err(TakeError::Memory);
-        }
+        };
         let appended = self.journal.append(kind, text);
-        let grown = self.journal.count();
-        self.count = grown;
+        self.count = self.journal.count();
         match appended {
-            Ok(()) => Ok(grown),
+            Ok(()) => Ok(self.count),
             Err(AppendError::DiskFault) => Err(TakeError::DiskFault),
             Err(AppendError::Broken) => Err(TakeError::Broken),
         }
