@@ -9,3 +9,4 @@ pub mod Begun
 pub mod Visits
 pub mod Ending
 pub mod Listening
+pub mod Faulting

@@ -5,6 +5,7 @@ use Rattle.std.proofs.lemmas.List.{length-map}
 use Rattle.std.proofs.lemmas.List.Elements.{All-from_recursion}
 use Rattle.log_journal.specs.Journal.{count_of}
 use Rattle.log_journal.specs.Opening.{header_bytes}
+use Rattle.desk_crew.specs.Refusals.{SomeFaulted}
 use Rattle.desk_crew.specs.Registered.{registered_journals}
 use Rattle.desk_crew.specs.Shelved.{journals_by}
 use Rattle.desk_crew.proofs.Lasting.{keeps_same, keeps_all}
@@ -13,7 +14,7 @@ use Rattle.standby_core.specs.Copies.{held_name, held_origin, copy_in}
 use Rattle.standby_core.specs.Lasting.{AllLast, CountTheirRecords, has_broken}
 use Rattle.standby_core.specs.declared.book.Held.{Held}
 use Rattle.standby_engine.specs.Opened.{place_refusal, given_journal, opened_in, AreOwn}
-use Rattle.standby_engine.specs.Standing.{LeavesCopies, AreCopied, AreCopiesOf, EndsCopying, HasListened, IsBroken}
+use Rattle.standby_engine.specs.Standing.{LeavesCopies, AreCopied, AreCopiesOf, EndsCopying, HasListened, IsBroken, IsDiskRefusal}
 use Rattle.standby_engine.specs.declared.opening.Given.{Given as Back}
 use Rattle.standby_engine.proofs.Owning.{own_both, own_apart, origins_of}
 use Rattle.standby_engine.proofs.Parting.{each_parted, names_many}
@@ -21,6 +22,7 @@ use Rattle.standby_engine.proofs.Mirroring.{parted, held_disk, counts_of, places
 use Rattle.standby_engine.proofs.Mirroring.{first_sound, can_distinct, can_out}
 use Rattle.standby_engine.proofs.Mirroring.{all_returned, AreBack, are_back, fell_all, some_failed, rose_of, all_copied, all_served, failed_same}
 use Rattle.standby_engine.proofs.Ending.{ended_at, failed_at, broken_at, leaves_at, serves_at}
+use Rattle.standby_engine.proofs.Faulting.{faulted_at, some_faulted}
 use Rattle.standby_engine.proofs.run.serve_opened.Given.{Over}
 use Rattle.standby_engine.proofs.run.serve_opened.Goals as goal
 use Rattle.standby_engine.proofs.run.serve_opened.Goals.{After-end_of}
@@ -328,6 +330,15 @@ returns-clause-disk_cause g c broken =
     (sym c.put_together-all.ensures.broken
     ∙ broken_at c.refusals_of-refusals.result c.put_together-all.result.1 c.serve_door-end.result.1 c.serve_door-end.result.0
     (subst IsBroken c.end_of.ensures broken)))
+
+pub returns-clause-journal_cause : goal.returns-clause-journal_cause
+returns-clause-journal_cause g c said =
+    some_faulted c.args.directory.now (header_bytes c.args.header.now) g.F.Shelf.tells g.F.D.Disk (g.F.Shelf.disk c.args.shelf.now)
+    (g.F.Shelf.disk c.give_back.new.shelf) (g.F.Shelf.disk_faults c.args.shelf.now) (g.F.Shelf.disk_faults c.give_back.new.shelf) c.args.users.now
+    c.in-Ok-open_journals.places.items c.in-Ok-open_journals.ensures.opened (back g c).others
+    (subst SomeFaulted (refused g c)
+    (faulted_at c.refusals_of-refusals.result c.put_together-all.result.1 c.serve_door-end.result.1 c.serve_door-end.result.0
+    (subst IsDiskRefusal c.end_of.ensures said)))
 
 pub returns-clause-ended : goal.returns-clause-ended
 returns-clause-ended g c door_told done =
