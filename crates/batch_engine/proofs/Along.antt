@@ -19,7 +19,7 @@ use Rattle.user_desk.specs.declared.standing.Standing.{Standing}
 use Rattle.user_desk.specs.declared.standing.Standing.TheVariants.{Open, Closed, Sealed}
 use Rattle.std.proofs.lemmas.List.Folds.{list_any-append}
 use Rattle.batch_engine.specs.Lives.{is_call, is_opened, is_opening, IsStretchEnd}
-use Rattle.batch_engine.proofs.Courses.{any-push}
+use Rattle.batch_engine.proofs.Events.{any-push}
 
 -- The clock of the disks: since its own moment a disk has no image but those it has now; and the moment at which the call began, of the journal of each name.
 pub record Clock {D : Type 0} (Disk : DiskGhosts D) : Type 0 where

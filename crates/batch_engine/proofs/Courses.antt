@@ -1,10 +1,9 @@
 -- One user over asks and openings: what his journal shows of his run.
 use Rattle.std.proofs.Common.{◌≡◌, ◌⊎◌, inl, inr, ℕ, ◌+◌, ◌≤◌, Bool, true, false, List, [], ◌∷◌, ◌++◌, refl, sym, ap, subst, ◌∙◌, append-nil, arith}
-use Rattle.std.specs.Prelude.{Option, Some, None, is_some, ◌&&◌, ◌||◌, option_to_list, Result, Ok, Err, if◌then◌else◌}
+use Rattle.std.specs.Prelude.{if◌then◌else◌, Option, Some, None, is_some, ◌&&◌, ◌||◌, option_to_list, Result, Ok, Err}
 use Rattle.std.specs.List.{list_any}
 use Rattle.std.proofs.Math.Bool.{and-true, or-false, or-true}
 use Rattle.std.proofs.lemmas.Bool.{and_left, or_left, or_right}
-use Rattle.std.proofs.lemmas.List.Sums.{sum_by-append}
 use Rattle.outside.specs.Faults.{Rose}
 use Rattle.outside.proofs.Rises.{rose_wide}
 use Rattle.cqe_base.specs.declared.user.Purpose.{Purpose}
@@ -15,12 +14,9 @@ use Rattle.cqe_base.specs.Reading.{Refusal, reading}
 use Rattle.cqe_base.specs.History.{UserProfile, AnsweredQuery, History}
 use Rattle.cqe_base.specs.Censor.{admitted}
 use Rattle.cqe_base.specs.Run
-use Rattle.cqe_base.specs.Run.{Reply, Ending, want, kept, failed, Event, call, stop, restart, UserState, opening, after_event, after_events, reply_to_call}
-use Rattle.cqe_base.specs.Run.{entry_at}
-use Rattle.cqe_base.specs.Run.{standing_sealed}
+use Rattle.cqe_base.specs.Run.{Reply, Ending, want, kept, failed, Event, call, restart, UserState, opening, after_event, after_events, reply_to_call}
+use Rattle.cqe_base.specs.Run.{entry_at, standing_sealed}
 use Rattle.cqe_base.proofs.Runs.{after_events-push}
-use Rattle.cqe_base.proofs.Lists.{or_assoc}
-use Rattle.cqe_base.proofs.Truths.{or_first, or_second}
 use Rattle.log_journal.specs.declared.header.OpenError.TheVariants as journal_error
 use Rattle.user_desk.specs.Causes.{Opens, IsSealedBy, IsStanding, Refuses}
 use Rattle.user_desk.specs.Entries.{bytes_needed, IsNoLonger}
@@ -34,129 +30,10 @@ use Rattle.user_desk.specs.declared.standing.Standing.TheVariants.{Open, Closed,
 use Rattle.desk_crew.specs.Crew.{first_refusal}
 use Rattle.desk_crew.specs.Openings.{OpensNone}
 use Rattle.batch_engine.specs.Lives.{RoseBy, is_call, is_opened, is_failed_append, is_refused, failures_in, failures, IsCaused, AreCaused, IsFirstRefusal}
-
--- ---- counts and lists
-
-pub rose_more : (n before now later : ℕ) → RoseBy n before now → now ≤ later → RoseBy n before later
-rose_more n before now later (inl some) on = inl (omega (arith, some, on))
-rose_more n before now later (inr full) on = inr (omega (arith, full, on))
-
-rose_again : (n before now later : ℕ) → RoseBy n before now → now ≤ later → Rose now later → RoseBy (n + 1) before later
-rose_again n before now later (inl some) on (inl once) = inl (omega (arith, some, once))
-rose_again n before now later (inl some) on (inr full) = inr full
-rose_again n before now later (inr full) on rose = inr (omega (arith, full, on))
-
-failures-push : (events : List Event) (event : Event) → failures (events ++ event ∷ []) ≡ failures events + failures_in event
-failures-push [] event = let turned : failures_in event + 0 ≡ 0 + failures_in event = omega arith in turned
-failures-push (e ∷ events) event =
-    let again : failures_in e + (failures events + failures_in event) ≡ (failures_in e + failures events) + failures_in event = omega arith in
-    ap (λ n. failures_in e + n) (failures-push events event) ∙ again
-
-pub any-push : {X : Type 0} (test : X → Bool) (xs : List X) (x : X) → list_any test (xs ++ x ∷ []) ≡ (list_any test xs || test x)
-any-push test [] x = or-false (test x)
-any-push test (y ∷ xs) x = ap (λ b. test y || b) (any-push test xs x) ∙ sym (or_assoc (test y) (list_any test xs) (test x))
-
--- what is behind an event that failed not, among those before
-unfailed-push : (events : List Event) (event : Event) → list_any is_failed_append (events ++ event ∷ []) ≡ false → list_any is_failed_append events ≡ false
-unfailed-push events event whole = or_first (list_any is_failed_append events) (is_failed_append event) (sym (any-push is_failed_append events event) ∙ whole)
-
--- more entries need more bytes
-no_longer_more : (before : List ℕ) (entries more : History) (reads : List ℕ) → IsNoLonger before entries reads → IsNoLonger before (entries ++ more) reads
-no_longer_more before entries more reads is = omega (arith, is, sum_by-append (λ (e : AnsweredQuery). 4 + e.length) entries more)
+use Rattle.batch_engine.proofs.Events.{rose_more, rose_again, failures-push, any-push, unfailed-push, never_broken, no_longer_on, caused-push, once}
+use Rattle.batch_engine.proofs.Events.{broken_adds}
 
 module _ (schema : DatabaseSchema) (world : FactSet) (user : UserProfile) where
-  -- where no append failed, none has failed
-  never_broken : (state : UserState) (events : List Event) → state.broken ≡ false → list_any is_failed_append events ≡ false
-      → (after_events schema world user state events).broken ≡ false
-  never_broken state [] whole none = whole
-  never_broken state (event ∷ events) whole none =
-      never_broken (after_event schema world user state event) events (one event (or_first (is_failed_append event) (list_any is_failed_append events) none))
-      (or_second (is_failed_append event) (list_any is_failed_append events) none)
-    where
-      one : (e : Event) → is_failed_append e ≡ false → (after_event schema world user state e).broken ≡ false
-      one (call purpose text want) unfailed = whole
-      one (call purpose text kept) unfailed = whole
-      one (call purpose text failed) unfailed = absurd cc
-      one (stop purpose text) unfailed = absurd cc
-      one (restart found true) unfailed = refl
-      one (restart found false) unfailed = whole
-
-  -- no event takes entries away
-  no_longer_on : (state : UserState) (event : Event) (before reads : List ℕ) → IsNoLonger before state.entries reads
-      → IsNoLonger before (after_event schema world user state event).entries reads
-  no_longer_on state event before reads is = by event
-    where
-      flown : (entry : Option AnsweredQuery) → IsNoLonger before (Run.after_failure schema world user state entry).entries reads
-      flown None = is
-      flown (Some entry) = is
-
-      by : (e : Event) → IsNoLonger before (after_event schema world user state e).entries reads
-      by (call purpose text want) = is
-      by (call purpose text kept) = no_longer_more before state.entries (option_to_list (entry_at schema world user state purpose text)) reads is
-      by (call purpose text failed) = flown (entry_at schema world user state purpose text)
-      by (stop purpose text) = flown (entry_at schema world user state purpose text)
-      by (restart true true) = no_longer_more before state.entries (option_to_list state.pending) reads is
-      by (restart false true) = is
-      by (restart found false) = is
-
-  caused-push : (state : UserState) (events : List Event) (event : Event) → AreCaused schema world user state events
-      → IsCaused schema world user (after_events schema world user state events) event
-      → AreCaused schema world user state (events ++ event ∷ [])
-  caused-push state [] event all last = (last, tt)
-  caused-push state (e ∷ events) event all last = (all.0, caused-push (after_event schema world user state e) events event all.1 last)
-
-  -- ---- one call
-
-  -- a call with an ending that has its cause
-  record Once (is_now : UserState → Type 0) (state : UserState) (purpose : Purpose) (text : Text) (told : Reply) : Type 0 where
-    ending : Ending
-    caused : IsCaused schema world user state (call purpose text ending)
-    after : is_now (after_event schema world user state (call purpose text ending))
-    reply : told ≡ reply_to_call schema world user state purpose text ending
-
-  once : (is_now : UserState → Type 0) (state : UserState) (purpose : Purpose) (text : Text) (told : Reply)
-      → IsCallOf schema world user is_now state purpose text told
-      → Once is_now state purpose text told
-  once is_now state purpose text told asked = by asked.ending asked.after asked.reply
-    where
-      unadded : (entry : Option AnsweredQuery) → entry ≡ None → record state { entries = state.entries ++ option_to_list entry } ≡ state
-      unadded entry none =
-          ap (λ e. record state { entries = state.entries ++ option_to_list e }) none ∙ ap (λ es. record state { entries = es }) (append-nil state.entries)
-
-      by_entry : (entry : Option AnsweredQuery) → entry_at schema world user state purpose text ≡ entry
-          → is_now (after_event schema world user state (call purpose text failed))
-          → told ≡ reply_to_call schema world user state purpose text failed → Once is_now state purpose text told
-      by_entry (Some entry) is after reply = record { ending = failed; caused = ap is_some is; after = after; reply = reply }
-      by_entry None is after reply = record {
-        ending = kept;
-        caused = tt;
-        after = subst is_now (ap (λ e. Run.after_failure schema world user state e) is
-            ∙ sym (unadded (entry_at schema world user state purpose text) is)) after;
-        reply = reply ∙ ap (λ e. Run.reply_at_failure schema world user (Run.reply_at schema world user state purpose text) e) is;
-      }
-
-      by : (ending : Ending) → is_now (after_event schema world user state (call purpose text ending))
-          → told ≡ reply_to_call schema world user state purpose text ending
-          → Once is_now state purpose text told
-      by want after reply = record { ending = want; caused = tt; after = after; reply = reply }
-      by kept after reply = record { ending = kept; caused = tt; after = after; reply = reply }
-      by failed after reply = by_entry (entry_at schema world user state purpose text) refl after reply
-
-  -- a state in which an append failed adds nothing
-  broken_adds : (state : UserState) (purpose : Purpose) (text : Text) → state.broken ≡ true → entry_at schema world user state purpose text ≡ None
-  broken_adds state purpose text broken =
-      ap (λ b. Run.entry_added text (reading schema text) (Run.reply schema world user state.entries state.standing b purpose text)) broken ∙
-      by state.standing (reading schema text)
-    where
-      by : (standing : Run.Standing) (read : Result Formula Refusal)
-          → Run.entry_added text read (Run.reply_by schema world user state.entries standing true purpose text read) ≡ None
-      by Run.standing_open (Ok query) = refl
-      by Run.standing_open (Err why) = refl
-      by Run.standing_closed (Ok query) = refl
-      by Run.standing_closed (Err why) = refl
-      by Run.standing_sealed (Ok query) = refl
-      by Run.standing_sealed (Err why) = refl
-
   -- bytes that open a desk show no reason to refuse them
   abbrev pub IsExclusive : List ℕ → Type 0
   IsExclusive header =
@@ -387,7 +264,7 @@ module _ (schema : DatabaseSchema) (world : FactSet) (user : UserProfile) where
         size_by whole false served =
             let is = shown_is standing state (after_events schema world user (opening schema world user opened) events) served living.is_in in
             let unbroken : state.broken ≡ false = ap (λ (s : UserState). s.broken) (sym is)
-            ∙ never_broken (opening schema world user opened) events refl whole in
+            ∙ never_broken schema world user (opening schema world user opened) events refl whole in
             let now = grown unbroken in
             let first = living.size whole in
             let entries = ap (λ (s : UserState). bytes_needed s.entries) is in
@@ -431,14 +308,14 @@ module _ (schema : DatabaseSchema) (world : FactSet) (user : UserProfile) where
         → ((state : UserState) → IsState standing old state → IsCallOf schema world user (IsState standing new) state purpose text told)
         → Asked opened events standing new image reads now refusal purpose text told
     ask_step opened events standing old new image reads now refusal purpose text told living settles =
-        let one = once (IsState standing new) state purpose text told (settles state living.is_in) in
+        let one = once schema world user (IsState standing new) state purpose text told (settles state living.is_in) in
         record {
           ending = one.ending;
           reply = one.reply;
           living = record {
             is_in = subst (IsState standing new) (sym (pushed one.ending)) one.after;
             later = living.later;
-            caused = caused-push (opening schema world user opened) events (call purpose text one.ending) living.caused one.caused;
+            caused = caused-push schema world user (opening schema world user opened) events (call purpose text one.ending) living.caused one.caused;
             refused = refusal_on now now (omega arith) events (call purpose text one.ending) (none_refused purpose text one.ending) refusal living.refused;
             shut = living.shut;
             fits = fits_on one.ending one.caused one.after living.fits;
@@ -448,7 +325,8 @@ module _ (schema : DatabaseSchema) (world : FactSet) (user : UserProfile) where
                 (sym (pushed one.ending ∙ sealed_still state purpose text one.ending (sealed_is standing old state sealed living.is_in)))
                 (living.stands sealed (sym (unopened one.ending) ∙ some) c at);
             size = λ whole. subst (λ (s : UserState). IsNoLonger bytes s.entries reads) (sym (pushed one.ending))
-                (no_longer_on state (call purpose text one.ending) bytes reads (living.size (unfailed-push events (call purpose text one.ending) whole)));
+                (no_longer_on schema world user state (call purpose text one.ending) bytes reads
+                (living.size (unfailed-push events (call purpose text one.ending) whole)));
             kept = λ idle. living.kept (never_opened one.ending idle);
           };
         }
@@ -509,7 +387,8 @@ module _ (schema : DatabaseSchema) (world : FactSet) (user : UserProfile) where
             by_entry None some is = absurd cc
         flew some after (last_flies earlier count rose served' broken) false served =
             let broke : state.broken ≡ true = ap (λ (s : UserState). s.broken) (shown_is standing old state served living.is_in) ∙ broken in
-            let e : false ≡ true = sym (ap (λ (o : Option AnsweredQuery). is_some o) (broken_adds state purpose text broke)) ∙ some in absurd cc
+            let e : false ≡ true = sym (ap (λ (o : Option AnsweredQuery). is_some o) (broken_adds schema world user state purpose text broke)) ∙ some in
+            absurd cc
 
         rises : (ending : Ending) → IsCaused schema world user state (call purpose text ending)
             → IsState standing new (after_event schema world user state (call purpose text ending)) → RoseBut events standing old now
@@ -709,7 +588,7 @@ module _ (schema : DatabaseSchema) (world : FactSet) (user : UserProfile) where
     stays_next opened events found opens standing desk_state image reads stays shut held is holds = record {
       stands = λ some c at. subst (λ s. Holds schema world user header s c) (sym pushed) (stands_by (is_sealed standing) refl some c at);
       size = λ whole. subst (λ (s : UserState). IsNoLonger bytes s.entries reads) (sym pushed)
-          (no_longer_on state (restart found opens) bytes reads (stays.size (unfailed-push events (restart found opens) whole)));
+          (no_longer_on schema world user state (restart found opens) bytes reads (stays.size (unfailed-push events (restart found opens) whole)));
       kept = λ idle. stays.kept
           (idle_before (list_any is_opened events) (list_any is_call events) opens
           ((λ i. sym (any-push is_opened events (restart found opens)) i
@@ -778,7 +657,7 @@ module _ (schema : DatabaseSchema) (world : FactSet) (user : UserProfile) where
                 is_in = subst (IsState standing desk_state) (sym pushed) again.after;
                 course = record {
                   later = omega (arith, course.later, known.on);
-                  caused = caused-push (opening schema world user opened) events event course.caused again.sought;
+                  caused = caused-push schema world user (opening schema world user opened) events event course.caused again.sought;
                   fits = inl (
                     opens,
                     subst (λ s. Holds schema world user header s reads) (sym pushed)
@@ -811,7 +690,7 @@ module _ (schema : DatabaseSchema) (world : FactSet) (user : UserProfile) where
                 is_in = subst (IsState standing desk_state) (sym pushed) (in_seal standing sealed);
                 course = record {
                   later = omega (arith, course.later, known.on);
-                  caused = caused-push (opening schema world user opened) events event course.caused (λ e. absurd cc);
+                  caused = caused-push schema world user (opening schema world user opened) events event course.caused (λ e. absurd cc);
                   fits = inr (none, empty, same, opened_false event refl events never);
                   refused = refusal_next now later known.on events false false standing (λ s. refl) (λ served. let e : true ≡ false = sym sealed ∙ served in
                       absurd cc)

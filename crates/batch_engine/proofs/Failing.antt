@@ -4,6 +4,7 @@ use Rattle.std.specs.Prelude.{Option, Some, None, Result, Ok, Err, ◌||◌}
 use Rattle.outside.proofs.Rises.{rose_wide}
 use Rattle.outside.specs.Faults.{Rose}
 use Rattle.outside.specs.declared.disk.Disk.{Ghosts as DiskGhosts}
+use Rattle.outside.specs.Shelf.{SomeRose}
 use Rattle.cqe_base.specs.declared.user.Purpose.{Purpose}
 use Rattle.cqe_base.specs.declared.user.Purpose.TheVariants.{Asking, Protecting}
 use Rattle.cqe_base.specs.Schema.{Text, DatabaseSchema}
@@ -26,12 +27,12 @@ use Rattle.desk_counter.specs.declared.item.Fixed.{Fixed}
 use Rattle.desk_counter.specs.Lives.{IsCallOf}
 use Rattle.desk_crew.specs.Crew.{seat_user, seat_journal, seat_disk, seat_standing, seat_state, seat_broke, IsToldAt, IsReopened, AreReopened, Tells}
 use Rattle.desk_crew.specs.Crew.{nobody, here, further}
-use Rattle.desk_crew.specs.Shelved.{AreLater}
+use Rattle.desk_crew.specs.Shelved.{AreLater, AreBack}
 use Rattle.desk_crew.specs.Seats.{DeskSeat}
-use Rattle.desk_crew.proofs.Rising.{AtSome, HasFailed, some_weaker}
+use Rattle.desk_crew.proofs.Rising.{AtSome, HasFailed, some_weaker, some_rose}
 use Rattle.batch_engine.specs.BatchLines.{BatchItem, asked, restarted}
 use Rattle.batch_engine.specs.Answers.{is_broken_reply}
-use Rattle.batch_engine.specs.Steps.{Carries, Runs, nothing, more}
+use Rattle.batch_engine.specs.Steps.{Carries, Runs, nothing, more, RunsAll}
 use Rattle.batch_engine.proofs.Running.{stay_run}
 
 -- no answer to a query says so, and none to a secret
@@ -220,7 +221,7 @@ module _ (schema : DatabaseSchema) (world : FactSet) (header : List ℕ) {D : Ty
   all_carried restarted old new line says_broken carried first (inr said) = let clash : false ≡ true = sym carried.2 ∙ said in absurd cc
 
   -- behind items of which a line says so, it is so
-  pub run_broken : (items : List BatchItem) (old new : List (DeskSeat D g h)) (output : List ℕ) (is_broken : Bool)
+  run_broken : (items : List BatchItem) (old new : List (DeskSeat D g h)) (output : List ℕ) (is_broken : Bool)
       → Runs schema world header Disk items old output new is_broken → AreLater Disk.faults count old
       → is_broken ≡ true → AtSome HasBroken new
   run_broken items old new output is_broken (nothing seats) first said = absurd cc
@@ -235,10 +236,18 @@ module _ (schema : DatabaseSchema) (world : FactSet) (header : List ℕ) {D : Ty
       by false whole so_far = all_carried item mid new' line says_broken carried later (inr (ap (λ b. b || says_broken) (sym whole) ∙ said))
 
   -- and the count of its name rises as it is given back
-  pub all_weaker : (told' : Type 0) (count' : Text → ℕ) (disk' : Text → Option D) (seats : List (DeskSeat D g h)) → AtSome HasBroken seats
+  all_weaker : (told' : Type 0) (count' : Text → ℕ) (disk' : Text → Option D) (seats : List (DeskSeat D g h)) → AtSome HasBroken seats
       → AtSome (HasFailed told' Disk count count' disk') seats
   all_weaker told' count' disk' seats some = some_weaker HasBroken (HasFailed told' Disk count count' disk') seats one some
     where
       one : (seat : DeskSeat D g h) → HasBroken seat → HasFailed told' Disk count count' disk' seat
       one seat (inl broke) = inl broke.1
       one seat (inr rose) = inr rose
+
+  -- so a count rises where a line of items says so whose disks were given back
+  pub broken_rose : (told' : Type 0) (count' : Text → ℕ) (disk' : Text → Option D) (wrote : Type 0) (items : List BatchItem) (old new : List (DeskSeat D g h))
+      (is_broken : Bool) (before after : List ℕ) → RunsAll schema world header Disk wrote items old new is_broken before after
+      → AreLater Disk.faults count old → AreBack told' Disk disk' count' new → is_broken ≡ true → SomeRose count count'
+  broken_rose told' count' disk' wrote items old new is_broken before after all first back said =
+      some_rose told' Disk count count' disk' new ((stay_run schema world header Disk items old new all.output is_broken all.runs).later count first) back
+      (all_weaker told' count' disk' new (run_broken items old new all.output is_broken all.runs first said))

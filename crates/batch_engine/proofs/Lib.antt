@@ -1,4 +1,5 @@
 pub mod Batches
+pub mod Events
 pub mod Courses
 pub mod Along
 pub mod Seating

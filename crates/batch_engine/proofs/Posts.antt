@@ -3,13 +3,13 @@ use Rattle.std.proofs.Common.{◌≡◌, ℕ, suc, ◌+◌, ◌<◌, ◌≤◌, 
 use Rattle.std.proofs.Common.{refl, sym, ap, subst, ◌∙◌, append-nil, length-append, arith}
 use Rattle.std.specs.Prelude.{bytes_eq, if◌then◌else◌, None, Vec, vec_capacity, slice_index_or, remove}
 use Rattle.std.specs.List.{flat_map, list_any, AllByRecursion}
-use Rattle.std.proofs.lemmas.List.{drop_more}
+use Rattle.std.proofs.lemmas.List.{drop_more, length-map}
 use Rattle.std.specs.declared.alloc.Global.{Global}
 use Rattle.std.specs.List.Sorted.{IsPermutation}
 use Rattle.cqe_base.specs.Schema.{Text, DatabaseSchema, has_duplicate}
 use Rattle.cqe_base.specs.Facts.{FactSet}
 use Rattle.cqe_base.specs.History.{profile_of}
-use Rattle.desk_crew.specs.Crew.{seat_name, seat_kept, seat_user, is_named, IsSeatServed}
+use Rattle.desk_crew.specs.Crew.{seat_name, seat_kept, seat_user, is_named, IsSeatServed, AreReopened}
 use Rattle.desk_crew.specs.Seats.{DeskSeat}
 use Rattle.batch_engine.specs.BatchLines.{NamedAsk}
 use Rattle.outside.specs.declared.disk.Disk.{Ghosts as DiskGhosts}
@@ -19,14 +19,16 @@ use Rattle.desk_crew.specs.Registered.{registered_names}
 use Rattle.desk_crew.specs.Shelved.{AreSeatsOf}
 use Rattle.cqe_base.specs.Run.{Reply}
 use Rattle.std.specs.Prelude.{Option}
-use Rattle.std.proofs.lemmas.List.Elements.{All-nil, All-push, All-from_recursion}
-use Rattle.std.proofs.lemmas.List.Sorted.{list_any-IsPermutation, length_permutation}
+use Rattle.std.proofs.lemmas.List.Elements.{All-nil, All-push, All-from_recursion, recursion_from_All}
+use Rattle.std.proofs.lemmas.List.Sorted.{list_any-IsPermutation, length_permutation, All-permutation, IsPermutation-sym, IsPermutation-append_left}
 use Rattle.batch_engine.specs.Answers.{answer_to, asks_of, answers_from, strangers_from, restarted_at, output_bytes, says_broken}
-use Rattle.batch_engine.specs.BatchLines.{asked}
-use Rattle.batch_engine.specs.Batches.{ask_in, asks_in}
+use Rattle.batch_engine.specs.BatchLines.{BatchItem, restarted}
+use Rattle.batch_engine.specs.Batches.{ask_in, asks_in, stretch_in}
 use Rattle.batch_engine.specs.declared.batch.BatchAsk.{BatchAsk}
 use Rattle.batch_engine.specs.Ordered.{AreNumbered}
 use Rattle.batch_engine.specs.Steps.{Runs, restart_bytes}
+use Rattle.batch_engine.specs.Stretches.{InOrder}
+use Rattle.batch_engine.proofs.Running.{restarted_more}
 use Rattle.batch_engine.proofs.Seating.{flat_map-append}
 use Rattle.batch_engine.specs.Posts.{DeskPost, HasRoom, HasRooms, RunsOwn, AreAnswered, seat_of, answers_at, names_of}
 use Rattle.batch_engine.specs.declared.answer.Answer.{Answer}
@@ -203,7 +205,7 @@ module _ {D : Type 0} {g h : _} where
 -- ---- the answers of a stretch, in order
 
 -- answers whose numbers are those from the first on lie below their count
-pub below_count : (number : ℕ) (asks : List NamedAsk) (replies : List (Option Reply))
+below_count : (number : ℕ) (asks : List NamedAsk) (replies : List (Option Reply))
     → AllByRecursion (λ (a : Answer). a.number < number + length asks) (answers_from number asks replies)
 below_count number [] replies = tt
 below_count number (ask ∷ asks) [] = tt
@@ -213,33 +215,16 @@ below_count number (ask ∷ asks) (reply ∷ replies) =
       subst (λ n. AllByRecursion (λ (a : Answer). a.number < n) (answers_from (number + 1) asks replies)) same (below_count (number + 1) asks replies),
     )
 
--- the lines of a stretch whose asks were answered, in the order of the script, of which these are the answers in some order
-pub record InOrder (schema : DatabaseSchema) (world : FactSet) (header : List ℕ) {D : Type 0} {g h : _} (Disk : DiskGhosts D)
-    (asks : List NamedAsk) (old new : List (DeskSeat D g h)) (answers : List Answer) : Type 0 where
-  pub lines : List Answer
-  pub numbered : AreNumbered lines
-  pub below : All (λ (a : Answer). a.number < length asks) lines
-  pub moved : IsPermutation lines answers
-  pub runs : Runs schema world header Disk (map asked asks) old (output_bytes lines) new (says_broken answers)
+pub numbers_below : (schema : DatabaseSchema) (world : FactSet) {D : Type 0} {g h : _} (asks : List BatchAsk) (old new : List (DeskSeat D g h))
+    (answers : List Answer) → AreAnswered schema world (asks_in asks) old new answers → All (λ (a : Answer). a.number < length asks) answers
+numbers_below schema world asks old new answers all =
+    let count : 0 + length (asks_in asks) ≡ length asks = omega (arith, length-map asks ask_in) in
+    let lines = answers_from 0 (asks_in asks) all.replies in
+    All-permutation (λ (a : Answer). a.number < length asks) lines answers all.all (All-from_recursion (λ (a : Answer). a.number < length asks) lines
+    (subst (λ n. AllByRecursion (λ (a : Answer). a.number < n) lines) count (below_count 0 (asks_in asks) all.replies)))
 
-pub in_lines : (schema : DatabaseSchema) (world : FactSet) (header : List ℕ) {D : Type 0} {g h : _} (Disk : DiskGhosts D)
-    (asks : List NamedAsk) (old new : List (DeskSeat D g h)) (answers : List Answer) → AreAnswered schema world asks old new answers
-    → InOrder schema world header Disk asks old new answers
-in_lines schema world header Disk asks old new answers all = record {
-  lines = answers_from 0 asks all.replies;
-  numbered = answers_numbered 0 asks all.replies;
-  below =
-      let same : 0 + length asks ≡ length asks = omega arith in
-      All-from_recursion (λ (a : Answer). a.number < length asks) (answers_from 0 asks all.replies)
-      (subst (λ n. AllByRecursion (λ (a : Answer). a.number < n) (answers_from 0 asks all.replies)) same (below_count 0 asks all.replies));
-  moved = all.all;
-  runs = subst (Runs schema world header Disk (map asked asks) old (output_bytes (answers_from 0 asks all.replies)) new)
-      (list_any-IsPermutation (λ (a : Answer). a.is_broken) (answers_from 0 asks all.replies) answers all.all)
-      (told_runs schema world header Disk 0 asks old new all.replies all.each);
-}
-
--- with the line of the restart behind them
-pub with_restart : (lines : List Answer) (count : ℕ) → AreNumbered lines → AllByRecursion (λ (a : Answer). a.number < count) lines
+-- they are numbered with the line of a restart behind them
+with_restart : (lines : List Answer) (count : ℕ) → AreNumbered lines → AllByRecursion (λ (a : Answer). a.number < count) lines
     → AreNumbered (lines ++ restarted_at count ∷ [])
 with_restart [] count are below = (All-nil (λ (a : Answer). count < a.number), tt)
 with_restart (line ∷ lines) count are below = (
@@ -247,10 +232,37 @@ with_restart (line ∷ lines) count are below = (
   with_restart lines count are.1 below.1,
 )
 
--- and the bytes of its line
-pub output_last : (lines : List Answer) (count : ℕ) → output_bytes (lines ++ restarted_at count ∷ []) ≡ output_bytes lines ++ restart_bytes true
+-- and its bytes come behind theirs
+output_last : (lines : List Answer) (count : ℕ) → output_bytes (lines ++ restarted_at count ∷ []) ≡ output_bytes lines ++ restart_bytes
 output_last lines count =
-    flat_map-append (λ (a : Answer). a.line) lines (restarted_at count ∷ []) ∙ ap (λ l. output_bytes lines ++ l) (append-nil (restart_bytes true))
+    flat_map-append (λ (a : Answer). a.line) lines (restarted_at count ∷ []) ∙ ap (λ l. output_bytes lines ++ l) (append-nil restart_bytes)
+
+module _ (schema : DatabaseSchema) (world : FactSet) (header : List ℕ) {D : Type 0} {g h : _} (Disk : DiskGhosts D) where
+  -- the lines of a stretch whose asks were answered
+  pub in_lines : (asks : List BatchAsk) (old new : List (DeskSeat D g h)) (answers : List Answer) (says : Bool) → says ≡ says_broken answers
+      → AreAnswered schema world (asks_in asks) old new answers → InOrder schema world header Disk (stretch_in asks) old new answers says
+  in_lines asks old new answers says said all = record {
+    lines = answers_from 0 (asks_in asks) all.replies;
+    numbered = answers_numbered 0 (asks_in asks) all.replies;
+    moved = all.all;
+    runs = subst (Runs schema world header Disk (stretch_in asks) old (output_bytes (answers_from 0 (asks_in asks) all.replies)) new)
+        (list_any-IsPermutation (λ (a : Answer). a.is_broken) (answers_from 0 (asks_in asks) all.replies) answers all.all ∙ sym said)
+        (told_runs schema world header Disk 0 (asks_in asks) old new all.replies all.each);
+  }
+
+  -- and with that of the restart
+  pub in_ended : (items : List BatchItem) (count : ℕ) (old mid new : List (DeskSeat D g h)) (answers all : List Answer) (says : Bool)
+      → all ≡ answers ++ restarted_at count ∷ [] → All (λ (a : Answer). a.number < count) answers → AreReopened schema world header Disk mid new
+      → InOrder schema world header Disk items old mid answers says → InOrder schema world header Disk (items ++ restarted ∷ []) old new all says
+  in_ended items count old mid new answers all says is below again order = record {
+    lines = order.lines ++ restarted_at count ∷ [];
+    numbered = with_restart order.lines count order.numbered (recursion_from_All (λ (a : Answer). a.number < count) order.lines
+        (All-permutation (λ (a : Answer). a.number < count) answers order.lines (IsPermutation-sym order.lines answers order.moved) below));
+    moved = subst (IsPermutation (order.lines ++ restarted_at count ∷ [])) (sym is)
+        (IsPermutation-append_left (restarted_at count ∷ []) order.lines answers order.moved);
+    runs = subst (λ bytes. Runs schema world header Disk (items ++ restarted ∷ []) old bytes new says) (sym (output_last order.lines count))
+        (restarted_more schema world header Disk items old mid new (output_bytes order.lines) says order.runs again);
+  }
 
 -- ---- the seats of the users of a registry
 

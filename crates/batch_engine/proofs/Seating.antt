@@ -35,7 +35,8 @@ use Rattle.desk_crew.specs.Crew.{named_user, first_refusal, seat_user, seat_name
 use Rattle.desk_crew.specs.Crew.{IsSeatIn, IsSeatAsOpened, is_named, IsClosed, IsSeatServed, IsToldAt, IsReopened, AreReopened, Tells, nobody, here, further}
 use Rattle.desk_crew.proofs.Asking.{still_served}
 use Rattle.desk_crew.specs.Seats.{DeskSeat}
-use Rattle.batch_engine.proofs.Courses.{any-push, Course, course_on, stays_on, IsRunning, IsLiving, live, closing, Asked, ask_step, Restarted, IsExclusive}
+use Rattle.batch_engine.proofs.Events.{any-push}
+use Rattle.batch_engine.proofs.Courses.{Course, course_on, stays_on, IsRunning, IsLiving, live, closing, Asked, ask_step, Restarted, IsExclusive}
 use Rattle.batch_engine.proofs.Courses.{open_step, still_asked, still_restarted}
 use Rattle.batch_engine.proofs.Along.{Clock, IsAlong, IsAlongClosed, along_first, along_event, along_on, along_open, along_closed, amid_all, amid_within}
 use Rattle.batch_engine.proofs.Along.{behind_front, run_on, no_fewer, shown_at, BeginsLife, CutBefore, cut_push}

@@ -18,7 +18,8 @@ use Rattle.cqe_base.proofs.Lists.{or_assoc}
 use Rattle.batch_engine.specs.Answers.{is_broken_reply}
 use Rattle.batch_engine.specs.Steps.{Carries, Runs, nothing, more}
 use Rattle.desk_crew.specs.Seats.{DeskSeat}
-use Rattle.batch_engine.proofs.Courses.{IsExclusive, any-push}
+use Rattle.batch_engine.proofs.Events.{any-push}
+use Rattle.batch_engine.proofs.Courses.{IsExclusive}
 use Rattle.batch_engine.proofs.Along.{Clock}
 use Rattle.batch_engine.proofs.Seating.{flat_map-append, names, AreSeated, Next, told_next, Choices, restart_all, Chosen, choose}
 

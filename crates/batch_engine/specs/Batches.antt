@@ -28,6 +28,10 @@ AreShort asks = list_all is_short_ask (asks_in asks) ≡ true
 abbrev pub stretch_in : List BatchAsk → List BatchItem
 stretch_in asks = map asked (asks_in asks)
 
+-- and in one that a restart ends
+abbrev pub ended_in : List BatchAsk → List BatchItem
+ended_in asks = stretch_in asks ++ restarted ∷ []
+
 -- what is to be done in stretches that a restart ended each
 abbrev pub stretches_in : List (Vec BatchAsk Global) → List BatchItem
 stretches_in [] = []

@@ -9,7 +9,7 @@ pub mod Written
 pub mod Posts
 pub mod Lives
 pub mod Batch
-pub mod DeskEnds
 pub mod Steps
+pub mod Stretches
 pub mod AnswerTexts
 pub mod Joining

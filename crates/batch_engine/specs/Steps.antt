@@ -1,6 +1,5 @@
 -- What an item does to the seats, and its line.
-use Rattle.std.specs.Prelude.{◌≡◌, ℕ, Bool, true, false, ◌||◌, List, [], ◌∷◌, ◌++◌, take}
-use Rattle.std.specs.Prelude.{Option, map, if◌then◌else◌}
+use Rattle.std.specs.Prelude.{◌≡◌, ℕ, Bool, false, ◌||◌, List, [], ◌∷◌, ◌++◌, take, Option, map}
 use Rattle.outside.specs.declared.disk.Disk.{Ghosts as DiskGhosts}
 use Rattle.cqe_base.specs.Schema.{DatabaseSchema}
 use Rattle.cqe_base.specs.Facts.{FactSet}
@@ -11,15 +10,13 @@ use Rattle.batch_engine.specs.BatchLines.{BatchItem, asked, restarted}
 use Rattle.desk_crew.specs.Crew.{Tells, AreReopened}
 use Rattle.desk_crew.specs.Seats.{DeskSeat}
 use Rattle.batch_engine.specs.Batch.{IsStretch, StandsBetween}
-use Rattle.batch_engine.specs.DeskEnds.{DeskEnded}
-use Rattle.batch_engine.specs.declared.run.Answered.{Answered}
-use Rattle.batch_engine.specs.declared.run.Answered.TheVariants.{All, Cut, Memory}
-use Rattle.batch_engine.specs.declared.run.Ended.TheVariants.{Again, CutOff, NoMemory}
+use Rattle.batch_engine.specs.declared.closed.Stopped.{Stopped}
+use Rattle.batch_engine.specs.declared.closed.Stopped.TheVariants.{Write, Memory}
+use Rattle.user_desk.specs.declared.standing.DeskError.{DeskError}
 
--- the bytes of a restart's line, where there is one
-abbrev pub restart_bytes : Bool → List ℕ
-restart_bytes true = line_text restart_line ++ 10 ∷ []
-restart_bytes false = []
+-- the bytes of a restart's line
+abbrev pub restart_bytes : List ℕ
+restart_bytes = line_text restart_line ++ 10 ∷ []
 
 module _ (schema : DatabaseSchema) (world : FactSet) (header : List ℕ) {D : Type 0}
     (Disk : DiskGhosts D) where
@@ -34,7 +31,7 @@ module _ (schema : DatabaseSchema) (world : FactSet) (header : List ℕ) {D : Ty
       × (is_broken ≡ is_broken_reply reply)
   Carries restarted old new line is_broken =
       AreReopened schema world header Disk old new
-      × (line ≡ line_text restart_line ++ 10 ∷ []) × (is_broken ≡ false)
+      × (line ≡ restart_bytes) × (is_broken ≡ false)
 
   -- these items were carried out with these lines, one after the other
   pub data Runs {g h : _} : List BatchItem → List (DeskSeat D g h) → List ℕ → List (DeskSeat D g h)
@@ -79,50 +76,22 @@ module _ (schema : DatabaseSchema) (world : FactSet) (header : List ℕ) {D : Ty
       (some : RunsSome wrote items old new before after)
       × ((w : wrote) → (some.appended w).0 ≡ 0)
 
-  -- How items were answered. The disks are back as the seats left them; with the first refusal of
-  -- each seat, where all items were.
+  -- items stopped at a write, or for want of memory
+  abbrev pub RunsUntil : {g h : _} → Stopped → Type 0 → List BatchItem → List (DeskSeat D g h)
+      → List (DeskSeat D g h) → List ℕ → List ℕ → Type 0
+  RunsUntil Write wrote items old new before after = RunsSome wrote items old new before after
+  RunsUntil Memory wrote items old new before after = RunsTo wrote items old new before after
+
+  -- they stopped so, and the disks are back as the seats left them
+  abbrev pub IsStopped : {g h : _} → Type 0 → (List (DeskSeat D g h) → Type 0) → List BatchItem
+      → List (DeskSeat D g h) → List ℕ → List ℕ → Stopped → Type 0
+  IsStopped {g} {h} wrote are_back items old before after why =
+      (new : List (DeskSeat D g h)) × RunsUntil why wrote items old new before after × are_back new
+
+  -- all were answered, and the disks are back; with the first refusal of each seat, and whether
+  -- some line says that an append failed
   abbrev pub IsAnswered : {g h : _} → Type 0 → (List (DeskSeat D g h) → Type 0) → List BatchItem
-      → List (DeskSeat D g h) → List ℕ → List ℕ → Answered → Type 0
-  IsAnswered {g} {h} wrote are_back items old before after (All refusals is_broken) =
+      → List (DeskSeat D g h) → List ℕ → List ℕ → List (Option DeskError) → Bool → Type 0
+  IsAnswered {g} {h} wrote are_back items old before after refusals is_broken =
       (new : List (DeskSeat D g h)) × RunsAll wrote items old new is_broken before after
-      × are_back new × (refusals.items ≡ map (λ seat. seat.refusal) new)
-  IsAnswered {g} {h} wrote are_back items old before after Cut =
-      (new : List (DeskSeat D g h)) × RunsSome wrote items old new before after × are_back new
-  IsAnswered {g} {h} wrote are_back items old before after Memory =
-      (new : List (DeskSeat D g h)) × RunsTo wrote items old new before after × are_back new
-
-  -- the desks were opened again, or they weren't
-  abbrev pub MaybeReopened : {g h : _} → Bool → List (DeskSeat D g h) → List (DeskSeat D g h)
-      → Type 0
-  MaybeReopened true old new = AreReopened schema world header Disk old new
-  MaybeReopened false old new = new ≡ old
-
-  -- How a stretch ended whose lines were still to be written. Once its counters were closed they
-  -- were, and that of the restart; or a write failed, behind the restart or without it; or memory
-  -- was wanting, and none was written, or all but that of the restart, which didn't come.
-  abbrev pub IsEnded : {g h : _} → Type 0 → (List (DeskSeat D g h) → Type 0)
-      → List (DeskSeat D g h) → List ℕ → List ℕ → List ℕ → DeskEnded D g h → Type 0
-  IsEnded wrote are_back old lines before after (Again new) =
-      AreReopened schema world header Disk old new.items
-      × (wrote → after ≡ before ++ (lines ++ restart_bytes true))
-  IsEnded {g} {h} wrote are_back old lines before after CutOff =
-      (is_again : Bool) × (new : List (DeskSeat D g h)) × MaybeReopened is_again old new
-      × are_back new
-      × (wrote → (n : ℕ) × (after ≡ before ++ take n (lines ++ restart_bytes is_again)))
-  IsEnded {g} {h} wrote are_back old lines before after NoMemory =
-      (is_again : Bool) × (new : List (DeskSeat D g h)) × MaybeReopened is_again old new
-      × are_back new × (is_written : Bool)
-      × (wrote → after ≡ before ++ (if is_written then lines else []))
-      × (is_written ≡ true → is_again ≡ false)
-
--- a stretch goes on
-abbrev pub GoesOn : {D : Type 0} {g h : _} → DeskEnded D g h → Type 0
-GoesOn (Again seats) = Unit {0}
-GoesOn CutOff = ⊥
-GoesOn NoMemory = ⊥
-
--- a write failed as it ended
-abbrev pub IsCutOff : {D : Type 0} {g h : _} → DeskEnded D g h → Type 0
-IsCutOff (Again seats) = ⊥
-IsCutOff CutOff = Unit {0}
-IsCutOff NoMemory = ⊥
+      × are_back new × (refusals ≡ map (λ seat. seat.refusal) new)

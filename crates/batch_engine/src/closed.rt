@@ -1,6 +1,6 @@
 //! Lines that are written once the counters of their stretch are closed.
 
-ghost use Rattle.std.specs.Prelude.{◌≡◌, ◌≤◌, List};
+ghost use Rattle.std.specs.Prelude.{◌≡◌, ◌≤◌, List, IsErrOf};
 ghost use Rattle.std.specs.List.{AllByRecursion};
 ghost use Rattle.std.specs.List.Sorted.{IsPermutation};
 ghost use Rattle.outside.specs.Faults.{Rose};
@@ -9,8 +9,9 @@ ghost use Rattle.desk_crew.specs.Crew.{IsSeatAsOpened};
 ghost use Rattle.desk_crew.specs.Registered.{registered_journals};
 ghost use Rattle.batch_engine.specs.Answers.{output_bytes};
 ghost use Rattle.batch_engine.specs.Ordered.{AreNumbered};
-ghost use Rattle.batch_engine.specs.Written.{IsPart, IsWritten};
+ghost use Rattle.batch_engine.specs.Written.{IsWritten};
 ghost use Rattle.batch_engine.specs.declared.answer.Answer.{Answer};
+ghost use Rattle.batch_engine.specs.declared.closed.Stopped.{Stopped};
 
 use crate::answer::Answer;
 use desk_crew::{DeskSeat, Registry};
@@ -19,15 +20,13 @@ use rayon::prelude::*;
 use std::alloc::{AllocError, Global};
 use std::thread::Threads;
 
-/// How the lines of a stretch were written.
+/// Why a batch stopped at a stretch.
 #[derive(Clone, Copy, Debug, PartialEq, Eq)]
-pub(crate) enum Written {
-    /// All were.
-    All,
+pub(crate) enum Stopped {
     /// A write failed.
-    Part,
-    /// Memory was wanting, and none was.
-    Nothing,
+    Write,
+    /// Memory was wanting.
+    Memory,
 }
 
 /// Puts answers in the order of their numbers, and writes their lines.
@@ -36,12 +35,12 @@ fn write_in_order<R: Threads + Sync, K: Sink>(
     alloc: Global,
     answers: &mut Vec<Answer>,
     sink: &mut K,
-) -> Written
+) -> Result<(), Stopped>
     ensures written { K.tells → (all : List Answer) → AreNumbered all
         → IsPermutation all answers.old.items
         → IsWritten (K.written sink.old) (K.written sink.new) (output_bytes all) result }
     ensures later { K.faults sink.old ≤ K.faults sink.new }
-    ensures cause { IsPart result → Rose (K.faults sink.old) (K.faults sink.new) }
+    ensures cause { IsErrOf result Stopped.Write → Rose (K.faults sink.old) (K.faults sink.new) }
 {
     let sorted = par_sort_by_key(
         rt,
@@ -53,11 +52,11 @@ fn write_in_order<R: Threads + Sync, K: Sink>(
     );
     match sorted {
         Ok(()) => (),
-        Err(AllocError) => return Written::Nothing,
+        Err(AllocError) => return Err(Stopped::Memory),
     }
     match write_parts(sink, answers.as_slice()) {
-        Ok(()) => Written::All,
-        Err(Failed) => Written::Part,
+        Ok(()) => Ok(()),
+        Err(Failed) => Err(Stopped::Write),
     }
 }
 
@@ -69,13 +68,13 @@ pub(crate) fn write_again<R: Threads + Sync, D: Disk, K: Sink>(
     answers: Vec<Answer>,
     sink: &mut K,
     seats: &[DeskSeat<'_, D>],
-) -> Written
+) -> Result<(), Stopped>
     requires closed { AllByRecursion IsSeatAsOpened seats.now }
     ensures written { K.tells → (all : List Answer) → AreNumbered all
         → IsPermutation all answers.items
         → IsWritten (K.written sink.old) (K.written sink.new) (output_bytes all) result }
     ensures later { K.faults sink.old ≤ K.faults sink.new }
-    ensures cause { IsPart result → Rose (K.faults sink.old) (K.faults sink.new) }
+    ensures cause { IsErrOf result Stopped.Write → Rose (K.faults sink.old) (K.faults sink.new) }
 {
     let mut answers = answers;
     write_in_order(rt, alloc, &mut answers, sink)
@@ -89,7 +88,7 @@ pub(crate) fn write_behind<R: Threads + Sync, F: Shelf, K: Sink>(
     sink: &mut K,
     registry: &Registry<'_>,
     shelf: &F,
-) -> Written
+) -> Result<(), Stopped>
     requires closed { AllIn
         (registered_journals registry.now.directory.now registry.now.users.now)
         (F.is_out shelf.now) }
@@ -97,7 +96,7 @@ pub(crate) fn write_behind<R: Threads + Sync, F: Shelf, K: Sink>(
         → IsPermutation all answers.items
         → IsWritten (K.written sink.old) (K.written sink.new) (output_bytes all) result }
     ensures later { K.faults sink.old ≤ K.faults sink.new }
-    ensures cause { IsPart result → Rose (K.faults sink.old) (K.faults sink.new) }
+    ensures cause { IsErrOf result Stopped.Write → Rose (K.faults sink.old) (K.faults sink.new) }
 {
     let mut answers = answers;
     write_in_order(rt, alloc, &mut answers, sink)

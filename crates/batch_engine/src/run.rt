@@ -1,33 +1,28 @@
 //! A batch from its first byte to its last line.
 
-ghost use Rattle.std.specs.Prelude.{◌≡◌, ◌<◌, ◌≤◌, [], false, map, length, All, List};
-ghost use Rattle.std.specs.Prelude.{vec_len, vec_capacity};
-ghost use Rattle.std.specs.List.{AllByRecursion};
-ghost use Rattle.std.specs.List.Sorted.{IsPermutation};
+ghost use Rattle.std.specs.Prelude.{◌≡◌, ◌<◌, ◌≤◌, [], map, length, All, vec_len, vec_capacity};
+ghost use Rattle.std.specs.Prelude.{IfOk, IfErr, OnOk, IsErrOf, IfSome, OnSome, IfNone};
 ghost use Rattle.outside.specs.Faults.{Rose};
 ghost use Rattle.outside.specs.Shelf.{SameNames};
-ghost use Rattle.cqe_base.specs.Schema.{has_duplicate};
 ghost use Rattle.line_protocol.specs.Rests.{IsRest};
 ghost use Rattle.log_journal.specs.Opening.{header_bytes};
-ghost use Rattle.desk_crew.specs.Crew.{named_user, seat_name, IsSeatServed};
-ghost use Rattle.outside.specs.Shelf.{AllOut, AllIn, NoneOut, NoneFell, SomeRose, SameBeside};
-ghost use Rattle.desk_crew.specs.Shelved.{journals, journals_on};
-ghost use Rattle.desk_crew.specs.Shelved.{AreLater, AreOwn, AreBack, StaysThere};
-ghost use Rattle.desk_crew.specs.Registered.{AllKeepLimits, SeatsKeepLimits};
-ghost use Rattle.desk_crew.specs.Registered.{registered_journals, HaveOwnNames};
+ghost use Rattle.desk_crew.specs.Crew.{named_user};
+ghost use Rattle.outside.specs.Shelf.{NoneOut, NoneFell, SomeRose, SameBeside};
+ghost use Rattle.desk_crew.specs.Shelved.{journals_on, StaysThere};
+ghost use Rattle.desk_crew.specs.Registered.{AllKeepLimits, registered_journals, HaveOwnNames};
 ghost use Rattle.batch_engine.specs.BatchOf.{items_of};
-ghost use Rattle.batch_engine.specs.Answers.{output_bytes, says_broken};
-ghost use Rattle.batch_engine.specs.Ordered.{AreNumbered};
-ghost use Rattle.batch_engine.specs.Steps.{IsAnswered, IsEnded, GoesOn, IsCutOff};
+ghost use Rattle.batch_engine.specs.Batches.{AreShort, stretch_in, ended_in};
+ghost use Rattle.batch_engine.specs.Answers.{says_broken};
+ghost use Rattle.batch_engine.specs.Stretches.{CanServe, InOrder, AllBack};
+ghost use Rattle.batch_engine.specs.Steps.{RunsAll, IsAnswered, IsStopped};
 ghost use Rattle.batch_engine.specs.Batch.{EndsBatch, LeavesJournals, IsUnopened, IsSilent};
 ghost use Rattle.batch_engine.specs.Batch.{IsBroken, IsDiskRefusal};
-ghost use Rattle.batch_engine.specs.declared.answer.Answer.{Answer};
-ghost use Rattle.batch_engine.specs.declared.run.Answered.{Answered};
+ghost use Rattle.batch_engine.specs.declared.closed.Stopped.{Stopped};
 ghost use Rattle.batch_engine.specs.declared.run.BatchEnd.{BatchEnd};
 
 use crate::answer::{Answer, restarted};
-use crate::batch::Batch;
-use crate::closed::{Written, write_again, write_behind};
+use crate::batch::{Batch, BatchAsk};
+use crate::closed::{Stopped, write_again, write_behind};
 use crate::post::answer_stretch;
 use cqe_base::laws::{law_legal_grows, law_private, law_runs_legal, law_scripts_hide};
 use cqe_base::text::ScriptError;
@@ -62,29 +57,6 @@ pub enum BatchEnd {
     Memory,
 }
 
-/// How the items of a batch were answered. All disks are back.
-#[derive(Drop)]
-enum Answered {
-    /// All were. Of each user there is the first refusal of his journal, if one was; and it says
-    /// whether some line is that an append failed.
-    All(Vec<Option<DeskError>>, bool),
-    /// A write failed.
-    Cut,
-    /// Memory was wanting where a stretch began or ended.
-    Memory,
-}
-
-/// How a stretch ended that a restart ends.
-#[derive(Drop)]
-enum Ended<'w, V: Owned> {
-    /// All journals are open again, and its lines are written.
-    Again(Vec<Seat<'w, V>>),
-    /// A write failed. All disks are back.
-    CutOff,
-    /// Memory was wanting. All disks are back.
-    NoMemory,
-}
-
 /// Whether one of the lines says that an append failed.
 fn says_broken(answers: &[Answer]) -> bool
     ensures { result ≡ says_broken answers.now }
@@ -92,76 +64,175 @@ fn says_broken(answers: &[Answer]) -> bool
     answers.iter().any(|answer| answer.is_broken)
 }
 
-/// Ends a stretch of so many asks: closes its counters and opens all journals again, and only then
-/// writes its lines and that of the restart. Where it doesn't go on, all disks are back.
-fn restart<'w, R: Threads + Sync, F: Shelf, K: Sink>(
+/// What was told in a stretch.
+#[derive(Drop)]
+struct Told<'w, V: Owned> {
+    /// The seats behind it.
+    seats: Vec<Seat<'w, V>>,
+    /// The answers in any order, in a list with room for one more.
+    answers: Vec<Answer>,
+    /// Whether some answer says that an append failed.
+    is_broken: bool,
+}
+
+/// Answers the asks of a stretch. For want of memory none was answered, and all disks are back.
+fn answer_asks<'w, R: Threads + Wait + Sync, G: Gate + Sync, F: Shelf>(
     rt: &R,
     alloc: Global,
     registry: &Registry<'w>,
     workers: u32,
     shelf: &mut F,
     seats: Vec<DeskSeat<'w, F::D>>,
-    answers: Vec<Answer>,
-    count: usize,
-    sink: &mut K,
-) -> Ended<'w, TicketedDesk<'w, F::D>>
+    asks: &[BatchAsk],
+    gate: &G,
+) -> Option<Told<'w, TicketedDesk<'w, F::D>>>
 where
     F::D: Send,
     requires some { 1 ≤ workers }
-    requires limits { SeatsKeepLimits registry.now.schema.now seats.items }
-    requires served { AllByRecursion (IsSeatServed registry.now.schema.now registry.now.world.now
-        (header_bytes registry.now.header.now)) seats.items }
-    requires registered { journals seats.items
-        ≡ registered_journals registry.now.directory.now registry.now.users.now }
-    requires distinct { has_duplicate (journals seats.items) ≡ false }
-    requires out { AllOut (journals seats.items) (F.is_out shelf.old) }
-    requires later { AreLater F.D.faults (F.disk_faults shelf.old) seats.items }
-    requires own { AreOwn F.D.origin (F.lent shelf.old).origin seats.items }
-    requires spare { vec_len answers < vec_capacity answers }
-    ensures ended { (lines : List Answer) → AreNumbered lines
-        → All (λ line. line.number < count) lines → IsPermutation lines answers.items
-        → IsEnded registry.now.schema.now registry.now.world.now
+    requires short { AreShort asks.now }
+    requires can { CanServe registry.now.schema.now registry.now.world.now
+        (header_bytes registry.now.header.now) F.D.Disk
+        (registered_journals registry.now.directory.now registry.now.users.now) seats.items
+        (F.is_out shelf.old) (F.disk_faults shelf.old) (F.lent shelf.old).origin }
+    ensures told { IfSome result (λ told. InOrder registry.now.schema.now registry.now.world.now
+        (header_bytes registry.now.header.now) F.D.Disk (stretch_in asks.now) seats.entry.items
+        told.seats.items told.answers.items told.is_broken) }
+    ensures below { IfSome result (λ told. All (λ line. line.number < length asks.now)
+        told.answers.items) }
+    ensures spare { IfSome result (λ told. vec_len told.answers < vec_capacity told.answers) }
+    ensures can { IfSome result (λ told. CanServe registry.now.schema.now registry.now.world.now
+        (header_bytes registry.now.header.now) F.D.Disk
+        (registered_journals registry.now.directory.now registry.now.users.now) told.seats.items
+        (F.is_out shelf.old) (F.disk_faults shelf.old) (F.lent shelf.old).origin) }
+    ensures untouched { OnSome result (shelf.new ≡ shelf.old) }
+    ensures back { IfNone result (AllBack F.Shelf F.D.Disk shelf.old shelf.new
+        seats.entry.items) }
+    ensures faults { F.faults shelf.new ≡ F.faults shelf.old }
+    ensures files { SameNames (F.file shelf.old) (F.file shelf.new) }
+    ensures looked { F.looked shelf.new ≡ F.looked shelf.old }
+    ensures lent { F.lent shelf.new ≡ F.lent shelf.old }
+{
+    let (seats, answers) = match answer_stretch(rt, alloc, workers, seats, asks, gate) {
+        Ok(told) => told,
+        Err(seats) => {
+            give_back(shelf, seats);
+            return None;
+        }
+    };
+    let is_broken = says_broken(answers.as_slice());
+    Some(Told {
+        seats,
+        answers,
+        is_broken,
+    })
+}
+
+/// Answers a stretch that a restart ends: closes its counters and opens all journals again, and
+/// only then writes its lines and that of the restart. There are the seats behind it, and whether
+/// some line says that an append failed; where it stops, all disks are back.
+fn answer_ended<'w, R: Threads + Wait + Sync, G: Gate + Sync, F: Shelf, K: Sink>(
+    rt: &R,
+    alloc: Global,
+    registry: &Registry<'w>,
+    workers: u32,
+    shelf: &mut F,
+    seats: Vec<DeskSeat<'w, F::D>>,
+    asks: &[BatchAsk],
+    sink: &mut K,
+    gate: &G,
+) -> Result<(Vec<DeskSeat<'w, F::D>>, bool), Stopped>
+where
+    F::D: Send,
+    requires some { 1 ≤ workers }
+    requires short { AreShort asks.now }
+    requires can { CanServe registry.now.schema.now registry.now.world.now
+        (header_bytes registry.now.header.now) F.D.Disk
+        (registered_journals registry.now.directory.now registry.now.users.now) seats.items
+        (F.is_out shelf.old) (F.disk_faults shelf.old) (F.lent shelf.old).origin }
+    ensures again { IfOk result (λ told. RunsAll registry.now.schema.now registry.now.world.now
+        (header_bytes registry.now.header.now) F.D.Disk K.tells (ended_in asks.now)
+        seats.entry.items told.0.items told.1 (K.written sink.old) (K.written sink.new)) }
+    ensures untouched { OnOk result (shelf.new ≡ shelf.old) }
+    ensures stopped { IfErr result (λ why. IsStopped registry.now.schema.now registry.now.world.now
         (header_bytes registry.now.header.now) F.D.Disk K.tells
-        (λ left. AreBack F.tells F.D.Disk (F.disk shelf.new) (F.disk_faults shelf.new) left)
-        seats.entry.items (output_bytes lines) (K.written sink.old) (K.written sink.new) result }
-    ensures untouched { GoesOn result → shelf.new ≡ shelf.old }
-    ensures inside { (GoesOn result → ⊥) → AllIn (journals seats.entry.items) (F.is_out shelf.new) }
-    ensures others_out { SameBeside (journals seats.entry.items) (F.is_out shelf.old)
-        (F.is_out shelf.new) }
-    ensures counts { SameBeside (journals seats.entry.items) (F.disk_faults shelf.old)
-        (F.disk_faults shelf.new) }
-    ensures disks { SameBeside (journals seats.entry.items) (F.disk shelf.old) (F.disk shelf.new) }
+        (λ left. AllBack F.Shelf F.D.Disk shelf.old shelf.new left) (ended_in asks.now)
+        seats.entry.items (K.written sink.old) (K.written sink.new) why) }
     ensures faults { F.faults shelf.new ≡ F.faults shelf.old }
     ensures files { SameNames (F.file shelf.old) (F.file shelf.new) }
     ensures looked { F.looked shelf.new ≡ F.looked shelf.old }
     ensures lent { F.lent shelf.new ≡ F.lent shelf.old }
     ensures sink_later { K.faults sink.old ≤ K.faults sink.new }
-    ensures cause { IsCutOff result → Rose (K.faults sink.old) (K.faults sink.new) }
+    ensures cause { IsErrOf result Stopped.Write → Rose (K.faults sink.old) (K.faults sink.new) }
 {
-    let mut answers = answers;
-    let Some(seats) = reopen_all(rt, alloc, registry, workers as usize, shelf, seats) else {
-        return match write_behind(rt, alloc, answers, sink, registry, shelf) {
-            Written::All => Ended::NoMemory,
-            Written::Part => Ended::CutOff,
-            Written::Nothing => Ended::NoMemory,
-        };
+    let Some(told) = answer_asks(rt, alloc, registry, workers, shelf, seats, asks, gate) else {
+        return Err(Stopped::Memory);
     };
-    answers.push_reserved(restarted(count));
+    let mut answers = told.answers;
+    let Some(seats) = reopen_all(rt, alloc, registry, workers as usize, shelf, told.seats) else {
+        write_behind(rt, alloc, answers, sink, registry, shelf)?;
+        return Err(Stopped::Memory);
+    };
+    answers.push_reserved(restarted(asks.len()));
     match write_again(rt, alloc, answers, sink, seats.as_slice()) {
-        Written::All => Ended::Again(seats),
-        Written::Part => {
+        Ok(()) => Ok((seats, told.is_broken)),
+        Err(why) => {
             give_back(shelf, seats);
-            Ended::CutOff
-        }
-        Written::Nothing => {
-            give_back(shelf, seats);
-            Ended::NoMemory
+            Err(why)
         }
     }
 }
 
-/// Answers the items of a batch, stretch by stretch, the users of a stretch side by side. The lines
-/// of a stretch are written once its counters are closed. All disks are given back.
+/// Answers the last stretch: gives all disks back, and only then writes its lines. There is of each
+/// user the first refusal of his journal, if one was, and whether some line says that an append
+/// failed.
+fn answer_last<'w, R: Threads + Wait + Sync, G: Gate + Sync, F: Shelf, K: Sink>(
+    rt: &R,
+    alloc: Global,
+    registry: &Registry<'w>,
+    workers: u32,
+    shelf: &mut F,
+    seats: Vec<DeskSeat<'w, F::D>>,
+    asks: &[BatchAsk],
+    room: Vec<Option<DeskError>>,
+    sink: &mut K,
+    gate: &G,
+) -> Result<(Vec<Option<DeskError>>, bool), Stopped>
+where
+    F::D: Send,
+    requires some { 1 ≤ workers }
+    requires short { AreShort asks.now }
+    requires can { CanServe registry.now.schema.now registry.now.world.now
+        (header_bytes registry.now.header.now) F.D.Disk
+        (registered_journals registry.now.directory.now registry.now.users.now) seats.items
+        (F.is_out shelf.old) (F.disk_faults shelf.old) (F.lent shelf.old).origin }
+    requires empty { room.items ≡ [] }
+    requires refusals { length seats.items ≤ vec_capacity room }
+    ensures answered { IfOk result (λ told. IsAnswered registry.now.schema.now
+        registry.now.world.now (header_bytes registry.now.header.now) F.D.Disk K.tells
+        (λ left. AllBack F.Shelf F.D.Disk shelf.old shelf.new left) (stretch_in asks.now)
+        seats.entry.items (K.written sink.old) (K.written sink.new) told.0.items told.1) }
+    ensures stopped { IfErr result (λ why. IsStopped registry.now.schema.now registry.now.world.now
+        (header_bytes registry.now.header.now) F.D.Disk K.tells
+        (λ left. AllBack F.Shelf F.D.Disk shelf.old shelf.new left) (stretch_in asks.now)
+        seats.entry.items (K.written sink.old) (K.written sink.new) why) }
+    ensures faults { F.faults shelf.new ≡ F.faults shelf.old }
+    ensures files { SameNames (F.file shelf.old) (F.file shelf.new) }
+    ensures looked { F.looked shelf.new ≡ F.looked shelf.old }
+    ensures lent { F.lent shelf.new ≡ F.lent shelf.old }
+    ensures sink_later { K.faults sink.old ≤ K.faults sink.new }
+    ensures cause { IsErrOf result Stopped.Write → Rose (K.faults sink.old) (K.faults sink.new) }
+{
+    let Some(told) = answer_asks(rt, alloc, registry, workers, shelf, seats, asks, gate) else {
+        return Err(Stopped::Memory);
+    };
+    let refusals = refusals_of(room, told.seats.as_slice());
+    give_back(shelf, told.seats);
+    write_behind(rt, alloc, told.answers, sink, registry, shelf)?;
+    Ok((refusals, told.is_broken))
+}
+
+/// Answers the items of a batch, stretch by stretch, the users of a stretch side by side. All disks
+/// are given back.
 fn answer_all<'w, R: Threads + Wait + Sync, G: Gate + Sync, F: Shelf, K: Sink>(
     rt: &R,
     alloc: Global,
@@ -173,84 +244,44 @@ fn answer_all<'w, R: Threads + Wait + Sync, G: Gate + Sync, F: Shelf, K: Sink>(
     room: Vec<Option<DeskError>>,
     sink: &mut K,
     gate: &G,
-) -> Answered
+) -> Result<(Vec<Option<DeskError>>, bool), Stopped>
 where
     F::D: Send,
     requires some { 1 ≤ workers }
-    requires limits { SeatsKeepLimits registry.now.schema.now seats.items }
-    requires served { AllByRecursion (IsSeatServed registry.now.schema.now registry.now.world.now
-        (header_bytes registry.now.header.now)) seats.items }
-    requires names { has_duplicate (map seat_name seats.items) ≡ false }
-    requires registered { journals seats.items
-        ≡ registered_journals registry.now.directory.now registry.now.users.now }
-    requires distinct { has_duplicate (journals seats.items) ≡ false }
-    requires out { AllOut (journals seats.items) (F.is_out shelf.old) }
-    requires later { AreLater F.D.faults (F.disk_faults shelf.old) seats.items }
-    requires own { AreOwn F.D.origin (F.lent shelf.old).origin seats.items }
+    requires can { CanServe registry.now.schema.now registry.now.world.now
+        (header_bytes registry.now.header.now) F.D.Disk
+        (registered_journals registry.now.directory.now registry.now.users.now) seats.items
+        (F.is_out shelf.old) (F.disk_faults shelf.old) (F.lent shelf.old).origin }
     requires empty { room.items ≡ [] }
     requires refusals { length seats.items ≤ vec_capacity room }
-    ensures answered { IsAnswered registry.now.schema.now registry.now.world.now
+    ensures answered { IfOk result (λ told. IsAnswered registry.now.schema.now
+        registry.now.world.now (header_bytes registry.now.header.now) F.D.Disk K.tells
+        (λ left. AllBack F.Shelf F.D.Disk shelf.old shelf.new left) (items_of batch.now)
+        seats.entry.items (K.written sink.old) (K.written sink.new) told.0.items told.1) }
+    ensures stopped { IfErr result (λ why. IsStopped registry.now.schema.now registry.now.world.now
         (header_bytes registry.now.header.now) F.D.Disk K.tells
-        (λ left. AreBack F.tells F.D.Disk (F.disk shelf.new) (F.disk_faults shelf.new) left)
-        (items_of batch.now) seats.entry.items (K.written sink.old) (K.written sink.new) result }
-    ensures inside { AllIn (journals seats.entry.items) (F.is_out shelf.new) }
-    ensures others_out { SameBeside (journals seats.entry.items) (F.is_out shelf.old)
-        (F.is_out shelf.new) }
-    ensures counts { SameBeside (journals seats.entry.items) (F.disk_faults shelf.old)
-        (F.disk_faults shelf.new) }
-    ensures disks { SameBeside (journals seats.entry.items) (F.disk shelf.old) (F.disk shelf.new) }
+        (λ left. AllBack F.Shelf F.D.Disk shelf.old shelf.new left) (items_of batch.now)
+        seats.entry.items (K.written sink.old) (K.written sink.new) why) }
     ensures faults { F.faults shelf.new ≡ F.faults shelf.old }
     ensures files { SameNames (F.file shelf.old) (F.file shelf.new) }
     ensures looked { F.looked shelf.new ≡ F.looked shelf.old }
     ensures lent { F.lent shelf.new ≡ F.lent shelf.old }
     ensures sink_later { K.faults sink.old ≤ K.faults sink.new }
-    ensures cause { result ≡ Answered.Cut → Rose (K.faults sink.old) (K.faults sink.new) }
+    ensures cause { IsErrOf result Stopped.Write → Rose (K.faults sink.old) (K.faults sink.new) }
 {
     let mut seats = seats;
     let mut is_broken = false;
     for asks in batch.ended() {
         let asks = asks.as_slice();
-        let (told, answers) = match answer_stretch(rt, alloc, workers, seats, asks, gate) {
-            Ok(told) => told,
-            Err(seats) => {
-                give_back(shelf, seats);
-                return Answered::Memory;
-            }
-        };
-        let says_broken = says_broken(answers.as_slice());
-        is_broken = is_broken || says_broken;
-        match restart(
-            rt,
-            alloc,
-            registry,
-            workers,
-            shelf,
-            told,
-            answers,
-            asks.len(),
-            sink,
-        ) {
-            Ended::Again(next) => seats = next,
-            Ended::CutOff => return Answered::Cut,
-            Ended::NoMemory => return Answered::Memory,
-        }
+        let told = answer_ended(rt, alloc, registry, workers, shelf, seats, asks, sink, gate)?;
+        seats = told.0;
+        is_broken |= told.1;
     }
-    let (told, answers) = match answer_stretch(rt, alloc, workers, seats, batch.last(), gate) {
-        Ok(told) => told,
-        Err(seats) => {
-            give_back(shelf, seats);
-            return Answered::Memory;
-        }
-    };
-    let says_broken = says_broken(answers.as_slice());
-    let is_broken = is_broken || says_broken;
-    let refusals = refusals_of(room, told.as_slice());
-    give_back(shelf, told);
-    match write_behind(rt, alloc, answers, sink, registry, shelf) {
-        Written::All => Answered::All(refusals, is_broken),
-        Written::Part => Answered::Cut,
-        Written::Nothing => Answered::Memory,
-    }
+    let asks = batch.last();
+    let last = answer_last(
+        rt, alloc, registry, workers, shelf, seats, asks, room, sink, gate,
+    )?;
+    Ok((last.0, is_broken | last.1))
 }
 
 /// Reads the whole script of a batch from the source, refuses it before the first ask, or opens the
@@ -349,8 +380,8 @@ where
     match answer_all(
         rt, alloc, registry, workers, shelf, seats, &batch, room, sink, gate,
     ) {
-        Answered::All(refusals, is_broken) => BatchEnd::Done(refusals, is_broken),
-        Answered::Cut => BatchEnd::WriteFault,
-        Answered::Memory => BatchEnd::Memory,
+        Ok(told) => BatchEnd::Done(told.0, told.1),
+        Err(Stopped::Write) => BatchEnd::WriteFault,
+        Err(Stopped::Memory) => BatchEnd::Memory,
     }
 }

@@ -8,7 +8,7 @@ use Rattle.std.proofs.lemmas.List.Sums.{sum_by-append}
 use Rattle.std.proofs.lemmas.List.Elements.{All-head, All-tail, All-from_recursion}
 use Rattle.outside.proofs.Rises.{rose_wide}
 use Rattle.outside.proofs.Taken.{taken_reads, taken_images, Rests, taken_rests, began_rests}
-use Rattle.outside.specs.Shelf.{bytes_on, image_on, since_on}
+use Rattle.outside.specs.Shelf.{SomeRose, bytes_on, image_on, since_on}
 use Rattle.outside.specs.Disk.{Elapses}
 use Rattle.outside.specs.declared.disk.Disk.{Ghosts as DiskGhosts}
 use Rattle.outside.specs.Visits.{Visit, one_if_any}
@@ -48,18 +48,20 @@ use Rattle.desk_crew.specs.Registered.{registered_journals}
 use Rattle.desk_crew.proofs.Giving.{CanGive, AreGiven, AllReturned}
 use Rattle.desk_crew.proofs.Taking.{AllSeated, seats_can, all_returned}
 use Rattle.desk_crew.proofs.Lasting.{taken_moment, holds_within, stands_along}
+use Rattle.desk_crew.proofs.Rising.{some_rose, any_failed}
 use Rattle.session_core.specs.Members.{AreDesksOf, HasSeenLegal, HaveSeenLegal}
 use Rattle.session_core.proofs.Replying.{last_none}
-use Rattle.serve_engine.specs.Served.{member_broke, SessionMarks, entries_told, failures_told, items_told}
+use Rattle.serve_engine.specs.Served.{Served, member_broke, SessionMarks, entries_told, failures_told, items_told}
 use Rattle.serve_engine.specs.Members.{OwnMore, own_at}
 use Rattle.serve_engine.specs.Doors.{AreServedDoors, SomeFailed, HasOutcome}
 use Rattle.serve_engine.specs.Serving.{HasServed, HaveServed, AreAllTold, ServesDoors, EndsDoors, IsDone, IsBroken, end_of}
 use Rattle.serve_engine.specs.declared.serving.Outcome.{Outcome}
 use Rattle.serve_engine.specs.declared.serving.Outcome.TheVariants as outcome
 use Rattle.serve_engine.specs.declared.run.ServeEnd.TheVariants.{LinksFault}
+use Rattle.serve_engine.proofs.Apart.{served_still, apart_own}
 use Rattle.serve_engine.proofs.Owning.{own_weight, told_weight, weigh_more}
 use Rattle.serve_engine.proofs.Weighing.{kept_weight, failed_weight, kept_pairs_weigh, none_failed, failed_last, kept_told, failed_told}
-use Rattle.serve_engine.specs.Sharing.{seat_counter, seat_pass, seat_member, IsSeatOn, AreSeatsOn, AreAllIn}
+use Rattle.serve_engine.specs.Sharing.{seat_counter, seat_pass, seat_member, IsSeatOn, AreSeatsOn, AreAllIn, IsServedAt}
 
 module _ (schema : DatabaseSchema) (world : FactSet) (user : UserProfile) (header bytes : List ℕ) (T : Type 0) (t : T) where
   -- a cause that is told is one for all, and a count that rose within a longer time rose in it
@@ -262,7 +264,7 @@ module _ (schema : DatabaseSchema) (world : FactSet) (header directory : List �
         }
 
     -- all users
-    pub have_served : (users : List User) (olds news : List (DeskSeat D g h)) → All (λ user. KeepsLimits schema (profile_of user)) users
+    have_served : (users : List User) (olds news : List (DeskSeat D g h)) → All (λ user. KeepsLimits schema (profile_of user)) users
         → AreSeatsOf S Disk schema world header directory disk count users olds → AreSeatsOn olds news
         → AreBack S Disk disk' count' news
         → HaveServed schema world header (journals_by Disk.reads Disk.image Disk.moment Disk.image_since Disk.tellable directory disk disk' count count') users
@@ -284,7 +286,7 @@ module _ (schema : DatabaseSchema) (world : FactSet) (header directory : List �
     OwnFrom place seats = (weight : TurnItem → ℕ) (k : ℕ) → own_weight weight k (map seat_pass seats) ≡ told_weight weight (place + k) told
 
     -- as they do from the first place on, where they had nothing as the seats were opened
-    pub own_from : (olds news : List (DeskSeat D g h)) → ((weight : TurnItem → ℕ) (k : ℕ) → own_weight weight k (map seat_pass olds) ≡ 0)
+    own_from : (olds news : List (DeskSeat D g h)) → ((weight : TurnItem → ℕ) (k : ℕ) → own_weight weight k (map seat_pass olds) ≡ 0)
         → OwnMore (map seat_pass olds) (map seat_pass news) told → OwnFrom 0 news
     own_from olds news none more weight k =
         let before = none weight k in
@@ -327,7 +329,7 @@ module _ (schema : DatabaseSchema) (world : FactSet) (header directory : List �
           omega (arith, all, now, was, marks, more)
 
     -- so behind each user's opening history there is what he was told
-    pub all_told : (place : ℕ) (users : List User) (olds news : List (DeskSeat D g h))
+    all_told : (place : ℕ) (users : List User) (olds news : List (DeskSeat D g h))
         → AreSeatsOf S Disk schema world header directory disk count users olds → AreSeatsOn olds news
         → AreBack S Disk disk' count' news
         → OwnFrom place news → AreAllTold place (map seat_member news) told
@@ -346,7 +348,7 @@ module _ (schema : DatabaseSchema) (world : FactSet) (header directory : List �
     all_told place (user ∷ users) (old ∷ olds) [] opened on back own = absurd on
 
   -- all desks are in the one world
-  pub all_in_world : (users : List User) (olds news : List (DeskSeat D g h))
+  all_in_world : (users : List User) (olds news : List (DeskSeat D g h))
       → AreSeatsOf S Disk schema world header directory disk count users olds → AreSeatsOn olds news → AreAllIn schema world news
   all_in_world [] [] [] opened on = tt
   all_in_world (user ∷ users) (old ∷ olds) (new ∷ news) opened on =
@@ -362,7 +364,7 @@ module _ (schema : DatabaseSchema) (world : FactSet) (header directory : List �
 
 module _ {D : Type 0} {g h : _} where
   -- whether an append failed at one of the seats is whether one failed for one of the users
-  pub broke_at : (seats : List (DeskSeat D g h)) → list_any seat_broke seats ≡ list_any member_broke (map seat_member seats)
+  broke_at : (seats : List (DeskSeat D g h)) → list_any seat_broke seats ≡ list_any member_broke (map seat_member seats)
   broke_at [] = refl
   broke_at (seat ∷ seats) = ap (λ b. seat_broke seat || b) (broke_at seats)
 
@@ -483,7 +485,7 @@ broken_end outcome.Memory refusals is_broken is = absurd is
 module _ (schema : DatabaseSchema) (world : FactSet) (header : List ℕ) (journals : Journals) (users : List User) {O S K : Type 0} (Door : DoorGhosts O S K)
     (doors doors' : List O) where
   -- each end of desks that were opened
-  pub ends_at : (went : Outcome) (refusals : Vec (Option DeskError) Global) (is_broken : Bool)
+  ends_at : (went : Outcome) (refusals : Vec (Option DeskError) Global) (is_broken : Bool)
       (serves : ServesDoors schema world header journals users Door doors doors' refusals.items is_broken) (limit : ℕ)
       → HasOutcome Door limit went serves.total doors'
       → EndsDoors schema world header journals users Door doors doors' (end_of went refusals is_broken)
@@ -572,7 +574,6 @@ pub record AreReady {D : Type 0} {g h : _} (users : List User) (seats : List (De
   pub legal : HaveSeenLegal (map seat_kept seats) (map seat_pass seats)
   pub fresh : All IsSeatAsOpened seats
   pub turns_are : All (λ (seat : DeskSeat D g h). turns (seat_pass seat) ≡ 65 * 2 ^ 57) seats
-  pub own : All (λ (seat : DeskSeat D g h). mine (seat_pass seat) ≡ []) seats
 
 module _ {directory : Text} {schema : DatabaseSchema} {world : FactSet} {header : List ℕ} {D : Type 0} {g h : _} {told : Type 0} {Disk : DiskGhosts D}
     {users : List User} {seats : List (DeskSeat D g h)} {disk disk' : Text → Option D} {is_out' : Text → Bool} {count count' : Text → ℕ}
@@ -583,7 +584,6 @@ module _ {directory : Text} {schema : DatabaseSchema} {world : FactSet} {header 
     legal = seats_legal told Disk schema world header directory disk count valid users seats limits seated.are;
     fresh = seats_fresh told Disk schema world header directory disk count users seats seated.are;
     turns_are = seats_turns told Disk schema world header directory disk count users seats seated.are;
-    own = seats_own told Disk schema world header directory disk count users seats seated.are;
   }
 
   module _ (news : List (DeskSeat D g h)) (on : AreSeatsOn seats news) where
@@ -596,3 +596,41 @@ module _ {directory : Text} {schema : DatabaseSchema} {world : FactSet} {header 
         → AreGiven told Disk news disk' disk'' is_out' is_out'' count' count''
         → AllReturned (registered_journals directory users) disk disk'' is_out'' count count''
     served_returned given = all_returned seated news (journals_on_same seats news on) (later_on_seats Disk.faults count' seats news on seated.later) given
+
+    -- where an append to one of them failed, the count of a disk rose
+    pub served_rose : (disk'' : Text → Option D) (count'' : Text → ℕ) → AreBack told Disk disk'' count'' news → list_any seat_broke news ≡ true
+        → SomeRose count count''
+    served_rose disk'' count'' back broke =
+        some_rose told Disk count count'' disk'' news (later_on_seats Disk.faults count seats news on seated.first) back
+        (any_failed told Disk count count'' disk'' news broke)
+
+    -- each user's history is told whole, and each connection of the doors was served by one of them
+    pub served_ends : (s : told) (t : Disk.tells) (read_is_image : (d : D) → Disk.tells → Disk.image d (Disk.reads d)) (disk'' : Text → Option D)
+        (count'' : Text → ℕ) → AreBack told Disk disk'' count'' news → is_valid_schema schema ≡ true → LegalHistoriesHide
+        → All (λ user. KeepsLimits schema (profile_of user)) users → {O S K : Type 0} (Door : DoorGhosts O S K) (doors others : List O) (went : Outcome)
+        (refusals : Vec (Option DeskError) Global) (is_broken : Bool) (limit : ℕ) → refusals.items ≡ map (λ (seat : DeskSeat D g h). seat.refusal) seats
+        → is_broken ≡ list_any seat_broke news → (total : ℕ) (marks : Door.tells → List SessionMarks)
+        → AreServedDoors Door (IsServedAt users news) total marks doors others → HasOutcome Door limit went total others
+        → ((u : Door.tells) → OwnMore (map seat_pass seats) (map seat_pass news) (marks u))
+        → EndsDoors schema world header (journals_by Disk.reads Disk.image Disk.moment Disk.image_since Disk.tellable directory disk disk'' count count'') users
+        Door doors others (end_of went refusals is_broken)
+    served_ends s t read_is_image disk'' count'' back valid hide limits Door doors others went refusals is_broken limit refused broke total marks served has
+        more =
+        let journals = journals_by Disk.reads Disk.image Disk.moment Disk.image_since Disk.tellable directory disk disk'' count count'' in
+        ends_at schema world header journals users Door doors others went refusals is_broken
+        (record {
+          members = map seat_member news;
+          each_user = subst (HaveServed schema world header journals users (map seat_member news)) (sym refused)
+              (have_served schema world header directory told s Disk t read_is_image disk disk'' count count'' valid hide users seats news limits seated.are on
+              back);
+          broken_is = broke ∙ broke_at news;
+          total = total;
+          marks = marks;
+          served = served_still Door (IsServedAt users news) (Served schema world users (map seat_member news))
+              (λ visit said is. is schema world
+              (all_in_world schema world header directory told s Disk t read_is_image disk disk'' count count'' users seats news seated.are on))
+              total marks doors others served;
+          all_told = λ u. all_told schema world header directory told s Disk t read_is_image disk disk'' count count'' (marks u) 0 users seats news seated.are
+              on back (own_from schema world header directory told s Disk t read_is_image disk disk'' count count'' (marks u) seats news
+              (apart_own seats (seats_own told Disk schema world header directory disk count users seats seated.are)) (more u));
+        }) limit has

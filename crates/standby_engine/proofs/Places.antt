@@ -34,22 +34,22 @@ zip_parts R f h (x ∷ xs) ys zs are =
     let rest = zip_parts R f h xs ys zs are.1 in
     ((are.0, rest.0), rest.1)
 
+-- ---- disks under their names
+
 -- what stands under a name reads as before, and no crash leaves anything new of it, at no moment either
-abbrev pub Same : {D : Type 0} → DiskGhosts D → (Text → Option D) → (Text → Option D) → Text → Type 0
-Same Disk old new name =
+abbrev pub StaysUnder : {D : Type 0} → DiskGhosts D → (Text → Option D) → (Text → Option D) → Text → Type 0
+StaysUnder Disk old new name =
     (bytes_on Disk.reads (new name) ≡ bytes_on Disk.reads (old name)) × ((c : List ℕ) → image_on Disk.image (new name) c → image_on Disk.image (old name) c)
     × NoNewSince Disk.moment Disk.image_since Disk.image (old name) (new name)
 
 -- behind a refusal all disks are on the shelf, as they were
-pub record AreUnopened {D : Type 0} (told : Type 0) (Disk : DiskGhosts D) (names : List Text) (disk disk' : Text → Option D) (is_out' : Text → Bool)
+pub record NoneOpened {D : Type 0} (told : Type 0) (Disk : DiskGhosts D) (names : List Text) (disk disk' : Text → Option D) (is_out' : Text → Bool)
     (count count' : Text → ℕ) : Type 0 where
   pub inside : NoneOut is_out'
-  pub same : told → (name : Text) → Same Disk disk disk' name
+  pub same : told → (name : Text) → StaysUnder Disk disk disk' name
   pub disks : SameBeside names disk disk'
   pub counts : NoneFell count count'
   pub other_counts : SameBeside names count count'
-
--- ---- disks under their names
 
 module _ {D : Type 0} (told : Type 0) (Disk : DiskGhosts D) where
   -- a disk is under a name
@@ -79,7 +79,7 @@ module _ {D : Type 0} (told : Type 0) (Disk : DiskGhosts D) where
 
   -- what stands under a name is the same behind a call that leaves it, and before another
   same_through : (first old mid new : Text → Option D) (name : Text) → old name ≡ first name → AllStay Disk old mid → new name ≡ mid name
-      → Same Disk first new name
+      → StaysUnder Disk first new name
   same_through first old mid new name before stays behind = (
     ap (bytes_on Disk.reads) behind ∙ stays.0 name ∙ ap (bytes_on Disk.reads) before,
     λ c here. subst (λ o. image_on Disk.image o c) before (stays.1 name c (subst (λ o. image_on Disk.image o c) behind here)),
@@ -105,7 +105,7 @@ module _ (directory header : List ℕ) {D : Type 0} {g : _} (told : Type 0) (Dis
   -- a disk that was only read is as it was taken
   pub same_under : told → (disk' : Text → Option D) (count' : Text → ℕ) (journal name : Text) (p : Place D g)
       → IsPlaceUnder told Disk header disk0 count0 journal name p → IsUnder told Disk disk' count' (place_journal p) (place_disk p)
-      → Same Disk disk0 disk' journal
+      → StaysUnder Disk disk0 disk' journal
   same_under t disk' count' journal name p is under = (
     ap (bytes_on Disk.reads) held ∙ is.only.reads ∙ taken_reads Disk.reads Disk.image (disk0 journal) is.taken (is.from t),
     λ c here. taken_images Disk.reads Disk.image (disk0 journal) is.taken c (is.from t)
@@ -118,12 +118,12 @@ module _ (directory header : List ℕ) {D : Type 0} {g : _} (told : Type 0) (Dis
 
   same_each : told → (disk' : Text → Option D) (count' : Text → ℕ) (users : List User) (places : List (Place D g)) → Placed users places
       → AllByRecursion (λ (p : Place D g). IsUnder told Disk disk' count' (place_journal p) (place_disk p)) places
-      → AllByRecursion (λ (p : Place D g). Same Disk disk0 disk' (place_journal p)) places
+      → AllByRecursion (λ (p : Place D g). StaysUnder Disk disk0 disk' (place_journal p)) places
   same_each t disk' count' [] [] are under = tt
   same_each t disk' count' [] (p ∷ places) are under = absurd are
   same_each t disk' count' (u ∷ users) [] are under = absurd are
   same_each t disk' count' (u ∷ users) (p ∷ places) are under = (
-    subst (Same Disk disk0 disk') (sym are.0.journal_is)
+    subst (StaysUnder Disk disk0 disk') (sym are.0.journal_is)
         (same_under t disk' count' (journal_name directory (string_bytes u.name)) (string_bytes u.name) p are.0 under.0),
     same_each t disk' count' users places are.1 under.1,
   )
@@ -266,13 +266,13 @@ module _ (directory header : List ℕ) {D : Type 0} {g : _} (told : Type 0) (Dis
           (is_out' is_out'' : Text → Bool) (count' count'' : Text → ℕ) → StaysBut told Disk one disk disk' is_out is_out' count count'
           → (all : List (Back D)) → map given_journal all ≡ map place_journal places → map (λ (b : Back D). b.disk) all ≡ map place_disk places
           → AreReturned given_journal (IsGiven told Disk) all disk' disk'' is_out' is_out'' count' count''
-          → AreUnopened told Disk (registered_journals directory users) disk0 disk'' is_out'' count0 count''
+          → NoneOpened told Disk (registered_journals directory users) disk0 disk'' is_out'' count0 count''
       opening_back only_now disk' disk'' is_out' is_out'' count' count'' stays all names_are disks_are given = record {
         inside = none_out (map place_journal places) is_out' is_out'' (λ name. stays.out name ∙ so_far.out name)
             (subst (λ l. AllIn l is_out'') names_are given.inside) (subst (λ l. SameBeside l is_out' is_out'') names_are given.others_out);
         same = λ t.
-            by_among (Same Disk disk0 disk'') (map place_journal places)
-            (at_names place_journal (Same Disk disk0 disk'') places (same_each t disk'' count'' (take i users) places so_far.are under))
+            by_among (StaysUnder Disk disk0 disk'') (map place_journal places)
+            (at_names place_journal (StaysUnder Disk disk0 disk'') places (same_each t disk'' count'' (take i users) places so_far.are under))
             (λ name none. same_through told Disk disk0 disk disk' disk'' name (so_far.disks name none) (stays.same t) (disks name none));
         disks = λ name none. disks name (opening_beside name none) ∙ stays.disks name (next_beside name none)
             ∙ so_far.disks name (opening_beside name none);

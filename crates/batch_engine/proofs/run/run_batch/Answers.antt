@@ -5,16 +5,16 @@ use Rattle.batch_engine.specs.BatchOf.{items_of}
 use Rattle.desk_crew.specs.Crew.{named_user}
 use Rattle.desk_crew.specs.Registered.{registered_journals}
 use Rattle.desk_crew.specs.Shelved.{journals_on, KeepsJournals}
-use Rattle.outside.specs.Shelf.{AllIn, SameBeside}
 use Rattle.cqe_base.specs.Schema.{Text, has_duplicate}
+use Rattle.batch_engine.specs.Stretches.{AllBack}
 use Rattle.batch_engine.proofs.Posts.{named_so}
-use Rattle.batch_engine.proofs.Running.{Stay, stay_run, runs_then}
-use Rattle.batch_engine.proofs.Failing.{run_broken, all_weaker}
+use Rattle.batch_engine.proofs.Running.{Stay, left_behind}
+use Rattle.batch_engine.proofs.Failing.{broken_rose}
 use Rattle.batch_engine.proofs.Faulting.{faulted_run}
-use Rattle.desk_crew.proofs.Lasting.{keeps_same, keeps_all}
-use Rattle.desk_crew.proofs.Rising.{some_rose}
 use Rattle.desk_crew.proofs.Faulting.{first_faulted}
-use Rattle.desk_crew.specs.Shelved.{AreBack, StaysThere}
+use Rattle.desk_crew.proofs.Lasting.{keeps_same, keeps_all}
+use Rattle.outside.specs.Shelf.{SameBeside}
+use Rattle.desk_crew.specs.Shelved.{StaysThere}
 use Rattle.desk_crew.proofs.Hearing.{there_first, all_there}
 use Rattle.desk_crew.proofs.Giving.{AllReturned}
 use Rattle.desk_crew.proofs.Taking.{seats_limits, AllSeated, all_seated, all_returned}
@@ -71,22 +71,16 @@ pub returns-in_default-clause-there : goal.returns-in_default-clause-there
 returns-in_default-clause-there g c = λ shelf_told tells name there. there
 
 -- and where an opening was given up
-pub returns-in-Err-Shelf-clause-ends : goal.returns-in-Err-Shelf-clause-ends
-returns-in-Err-Shelf-clause-ends g c = λ shelf_told source_told sink_told. (
-  (c.in-Whole.ensures.reads source_told).1,
-  (
-    refl,
-    keeps_all g.F.D.Disk c.args.registry.now.directory.now (g.F.Shelf.disk c.args.shelf.now) (g.F.Shelf.disk c.open_all.new.shelf)
-        (g.F.Shelf.disk_faults c.args.shelf.now) (g.F.Shelf.disk_faults c.open_all.new.shelf) (c.in-Err-Shelf.ensures.refused_bytes shelf_told)
-        (c.in-Err-Shelf.ensures.refused_images shelf_told) (c.in-Err-Shelf.ensures.refused_moments shelf_told),
-  ),
-)
-
 pub returns-in-Err-Shelf-clause-journals : goal.returns-in-Err-Shelf-clause-journals
 returns-in-Err-Shelf-clause-journals g c = λ shelf_told.
     keeps_all g.F.D.Disk c.args.registry.now.directory.now (g.F.Shelf.disk c.args.shelf.now) (g.F.Shelf.disk c.open_all.new.shelf)
     (g.F.Shelf.disk_faults c.args.shelf.now) (g.F.Shelf.disk_faults c.open_all.new.shelf) (c.in-Err-Shelf.ensures.refused_bytes shelf_told)
     (c.in-Err-Shelf.ensures.refused_images shelf_told) (c.in-Err-Shelf.ensures.refused_moments shelf_told)
+
+pub returns-in-Err-Shelf-clause-ends : goal.returns-in-Err-Shelf-clause-ends
+unfolding returns-in-Err-Shelf-clause-journals
+returns-in-Err-Shelf-clause-ends g c = λ shelf_told source_told sink_told.
+    ((c.in-Whole.ensures.reads source_told).1, (refl, returns-in-Err-Shelf-clause-journals g c shelf_told))
 
 pub returns-in-Err-Memory-clause-ends : goal.returns-in-Err-Memory-clause-ends
 returns-in-Err-Memory-clause-ends g c = λ shelf_told source_told sink_told.
@@ -137,34 +131,25 @@ ending g c told after =
     c.law_legal_grows.ensures.empty c.law_runs_legal.ensures c.law_scripts_hide.ensures c.law_private.ensures c.known.ensures c.args.registry.now.users.now
     c.requires.limits c.requires.names c.in-Ok-open_all.seats.items c.in-Ok-open_all.ensures.opened
 
-pub answer_all-requires-clause-limits : goal.answer_all-requires-clause-limits
-answer_all-requires-clause-limits g c κs within =
-    seats_limits c.args.registry.now.directory.now c.args.registry.now.schema.now c.args.registry.now.world.now
-    (header_bytes c.args.registry.now.header.now) g.F.Shelf.tells g.F.D.Disk (g.F.Shelf.disk c.args.shelf.now)
-    (g.F.Shelf.disk_faults c.args.shelf.now) c.args.registry.now.users.now c.in-Ok-open_all.seats.items c.in-Ok-open_all.ensures.opened
-    (all_of _ c.args.registry.now.users.now c.requires.limits)
-
-pub answer_all-requires-clause-served : goal.answer_all-requires-clause-served
-answer_all-requires-clause-served g c κs within = (seated g (goal.at.answer_all-requires-clause-served g c).In-Ok-open_all).served
-
-pub answer_all-requires-clause-registered : goal.answer_all-requires-clause-registered
-answer_all-requires-clause-registered g c κs within = (seated g (goal.at.answer_all-requires-clause-registered g c).In-Ok-open_all).journals_are
-
-pub answer_all-requires-clause-distinct : goal.answer_all-requires-clause-distinct
-answer_all-requires-clause-distinct g c κs within = (seated g (goal.at.answer_all-requires-clause-distinct g c).In-Ok-open_all).distinct
-
-pub answer_all-requires-clause-later : goal.answer_all-requires-clause-later
-answer_all-requires-clause-later g c κs within = (seated g (goal.at.answer_all-requires-clause-later g c).In-Ok-open_all).later
-
-pub answer_all-requires-clause-own : goal.answer_all-requires-clause-own
-answer_all-requires-clause-own g c κs within = c.in-Ok-open_all.ensures.own
-
-pub answer_all-requires-clause-names : goal.answer_all-requires-clause-names
-answer_all-requires-clause-names g c κs within =
-    ap has_duplicate (named_so c.args.registry.now.directory.now c.args.registry.now.schema.now c.args.registry.now.world.now
-    (header_bytes c.args.registry.now.header.now) g.F.Shelf.tells g.F.D.Disk (g.F.Shelf.disk c.args.shelf.now)
-    (g.F.Shelf.disk_faults c.args.shelf.now) c.args.registry.now.users.now c.in-Ok-open_all.seats.items c.in-Ok-open_all.ensures.opened)
-    ∙ c.requires.names
+pub answer_all-requires-clause-can : goal.answer_all-requires-clause-can
+answer_all-requires-clause-can g c κs within =
+    let at = seated g (goal.at.answer_all-requires-clause-can g c).In-Ok-open_all in
+    record {
+      limits = seats_limits c.args.registry.now.directory.now c.args.registry.now.schema.now c.args.registry.now.world.now
+          (header_bytes c.args.registry.now.header.now) g.F.Shelf.tells g.F.D.Disk (g.F.Shelf.disk c.args.shelf.now)
+          (g.F.Shelf.disk_faults c.args.shelf.now) c.args.registry.now.users.now c.in-Ok-open_all.seats.items c.in-Ok-open_all.ensures.opened
+          (all_of _ c.args.registry.now.users.now c.requires.limits);
+      served = at.served;
+      names = ap has_duplicate (named_so c.args.registry.now.directory.now c.args.registry.now.schema.now c.args.registry.now.world.now
+          (header_bytes c.args.registry.now.header.now) g.F.Shelf.tells g.F.D.Disk (g.F.Shelf.disk c.args.shelf.now)
+          (g.F.Shelf.disk_faults c.args.shelf.now) c.args.registry.now.users.now c.in-Ok-open_all.seats.items c.in-Ok-open_all.ensures.opened)
+          ∙ c.requires.names;
+      registered = at.journals_are;
+      distinct = at.distinct;
+      out = λ name among. at.out name ∙ among;
+      later = at.later;
+      own = c.in-Ok-open_all.ensures.own;
+    }
 
 pub answer_all-requires-clause-refusals : goal.answer_all-requires-clause-refusals
 answer_all-requires-clause-refusals g c κs within =
@@ -182,87 +167,78 @@ Begun g c =
     (g.F.Shelf.disk c.open_all.new.shelf) (g.F.Shelf.is_out c.open_all.new.shelf) (g.F.Shelf.disk_faults c.args.shelf.now)
     (g.F.Shelf.disk_faults c.open_all.new.shelf)
 
-given : (g : Over) (c : After-answer_all g) → Begun g c → (new : _) (stay : Stay c.args.registry.now.schema.now c.args.registry.now.world.now
-    (header_bytes c.args.registry.now.header.now) g.F.D.Disk c.in-Ok-open_all.seats.items new)
-    → AreBack g.F.Shelf.tells g.F.D.Disk (g.F.Shelf.disk c.answer_all.new.shelf) (g.F.Shelf.disk_faults c.answer_all.new.shelf) new
+-- the seats behind them, however they ended
+behind : (g : Over) (c : After-answer_all g) → (new : _)
+    × Stay c.args.registry.now.schema.now c.args.registry.now.world.now (header_bytes c.args.registry.now.header.now) g.F.D.Disk
+    c.in-Ok-open_all.seats.items new
+    × AllBack g.F.Shelf g.F.D.Disk c.open_all.new.shelf c.answer_all.new.shelf new
+behind g c =
+    left_behind c.args.registry.now.schema.now c.args.registry.now.world.now (header_bytes c.args.registry.now.header.now) g.F.D.Disk
+    g.K.Sink.tells (λ left. AllBack g.F.Shelf g.F.D.Disk c.open_all.new.shelf c.answer_all.new.shelf left) (items_of c.in-Whole.batch)
+    c.in-Ok-open_all.seats.items _ _ c.answer_all.result (λ told. told.0.items) (λ told. told.1) c.answer_all.ensures.answered
+    c.answer_all.ensures.stopped
+
+returned : (g : Over) (c : After-answer_all g) → Begun g c
     → AllReturned (registered_journals c.args.registry.now.directory.now c.args.registry.now.users.now) (g.F.Shelf.disk c.args.shelf.now)
     (g.F.Shelf.disk c.answer_all.new.shelf) (g.F.Shelf.is_out c.answer_all.new.shelf) (g.F.Shelf.disk_faults c.args.shelf.now)
     (g.F.Shelf.disk_faults c.answer_all.new.shelf)
-given g c at new stay back =
-    all_returned at new stay.names (stay.later (g.F.Shelf.disk_faults c.open_all.new.shelf) at.later)
-    (record {
-      back = back;
-      inside = subst (λ ns. AllIn ns (g.F.Shelf.is_out c.answer_all.new.shelf)) (sym stay.names) c.answer_all.ensures.inside;
-      others_out = subst (λ ns. SameBeside ns (g.F.Shelf.is_out c.open_all.new.shelf) (g.F.Shelf.is_out c.answer_all.new.shelf)) (sym stay.names)
-          c.answer_all.ensures.others_out;
-      disks = subst (λ ns. SameBeside ns (g.F.Shelf.disk c.open_all.new.shelf) (g.F.Shelf.disk c.answer_all.new.shelf)) (sym stay.names)
-          c.answer_all.ensures.disks;
-      counts = subst (λ ns. SameBeside ns (g.F.Shelf.disk_faults c.open_all.new.shelf) (g.F.Shelf.disk_faults c.answer_all.new.shelf)) (sym stay.names)
-          c.answer_all.ensures.counts;
-    })
+returned g c begun =
+    let left = behind g c in
+    let back = left.2 in
+    all_returned begun left.0 left.1.names (left.1.later (g.F.Shelf.disk_faults c.open_all.new.shelf) begun.later)
+    (record { back = back.back; inside = back.inside; others_out = back.others_out; disks = back.disks; counts = back.counts })
 
 -- what was told of their disks lies there
-lying : (g : Over) (c : After-answer_all g) → Begun g c → (new : _) (stay : Stay c.args.registry.now.schema.now c.args.registry.now.world.now
-    (header_bytes c.args.registry.now.header.now) g.F.D.Disk c.in-Ok-open_all.seats.items new)
-    → AreBack g.F.Shelf.tells g.F.D.Disk (g.F.Shelf.disk c.answer_all.new.shelf) (g.F.Shelf.disk_faults c.answer_all.new.shelf) new
+lying : (g : Over) (c : After-answer_all g) → Begun g c
     → g.F.Shelf.tells → StaysThere g.F.D.Disk (g.F.Shelf.disk c.args.shelf.now) (g.F.Shelf.disk c.answer_all.new.shelf)
-lying g c at new stay back told tells name there =
-    let beside = (given g c at new stay back).disks in
+lying g c begun told tells name there =
+    let left = behind g c in
     all_there g.F.D.Disk tells g.F.Shelf.tells told (g.F.Shelf.disk c.args.shelf.now) (g.F.Shelf.disk c.answer_all.new.shelf)
-    (g.F.Shelf.disk_faults c.answer_all.new.shelf) new back
-    (subst (λ ns. SameBeside ns (g.F.Shelf.disk c.args.shelf.now) (g.F.Shelf.disk c.answer_all.new.shelf)) (sym (stay.names ∙ at.journals_are)) beside)
-    (stay.there tells
+    (g.F.Shelf.disk_faults c.answer_all.new.shelf) left.0 left.2.back
+    (subst (λ ns. SameBeside ns (g.F.Shelf.disk c.args.shelf.now) (g.F.Shelf.disk c.answer_all.new.shelf)) (sym (left.1.names ∙ begun.journals_are))
+    (returned g c begun).disks)
+    (left.1.there tells
     (there_first g.F.D.Disk tells g.F.Shelf.tells c.args.registry.now.schema.now c.args.registry.now.world.now
     (header_bytes c.args.registry.now.header.now) c.args.registry.now.directory.now (g.F.Shelf.disk c.args.shelf.now)
     (g.F.Shelf.disk_faults c.args.shelf.now) c.args.registry.now.users.now c.in-Ok-open_all.seats.items c.in-Ok-open_all.ensures.opened)) name there
 
--- ---- where all items were answered
+-- ---- all items were answered
 
-pub returns-in-All-clause-there : goal.returns-in-All-clause-there
-returns-in-All-clause-there g c =
-    let at = goal.at.returns-in-All-clause-there g c in
-    let all = c.in-All.ensures.answered in
-    lying g at.After-answer_all (seated g at.In-Ok-open_all) all.0 (stay_run _ _ _ _ _ _ _ _ _ all.1.runs) all.2
+pub returns-in-Ok-answer_all-clause-there : goal.returns-in-Ok-answer_all-clause-there
+returns-in-Ok-answer_all-clause-there g c =
+    let at = goal.at.returns-in-Ok-answer_all-clause-there g c in lying g at.After-answer_all (seated g at.In-Ok-open_all)
 
-pub returns-in-All-clause-inside : goal.returns-in-All-clause-inside
-returns-in-All-clause-inside g c =
-    let at = goal.at.returns-in-All-clause-inside g c in
-    let all = c.in-All.ensures.answered in
-    (given g at.After-answer_all (seated g at.In-Ok-open_all) all.0 (stay_run _ _ _ _ _ _ _ _ _ all.1.runs) all.2).inside
+pub returns-in-Ok-answer_all-clause-inside : goal.returns-in-Ok-answer_all-clause-inside
+returns-in-Ok-answer_all-clause-inside g c =
+    let at = goal.at.returns-in-Ok-answer_all-clause-inside g c in (returned g at.After-answer_all (seated g at.In-Ok-open_all)).inside
 
-pub returns-in-All-clause-counts : goal.returns-in-All-clause-counts
-returns-in-All-clause-counts g c =
-    let at = goal.at.returns-in-All-clause-counts g c in
-    let all = c.in-All.ensures.answered in
-    (given g at.After-answer_all (seated g at.In-Ok-open_all) all.0 (stay_run _ _ _ _ _ _ _ _ _ all.1.runs) all.2).counts
+pub returns-in-Ok-answer_all-clause-counts : goal.returns-in-Ok-answer_all-clause-counts
+returns-in-Ok-answer_all-clause-counts g c =
+    let at = goal.at.returns-in-Ok-answer_all-clause-counts g c in (returned g at.After-answer_all (seated g at.In-Ok-open_all)).counts
 
-pub returns-in-All-clause-other_counts : goal.returns-in-All-clause-other_counts
-returns-in-All-clause-other_counts g c =
-    let at = goal.at.returns-in-All-clause-other_counts g c in
-    let all = c.in-All.ensures.answered in
-    (given g at.After-answer_all (seated g at.In-Ok-open_all) all.0 (stay_run _ _ _ _ _ _ _ _ _ all.1.runs) all.2).other_counts
+pub returns-in-Ok-answer_all-clause-other_counts : goal.returns-in-Ok-answer_all-clause-other_counts
+returns-in-Ok-answer_all-clause-other_counts g c =
+    let at = goal.at.returns-in-Ok-answer_all-clause-other_counts g c in (returned g at.After-answer_all (seated g at.In-Ok-open_all)).other_counts
 
-pub returns-in-All-clause-disks : goal.returns-in-All-clause-disks
-returns-in-All-clause-disks g c =
-    let at = goal.at.returns-in-All-clause-disks g c in
-    let all = c.in-All.ensures.answered in
-    (given g at.After-answer_all (seated g at.In-Ok-open_all) all.0 (stay_run _ _ _ _ _ _ _ _ _ all.1.runs) all.2).disks
+pub returns-in-Ok-answer_all-clause-disks : goal.returns-in-Ok-answer_all-clause-disks
+returns-in-Ok-answer_all-clause-disks g c =
+    let at = goal.at.returns-in-Ok-answer_all-clause-disks g c in (returned g at.After-answer_all (seated g at.In-Ok-open_all)).disks
 
-pub returns-in-All-clause-journals : goal.returns-in-All-clause-journals
-returns-in-All-clause-journals g c = λ shelf_told.
-    let all = c.in-All.ensures.answered in (
+pub returns-in-Ok-answer_all-clause-journals : goal.returns-in-Ok-answer_all-clause-journals
+returns-in-Ok-answer_all-clause-journals g c = λ shelf_told.
+    let all = c.in-Ok-answer_all.ensures.answered in (
       items_of c.in-Whole.batch,
       all.1.output,
-      (ending g (goal.at.returns-in-All-clause-journals g c).In-Ok-open_all shelf_told c.answer_all.new.shelf).all g.K.Sink.tells
-          (items_of c.in-Whole.batch) all.0 c.in-All.is_broken _ _ c.in-All.refusals.items all.1 all.2 all.3,
+      (ending g (goal.at.returns-in-Ok-answer_all-clause-journals g c).In-Ok-open_all shelf_told c.answer_all.new.shelf).all g.K.Sink.tells
+          (items_of c.in-Whole.batch) all.0 c.in-Ok-answer_all.told.1 _ _ c.in-Ok-answer_all.told.0.items all.1 all.2.back all.3,
     )
 
-pub returns-in-All-clause-ends : goal.returns-in-All-clause-ends
-unfolding returns-in-All-clause-journals
-returns-in-All-clause-ends g c = λ shelf_told source_told sink_told.
+pub returns-in-Ok-answer_all-clause-ends : goal.returns-in-Ok-answer_all-clause-ends
+unfolding returns-in-Ok-answer_all-clause-journals
+returns-in-Ok-answer_all-clause-ends g c = λ shelf_told source_told sink_told.
     let reads = c.in-Whole.ensures.reads source_told in
-    let all = c.in-All.ensures.answered in
-    let alone = returns-in-All-clause-journals g c shelf_told in (
+    let all = c.in-Ok-answer_all.ensures.answered in
+    let alone = returns-in-Ok-answer_all-clause-journals g c shelf_told in (
       reads.1,
       items_of c.in-Whole.batch,
       sym (batch_begins _ _ c.new.ensures) ∙ reads.0,
@@ -271,154 +247,117 @@ returns-in-All-clause-ends g c = λ shelf_told source_told sink_told.
           (map named_user c.args.registry.now.users.now) (items_of c.in-Whole.batch) all.1.output _ _ _ _ alone.2 (all.1.appended sink_told),
     )
 
-pub returns-in-All-clause-disk_cause : goal.returns-in-All-clause-disk_cause
-returns-in-All-clause-disk_cause g c = λ broken.
-    let all = c.in-All.ensures.answered in
-    let stay = stay_run _ _ _ _ _ _ _ _ _ all.1.runs in
-    let count = g.F.Shelf.disk_faults c.args.shelf.now in
-    let first = (seated g (goal.at.returns-in-All-clause-disk_cause g c).In-Ok-open_all).first in
-    some_rose g.F.Shelf.tells g.F.D.Disk count (g.F.Shelf.disk_faults c.answer_all.new.shelf)
-    (g.F.Shelf.disk c.answer_all.new.shelf) all.0 (stay.later count first) all.2
-    (all_weaker c.args.registry.now.schema.now c.args.registry.now.world.now
-    (header_bytes c.args.registry.now.header.now) g.F.D.Disk count g.F.Shelf.tells
-    (g.F.Shelf.disk_faults c.answer_all.new.shelf) (g.F.Shelf.disk c.answer_all.new.shelf) all.0
-    (run_broken c.args.registry.now.schema.now c.args.registry.now.world.now
-    (header_bytes c.args.registry.now.header.now) g.F.D.Disk count
-    (items_of c.in-Whole.batch) c.in-Ok-open_all.seats.items all.0 all.1.output c.in-All.is_broken all.1.runs first broken))
+pub returns-in-Ok-answer_all-clause-disk_cause : goal.returns-in-Ok-answer_all-clause-disk_cause
+returns-in-Ok-answer_all-clause-disk_cause g c =
+    let all = c.in-Ok-answer_all.ensures.answered in
+    broken_rose c.args.registry.now.schema.now c.args.registry.now.world.now (header_bytes c.args.registry.now.header.now) g.F.D.Disk
+    (g.F.Shelf.disk_faults c.args.shelf.now) g.F.Shelf.tells (g.F.Shelf.disk_faults c.answer_all.new.shelf) (g.F.Shelf.disk c.answer_all.new.shelf)
+    g.K.Sink.tells (items_of c.in-Whole.batch) c.in-Ok-open_all.seats.items all.0 c.in-Ok-answer_all.told.1 _ _ all.1
+    (seated g (goal.at.returns-in-Ok-answer_all-clause-disk_cause g c).In-Ok-open_all).first all.2.back
 
-pub returns-in-All-clause-journal_cause : goal.returns-in-All-clause-journal_cause
-returns-in-All-clause-journal_cause g c = λ is.
+pub returns-in-Ok-answer_all-clause-journal_cause : goal.returns-in-Ok-answer_all-clause-journal_cause
+returns-in-Ok-answer_all-clause-journal_cause g c =
     let registry = c.args.registry.now in
-    let all = c.in-All.ensures.answered in
+    let all = c.in-Ok-answer_all.ensures.answered in
     let count = g.F.Shelf.disk_faults c.args.shelf.now in
     faulted_run registry.schema.now registry.world.now (header_bytes registry.header.now) g.F.D.Disk count g.F.Shelf.tells
     (g.F.Shelf.disk_faults c.answer_all.new.shelf) (g.F.Shelf.disk c.answer_all.new.shelf) g.K.Sink.tells (items_of c.in-Whole.batch)
-    c.in-Ok-open_all.seats.items all.0 c.in-All.is_broken _ _ all.1
-    (seated g (goal.at.returns-in-All-clause-journal_cause g c).In-Ok-open_all).first all.2
+    c.in-Ok-open_all.seats.items all.0 c.in-Ok-answer_all.told.1 _ _ all.1
+    (seated g (goal.at.returns-in-Ok-answer_all-clause-journal_cause g c).In-Ok-open_all).first all.2.back
     (first_faulted g.F.D.Disk count g.F.Shelf.tells registry.schema.now registry.world.now (header_bytes registry.header.now) registry.directory.now
     (g.F.Shelf.disk c.args.shelf.now) registry.users.now c.in-Ok-open_all.seats.items c.in-Ok-open_all.ensures.opened)
-    c.in-All.refusals.items all.3 is
+    c.in-Ok-answer_all.told.0.items all.3
 
--- ---- where a write failed
+-- ---- a write failed
 
-pub returns-in-Cut-clause-there : goal.returns-in-Cut-clause-there
-returns-in-Cut-clause-there g c =
-    let at = goal.at.returns-in-Cut-clause-there g c in
-    let some = c.in-Cut.ensures.answered in
-    lying g at.After-answer_all (seated g at.In-Ok-open_all) some.0
-    (stay_run _ _ _ _ _ _ _ _ _ (runs_then _ _ _ _ _ _ _ _ _ _ _ _ _ some.1.first some.1.last)) some.2
+pub returns-in-Err-Write-clause-there : goal.returns-in-Err-Write-clause-there
+returns-in-Err-Write-clause-there g c =
+    let at = goal.at.returns-in-Err-Write-clause-there g c in lying g at.After-answer_all (seated g at.In-Ok-open_all)
 
-pub returns-in-Cut-clause-inside : goal.returns-in-Cut-clause-inside
-returns-in-Cut-clause-inside g c =
-    let at = goal.at.returns-in-Cut-clause-inside g c in
-    let some = c.in-Cut.ensures.answered in
-    (given g at.After-answer_all (seated g at.In-Ok-open_all) some.0
-    (stay_run _ _ _ _ _ _ _ _ _ (runs_then _ _ _ _ _ _ _ _ _ _ _ _ _ some.1.first some.1.last)) some.2).inside
+pub returns-in-Err-Write-clause-inside : goal.returns-in-Err-Write-clause-inside
+returns-in-Err-Write-clause-inside g c =
+    let at = goal.at.returns-in-Err-Write-clause-inside g c in (returned g at.After-answer_all (seated g at.In-Ok-open_all)).inside
 
-pub returns-in-Cut-clause-counts : goal.returns-in-Cut-clause-counts
-returns-in-Cut-clause-counts g c =
-    let at = goal.at.returns-in-Cut-clause-counts g c in
-    let some = c.in-Cut.ensures.answered in
-    (given g at.After-answer_all (seated g at.In-Ok-open_all) some.0
-    (stay_run _ _ _ _ _ _ _ _ _ (runs_then _ _ _ _ _ _ _ _ _ _ _ _ _ some.1.first some.1.last)) some.2).counts
+pub returns-in-Err-Write-clause-counts : goal.returns-in-Err-Write-clause-counts
+returns-in-Err-Write-clause-counts g c =
+    let at = goal.at.returns-in-Err-Write-clause-counts g c in (returned g at.After-answer_all (seated g at.In-Ok-open_all)).counts
 
-pub returns-in-Cut-clause-other_counts : goal.returns-in-Cut-clause-other_counts
-returns-in-Cut-clause-other_counts g c =
-    let at = goal.at.returns-in-Cut-clause-other_counts g c in
-    let some = c.in-Cut.ensures.answered in
-    (given g at.After-answer_all (seated g at.In-Ok-open_all) some.0
-    (stay_run _ _ _ _ _ _ _ _ _ (runs_then _ _ _ _ _ _ _ _ _ _ _ _ _ some.1.first some.1.last)) some.2).other_counts
+pub returns-in-Err-Write-clause-other_counts : goal.returns-in-Err-Write-clause-other_counts
+returns-in-Err-Write-clause-other_counts g c =
+    let at = goal.at.returns-in-Err-Write-clause-other_counts g c in (returned g at.After-answer_all (seated g at.In-Ok-open_all)).other_counts
 
-pub returns-in-Cut-clause-disks : goal.returns-in-Cut-clause-disks
-returns-in-Cut-clause-disks g c =
-    let at = goal.at.returns-in-Cut-clause-disks g c in
-    let some = c.in-Cut.ensures.answered in
-    (given g at.After-answer_all (seated g at.In-Ok-open_all) some.0
-    (stay_run _ _ _ _ _ _ _ _ _ (runs_then _ _ _ _ _ _ _ _ _ _ _ _ _ some.1.first some.1.last)) some.2).disks
+pub returns-in-Err-Write-clause-disks : goal.returns-in-Err-Write-clause-disks
+returns-in-Err-Write-clause-disks g c =
+    let at = goal.at.returns-in-Err-Write-clause-disks g c in (returned g at.After-answer_all (seated g at.In-Ok-open_all)).disks
 
-pub returns-in-Cut-clause-journals : goal.returns-in-Cut-clause-journals
-returns-in-Cut-clause-journals g c = λ shelf_told.
-    let some = c.in-Cut.ensures.answered in (
+pub returns-in-Err-Write-clause-journals : goal.returns-in-Err-Write-clause-journals
+returns-in-Err-Write-clause-journals g c = λ shelf_told.
+    let some = rw c.in-Err-Write.field-0-is at c.in-Err-Write.ensures.stopped in (
       items_of c.in-Whole.batch,
       some.1.output ++ take 0 some.1.lines,
-      (ending g (goal.at.returns-in-Cut-clause-journals g c).In-Ok-open_all shelf_told c.answer_all.new.shelf).some (Unit {0}) tt
+      (ending g (goal.at.returns-in-Err-Write-clause-journals g c).In-Ok-open_all shelf_told c.answer_all.new.shelf).some (Unit {0}) tt
           (items_of c.in-Whole.batch) some.0 [] (some.1.output ++ take 0 some.1.lines)
           (some_alone c.args.registry.now.schema.now c.args.registry.now.world.now (header_bytes c.args.registry.now.header.now)
-          g.F.D.Disk g.K.Sink.tells (items_of c.in-Whole.batch) c.in-Ok-open_all.seats.items some.0 _ _ some.1) some.2,
+          g.F.D.Disk g.K.Sink.tells (items_of c.in-Whole.batch) c.in-Ok-open_all.seats.items some.0 _ _ some.1) some.2.back,
     )
 
-pub returns-in-Cut-clause-ends : goal.returns-in-Cut-clause-ends
-returns-in-Cut-clause-ends g c = λ shelf_told source_told sink_told.
+pub returns-in-Err-Write-clause-ends : goal.returns-in-Err-Write-clause-ends
+returns-in-Err-Write-clause-ends g c = λ shelf_told source_told sink_told.
     let reads = c.in-Whole.ensures.reads source_told in
-    let some = c.in-Cut.ensures.answered in (
+    let some = rw c.in-Err-Write.field-0-is at c.in-Err-Write.ensures.stopped in (
       reads.1,
       (
         items_of c.in-Whole.batch,
         sym (batch_begins _ _ c.new.ensures) ∙ reads.0,
-        (ending g (goal.at.returns-in-Cut-clause-ends g c).In-Ok-open_all shelf_told c.answer_all.new.shelf).some g.K.Sink.tells sink_told
-            (items_of c.in-Whole.batch) some.0 _ _ some.1 some.2,
+        (ending g (goal.at.returns-in-Err-Write-clause-ends g c).In-Ok-open_all shelf_told c.answer_all.new.shelf).some g.K.Sink.tells sink_told
+            (items_of c.in-Whole.batch) some.0 _ _ some.1 some.2.back,
       ),
     )
 
--- ---- where memory was wanting as a stretch began or ended
+-- ---- memory was wanting as a stretch began or ended
 
 pub returns-clause-there : goal.returns-clause-there
 returns-clause-there g c =
-    let at = goal.at.returns-clause-there g c in
-    let left = c.in-Memory-answer_all.ensures.answered in
-    lying g at.After-answer_all (seated g at.In-Ok-open_all) left.0
-    (stay_run _ _ _ _ _ _ _ _ _ (runs_then _ _ _ _ _ _ _ _ _ _ _ _ _ left.1.0.first left.1.0.last)) left.2
-
-pub returns-clause-disks : goal.returns-clause-disks
-returns-clause-disks g c =
-    let at = goal.at.returns-clause-disks g c in
-    let left = c.in-Memory-answer_all.ensures.answered in
-    (given g at.After-answer_all (seated g at.In-Ok-open_all) left.0
-    (stay_run _ _ _ _ _ _ _ _ _ (runs_then _ _ _ _ _ _ _ _ _ _ _ _ _ left.1.0.first left.1.0.last)) left.2).disks
+    let at = goal.at.returns-clause-there g c in lying g at.After-answer_all (seated g at.In-Ok-open_all)
 
 pub returns-clause-inside : goal.returns-clause-inside
 returns-clause-inside g c =
-    let at = goal.at.returns-clause-inside g c in
-    let left = c.in-Memory-answer_all.ensures.answered in
-    (given g at.After-answer_all (seated g at.In-Ok-open_all) left.0
-    (stay_run _ _ _ _ _ _ _ _ _ (runs_then _ _ _ _ _ _ _ _ _ _ _ _ _ left.1.0.first left.1.0.last)) left.2).inside
+    let at = goal.at.returns-clause-inside g c in (returned g at.After-answer_all (seated g at.In-Ok-open_all)).inside
 
 pub returns-clause-counts : goal.returns-clause-counts
 returns-clause-counts g c =
-    let at = goal.at.returns-clause-counts g c in
-    let left = c.in-Memory-answer_all.ensures.answered in
-    (given g at.After-answer_all (seated g at.In-Ok-open_all) left.0
-    (stay_run _ _ _ _ _ _ _ _ _ (runs_then _ _ _ _ _ _ _ _ _ _ _ _ _ left.1.0.first left.1.0.last)) left.2).counts
+    let at = goal.at.returns-clause-counts g c in (returned g at.After-answer_all (seated g at.In-Ok-open_all)).counts
 
 pub returns-clause-other_counts : goal.returns-clause-other_counts
 returns-clause-other_counts g c =
-    let at = goal.at.returns-clause-other_counts g c in
-    let left = c.in-Memory-answer_all.ensures.answered in
-    (given g at.After-answer_all (seated g at.In-Ok-open_all) left.0
-    (stay_run _ _ _ _ _ _ _ _ _ (runs_then _ _ _ _ _ _ _ _ _ _ _ _ _ left.1.0.first left.1.0.last)) left.2).other_counts
+    let at = goal.at.returns-clause-other_counts g c in (returned g at.After-answer_all (seated g at.In-Ok-open_all)).other_counts
+
+pub returns-clause-disks : goal.returns-clause-disks
+returns-clause-disks g c =
+    let at = goal.at.returns-clause-disks g c in (returned g at.After-answer_all (seated g at.In-Ok-open_all)).disks
 
 pub returns-clause-journals : goal.returns-clause-journals
 returns-clause-journals g c = λ shelf_told.
-    let left = c.in-Memory-answer_all.ensures.answered in
+    let left = rw c.in-Err-Memory-answer_all.field-0-is at c.in-Err-Memory-answer_all.ensures.stopped in
     inr (
       items_of c.in-Whole.batch,
       left.1.0.output ++ take 0 left.1.0.lines,
       (ending g (goal.at.returns-clause-journals g c).In-Ok-open_all shelf_told c.answer_all.new.shelf).to (Unit {0}) tt (items_of c.in-Whole.batch) left.0
           [] (left.1.0.output ++ take 0 left.1.0.lines)
           (to_alone c.args.registry.now.schema.now c.args.registry.now.world.now (header_bytes c.args.registry.now.header.now)
-          g.F.D.Disk g.K.Sink.tells (items_of c.in-Whole.batch) c.in-Ok-open_all.seats.items left.0 _ _ left.1) left.2,
+          g.F.D.Disk g.K.Sink.tells (items_of c.in-Whole.batch) c.in-Ok-open_all.seats.items left.0 _ _ left.1) left.2.back,
     )
 
 pub returns-clause-ends : goal.returns-clause-ends
 returns-clause-ends g c = λ shelf_told source_told sink_told.
     let reads = c.in-Whole.ensures.reads source_told in
-    let left = c.in-Memory-answer_all.ensures.answered in
+    let left = rw c.in-Err-Memory-answer_all.field-0-is at c.in-Err-Memory-answer_all.ensures.stopped in
     inr (
       reads.1,
       (
         items_of c.in-Whole.batch,
         sym (batch_begins _ _ c.new.ensures) ∙ reads.0,
         (ending g (goal.at.returns-clause-ends g c).In-Ok-open_all shelf_told c.answer_all.new.shelf).to g.K.Sink.tells sink_told
-            (items_of c.in-Whole.batch) left.0 _ _ left.1 left.2,
+            (items_of c.in-Whole.batch) left.0 _ _ left.1 left.2.back,
       ),
     )

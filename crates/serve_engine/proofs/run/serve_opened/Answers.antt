@@ -1,33 +1,26 @@
 use Rattle.std.proofs.Common.{◌∙◌, length, map, inl, refl, sym, ap, subst, arith}
 use Rattle.log_journal.specs.Opening.{header_bytes}
 use Rattle.desk_crew.specs.Registered.{registered_journals}
-use Rattle.desk_crew.specs.Shelved.{journals_on}
-use Rattle.desk_crew.proofs.Lasting.{keeps_same, keeps_all}
-use Rattle.desk_crew.proofs.Rising.{some_rose, any_failed}
-use Rattle.desk_crew.proofs.Faulting.{first_faulted, faulted_rose}
 use Rattle.desk_crew.specs.Refusals.{SomeFaulted}
+use Rattle.desk_crew.proofs.Faulting.{first_faulted, faulted_rose}
+use Rattle.desk_crew.proofs.Lasting.{keeps_same, keeps_all}
 use Rattle.desk_crew.proofs.Giving.{CanGive, AllReturned}
 use Rattle.desk_crew.proofs.Hearing.{there_first, all_there}
 use Rattle.outside.specs.Shelf.{SameBeside}
 use Rattle.desk_crew.proofs.Taking.{AllSeated, all_seated}
-use Rattle.serve_engine.specs.Serving.{HaveServed, EndsDoors, IsDone, IsBroken, IsDiskRefusal}
-use Rattle.serve_engine.specs.Served.{Served}
-use Rattle.serve_engine.specs.Sharing.{seat_member, IsServedAt}
-use Rattle.serve_engine.proofs.Apart.{served_still, apart_own}
-use Rattle.serve_engine.proofs.Histories.{broken_end, have_served, all_in_world, broke_at, later_on_seats, own_on_seats, there_on_seats, journals_on_same}
-use Rattle.serve_engine.proofs.Histories.{doors_many, doors_gave, doors_left}
-use Rattle.serve_engine.proofs.Histories.{ended_at, failed_at, ends_at, own_from, all_told, AreReady, all_ready, served_can, served_returned}
+use Rattle.serve_engine.specs.Serving.{IsDone, IsBroken, IsDiskRefusal}
+use Rattle.serve_engine.specs.Sharing.{IsServedAt}
 use Rattle.serve_engine.proofs.Faulting.{faulted_end, faulted_on_seats, refusals_on_seats}
+use Rattle.serve_engine.proofs.Histories.{later_on_seats}
+use Rattle.serve_engine.proofs.Histories.{broken_end, own_on_seats, there_on_seats, journals_on_same, doors_many, doors_gave, doors_left, ended_at, failed_at}
+use Rattle.serve_engine.proofs.Histories.{AreReady, all_ready, served_can, served_returned, served_rose, served_ends}
 use Rattle.serve_engine.proofs.run.serve_opened.Given.{Over}
 use Rattle.serve_engine.proofs.run.serve_opened.Goals as goal
 use Rattle.serve_engine.proofs.run.serve_opened.Goals.{After-end_of, After-give_back-arg-1, In-Ok-open_all}
 
 pub open_all-requires-clause-some : goal.open_all-requires-clause-some
 open_all-requires-clause-some g c κs within =
-    let some = c.requires.some in
-    let items = c.args.doors.ok.0 in
-    let count = c.len-workers.ensures in
-    omega (arith, some, items, count)
+    omega (arith, c.requires.some, c.args.doors.ok.0, c.len-workers.ensures)
 
 -- ---- where no journal was opened, all are kept
 
@@ -83,10 +76,8 @@ ready g c = all_ready (seated g c) c.known.ensures c.requires.limits
 
 pub refusals_of-refusals-requires-clause-room : goal.refusals_of-refusals-requires-clause-room
 refusals_of-refusals-requires-clause-room g c =
-    let room = c.in-Ok.ensures.room in
-    let count = (seated g (goal.at.refusals_of-refusals-requires-clause-room g c).In-Ok-open_all).many in
-    let read = ap length c.as_slice.ensures.value in
-    omega (arith, room, count, read)
+    let many = (seated g (goal.at.refusals_of-refusals-requires-clause-room g c).In-Ok-open_all).many in
+    omega (arith, many, c.in-Ok.ensures.room, ap length c.as_slice.ensures.value)
 
 pub serve_seats-outcome-requires-clause-desks : goal.serve_seats-outcome-requires-clause-desks
 serve_seats-outcome-requires-clause-desks g c κs within = (ready g (goal.at.serve_seats-outcome-requires-clause-desks g c).In-Ok-open_all).desks
@@ -158,115 +149,56 @@ returns-clause-there g c = λ shelf_told tells name there.
 
 pub returns-clause-ends : goal.returns-clause-ends
 returns-clause-ends g c shelf_told =
-    let disk_told = g.met.F.Shelf.tells_disks shelf_told in
-    let journals = journals_on g.F.Shelf g.F.D.Disk c.args.registry.now.directory.now c.args.shelf.now c.give_back-is_broken.new.shelf in
     let served = c.serve_seats-outcome.ensures.served in
-    let refusals = c.refusals_of-refusals.ensures ∙ ap (map (λ x. x.refusal)) c.as_slice.ensures.value in
-    let each = have_served c.args.registry.now.schema.now c.args.registry.now.world.now
-    (header_bytes c.args.registry.now.header.now) c.args.registry.now.directory.now g.F.Shelf.tells shelf_told g.F.D.Disk disk_told
-    (g.met.F.D.Disk g.world.𝓛 g.world.𝓜 g.world.𝓡 ((λ s x. x), (λ x. x), (λ x. x), λ x. x)).read_is_image
-    (g.F.Shelf.disk c.args.shelf.now) (g.F.Shelf.disk c.give_back-is_broken.new.shelf) (g.F.Shelf.disk_faults c.args.shelf.now)
-    (g.F.Shelf.disk_faults c.give_back-is_broken.new.shelf) c.known.ensures c.law_hides.ensures c.args.registry.now.users.now
-    c.in-Ok-open_all.seats.items c.serve_seats-outcome.result.1.items c.requires.limits c.in-Ok-open_all.ensures.opened
-    c.serve_seats-outcome.ensures.on c.give_back-is_broken.ensures.back in
-    subst (EndsDoors c.args.registry.now.schema.now c.args.registry.now.world.now (header_bytes c.args.registry.now.header.now)
-    journals
-    c.args.registry.now.users.now g.O.Door c.args.doors.items
-    c.serve_seats-outcome.result.2.items) (sym c.end_of.ensures)
-    (ends_at c.args.registry.now.schema.now c.args.registry.now.world.now (header_bytes c.args.registry.now.header.now)
-    journals
-    c.args.registry.now.users.now g.O.Door c.args.doors.items
-    c.serve_seats-outcome.result.2.items c.serve_seats-outcome.result.0 c.refusals_of-refusals.result c.give_back-is_broken.result
-    (record {
-      members = map seat_member c.serve_seats-outcome.result.1.items;
-      each_user = subst
-          (HaveServed c.args.registry.now.schema.now c.args.registry.now.world.now (header_bytes c.args.registry.now.header.now)
-          journals c.args.registry.now.users.now
-          (map seat_member c.serve_seats-outcome.result.1.items)) (sym refusals) each;
-      broken_is = c.give_back-is_broken.ensures.broke ∙ broke_at c.serve_seats-outcome.result.1.items;
-      total = served.0;
-      marks = served.1;
-      served = served_still g.O.Door
-          (IsServedAt c.args.registry.now.users.now c.serve_seats-outcome.result.1.items)
-          (Served c.args.registry.now.schema.now c.args.registry.now.world.now c.args.registry.now.users.now
-          (map seat_member c.serve_seats-outcome.result.1.items))
-          (λ visit marks is.
-          is c.args.registry.now.schema.now c.args.registry.now.world.now
-          (all_in_world c.args.registry.now.schema.now c.args.registry.now.world.now
-          (header_bytes c.args.registry.now.header.now) c.args.registry.now.directory.now g.F.Shelf.tells shelf_told g.F.D.Disk disk_told
-          (g.met.F.D.Disk g.world.𝓛 g.world.𝓜 g.world.𝓡 ((λ s x. x), (λ x. x), (λ x. x), λ x. x)).read_is_image
-          (g.F.Shelf.disk c.args.shelf.now) (g.F.Shelf.disk c.give_back-is_broken.new.shelf) (g.F.Shelf.disk_faults c.args.shelf.now)
-          (g.F.Shelf.disk_faults c.give_back-is_broken.new.shelf) c.args.registry.now.users.now c.in-Ok-open_all.seats.items
-          c.serve_seats-outcome.result.1.items c.in-Ok-open_all.ensures.opened c.serve_seats-outcome.ensures.on)) served.0
-          served.1 c.args.doors.items c.serve_seats-outcome.result.2.items served.2;
-      all_told = λ t. all_told c.args.registry.now.schema.now c.args.registry.now.world.now
-          (header_bytes c.args.registry.now.header.now) c.args.registry.now.directory.now g.F.Shelf.tells shelf_told g.F.D.Disk disk_told
-          (g.met.F.D.Disk g.world.𝓛 g.world.𝓜 g.world.𝓡 ((λ s x. x), (λ x. x), (λ x. x), λ x. x)).read_is_image
-          (g.F.Shelf.disk c.args.shelf.now) (g.F.Shelf.disk c.give_back-is_broken.new.shelf) (g.F.Shelf.disk_faults c.args.shelf.now)
-          (g.F.Shelf.disk_faults c.give_back-is_broken.new.shelf)
-          (served.1 t) 0 c.args.registry.now.users.now c.in-Ok-open_all.seats.items c.serve_seats-outcome.result.1.items c.in-Ok-open_all.ensures.opened
-          c.serve_seats-outcome.ensures.on c.give_back-is_broken.ensures.back
-          (own_from c.args.registry.now.schema.now c.args.registry.now.world.now
-          (header_bytes c.args.registry.now.header.now) c.args.registry.now.directory.now g.F.Shelf.tells shelf_told g.F.D.Disk disk_told
-          (g.met.F.D.Disk g.world.𝓛 g.world.𝓜 g.world.𝓡 ((λ s x. x), (λ x. x), (λ x. x), λ x. x)).read_is_image (g.F.Shelf.disk c.args.shelf.now)
-          (g.F.Shelf.disk c.give_back-is_broken.new.shelf) (g.F.Shelf.disk_faults c.args.shelf.now)
-          (g.F.Shelf.disk_faults c.give_back-is_broken.new.shelf)
-          (served.1 t) c.in-Ok-open_all.seats.items c.serve_seats-outcome.result.1.items
-          (apart_own c.in-Ok-open_all.seats.items
-          (ready g (goal.at.returns-clause-ends g c).In-Ok-open_all).own)
-          (served.5 t));
-    }) c.args.limit served.3)
+    let back = c.give_back-is_broken in
+    rw c.end_of.ensures
+    (served_ends (seated g (goal.at.returns-clause-ends g c).In-Ok-open_all) c.serve_seats-outcome.result.1.items c.serve_seats-outcome.ensures.on shelf_told
+    (g.met.F.Shelf.tells_disks shelf_told)
+    (g.met.F.D.Disk g.world.𝓛 g.world.𝓜 g.world.𝓡 ((λ s x. x), (λ x. x), (λ x. x), λ x. x)).read_is_image (g.F.Shelf.disk back.new.shelf)
+    (g.F.Shelf.disk_faults back.new.shelf) back.ensures.back c.known.ensures c.law_hides.ensures c.requires.limits g.O.Door c.args.doors.items
+    c.serve_seats-outcome.result.2.items c.serve_seats-outcome.result.0 c.refusals_of-refusals.result back.result c.args.limit
+    (c.refusals_of-refusals.ensures ∙ ap (map (λ x. x.refusal)) c.as_slice.ensures.value) back.ensures.broke served.0 served.1 served.2 served.3 served.5)
 
 pub returns-clause-ended : goal.returns-clause-ended
 returns-clause-ended g c door_told done =
     let served = c.serve_seats-outcome.ensures.served in
-    ended_at g.O.Door
-    (IsServedAt c.args.registry.now.users.now c.serve_seats-outcome.result.1.items) door_told c.args.limit served.0 served.1
+    ended_at g.O.Door (IsServedAt c.args.registry.now.users.now c.serve_seats-outcome.result.1.items) door_told c.args.limit served.0 served.1
     c.args.doors.items c.serve_seats-outcome.result.2.items c.serve_seats-outcome.result.0 c.refusals_of-refusals.result c.give_back-is_broken.result
     served.2 served.3 (subst IsDone c.end_of.ensures done)
 
 pub returns-clause-left : goal.returns-clause-left
 returns-clause-left g c door_told =
     let served = c.serve_seats-outcome.ensures.served in
-    doors_left g.O.Door
-    (IsServedAt c.args.registry.now.users.now c.serve_seats-outcome.result.1.items) door_told served.0 served.1 c.args.doors.items
+    doors_left g.O.Door (IsServedAt c.args.registry.now.users.now c.serve_seats-outcome.result.1.items) door_told served.0 served.1 c.args.doors.items
     c.serve_seats-outcome.result.2.items served.2
 
 pub returns-clause-limited : goal.returns-clause-limited
 returns-clause-limited g c door_told =
     let served = c.serve_seats-outcome.ensures.served in
-    let gave = doors_gave g.O.Door
-    (IsServedAt c.args.registry.now.users.now c.serve_seats-outcome.result.1.items) door_told served.0 served.1 c.args.doors.items
-    c.serve_seats-outcome.result.2.items served.2 in
-    let most = served.4 in
-    omega (arith, gave, most)
+    let gave = doors_gave g.O.Door (IsServedAt c.args.registry.now.users.now c.serve_seats-outcome.result.1.items) door_told served.0 served.1
+    c.args.doors.items c.serve_seats-outcome.result.2.items served.2 in
+    omega (arith, gave, served.4)
 
 pub returns-clause-failed : goal.returns-clause-failed
 returns-clause-failed g c is =
     let served = c.serve_seats-outcome.ensures.served in
-    failed_at g.O.Door
-    (IsServedAt c.args.registry.now.users.now c.serve_seats-outcome.result.1.items) c.args.limit served.0 c.serve_seats-outcome.result.2.items
-    c.serve_seats-outcome.result.0 c.refusals_of-refusals.result c.give_back-is_broken.result served.3 (sym c.end_of.ensures ∙ is)
+    failed_at g.O.Door (IsServedAt c.args.registry.now.users.now c.serve_seats-outcome.result.1.items) c.args.limit served.0
+    c.serve_seats-outcome.result.2.items c.serve_seats-outcome.result.0 c.refusals_of-refusals.result c.give_back-is_broken.result served.3
+    (sym c.end_of.ensures ∙ is)
 
 pub returns-clause-doors : goal.returns-clause-doors
 returns-clause-doors g c =
     let served = c.serve_seats-outcome.ensures.served in
-    doors_many g.O.Door
-    (IsServedAt c.args.registry.now.users.now c.serve_seats-outcome.result.1.items) served.0 served.1 c.args.doors.items
+    doors_many g.O.Door (IsServedAt c.args.registry.now.users.now c.serve_seats-outcome.result.1.items) served.0 served.1 c.args.doors.items
     c.serve_seats-outcome.result.2.items served.2
 
 pub returns-clause-disk_cause : goal.returns-clause-disk_cause
 returns-clause-disk_cause g c broken =
-    let count = g.F.Shelf.disk_faults c.args.shelf.now in
-    let count' = g.F.Shelf.disk_faults c.give_back-is_broken.new.shelf in
-    let disk' = g.F.Shelf.disk c.give_back-is_broken.new.shelf in
-    let seats = c.serve_seats-outcome.result.1.items in
-    let first = (seated g (goal.at.returns-clause-disk_cause g c).In-Ok-open_all).first in
-    some_rose g.F.Shelf.tells g.F.D.Disk count count' disk' seats
-    (later_on_seats g.F.D.Disk.faults count c.in-Ok-open_all.seats.items seats c.serve_seats-outcome.ensures.on first) c.give_back-is_broken.ensures.back
-    (any_failed g.F.Shelf.tells g.F.D.Disk count count' disk' seats
-    (sym c.give_back-is_broken.ensures.broke
-    ∙ broken_end c.serve_seats-outcome.result.0 c.refusals_of-refusals.result c.give_back-is_broken.result (subst IsBroken c.end_of.ensures broken)))
+    let back = c.give_back-is_broken in
+    served_rose (seated g (goal.at.returns-clause-disk_cause g c).In-Ok-open_all) c.serve_seats-outcome.result.1.items c.serve_seats-outcome.ensures.on
+    (g.F.Shelf.disk back.new.shelf) (g.F.Shelf.disk_faults back.new.shelf) back.ensures.back
+    (sym back.ensures.broke
+    ∙ broken_end c.serve_seats-outcome.result.0 c.refusals_of-refusals.result back.result (subst IsBroken c.end_of.ensures broken))
 
 pub returns-clause-journal_cause : goal.returns-clause-journal_cause
 returns-clause-journal_cause g c said =

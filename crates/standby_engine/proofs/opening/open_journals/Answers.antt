@@ -10,8 +10,8 @@ use Rattle.desk_crew.specs.Registered.{registered_journals}
 use Rattle.standby_engine.specs.Opened.{place_journal, ArePlacesOf, AreOwn, PlacesOwn}
 use Rattle.standby_engine.proofs.Owning.{place_more, own_disks}
 use Rattle.standby_engine.specs.declared.opening.NotOpened.TheVariants.{Shelf}
-use Rattle.standby_engine.proofs.Places.{AreUnopened, Opening, StaysBut, opening_none, opening_distinct, opening_out, opening_beside, opening_in, opening_more}
-use Rattle.standby_engine.proofs.Places.{opening_back}
+use Rattle.standby_engine.proofs.Places.{NoneOpened, Opening, StaysBut, opening_none, opening_distinct, opening_out}
+use Rattle.standby_engine.proofs.Places.{opening_beside, opening_in, opening_more, opening_back}
 use Rattle.standby_engine.proofs.Returning.{stays_same}
 use Rattle.standby_engine.proofs.opening.open_journals.Given.{Over}
 use Rattle.standby_engine.proofs.opening.open_journals.Goals as goal
@@ -83,7 +83,7 @@ left : (g : Over) (c : After-give_back g)
     → StaysBut g.F.Shelf.tells g.F.D.Disk (journal_name c.args.directory.now (string_bytes c.user-item.result.name)) (g.F.Shelf.disk c.loop-user.shelf)
     (g.F.Shelf.disk c.open_one.new.shelf) (g.F.Shelf.is_out c.loop-user.shelf) (g.F.Shelf.is_out c.open_one.new.shelf)
     (g.F.Shelf.disk_faults c.loop-user.shelf) (g.F.Shelf.disk_faults c.open_one.new.shelf)
-    → AreUnopened g.F.Shelf.tells g.F.D.Disk (registered_journals c.args.directory.now c.args.users.now) (g.F.Shelf.disk c.args.shelf.now)
+    → NoneOpened g.F.Shelf.tells g.F.D.Disk (registered_journals c.args.directory.now c.args.users.now) (g.F.Shelf.disk c.args.shelf.now)
     (g.F.Shelf.disk c.give_back.new.shelf) (g.F.Shelf.is_out c.give_back.new.shelf) (g.F.Shelf.disk_faults c.args.shelf.now)
     (g.F.Shelf.disk_faults c.give_back.new.shelf)
 left g c as_it_was =
