@@ -1,5 +1,5 @@
 //! Desks on disks in memory, which sessions share. Marks were worked out by hand.
-ghost use Rattle.std.specs.Prelude.{◌≡◌, ◌*◌, ◌^◌, IfOk};
+ghost use Rattle.std.specs.Prelude.{◌≡◌, ◌*◌, ◌^◌};
 ghost use Rattle.cqe_base.specs.History.{profile_of};
 ghost use Rattle.cqe_base.specs.Limits.{KeepsLimits};
 ghost use Rattle.turnstile.specs.Passes.{shares as shares_of, turns};
@@ -12,7 +12,7 @@ use cqe_base::user::{Method, User};
 use desk_counter::{Counter, DeskPass};
 use outside::MemoryDisk;
 use std::alloc::Global;
-use std::test::Fail;
+use std::process::Abort;
 use turnstile::PassError;
 
 /// The clinic, with two users from whom Ann's infection is kept by lies, and who know that who
@@ -24,14 +24,14 @@ struct Ward {
     dan: User,
 }
 
-fn make_ward(alloc: Global) -> Result<Ward, Fail>
-    ensures eve { IfOk result (λ w. KeepsLimits w.clinic.schema (profile_of w.eve)) }
-    ensures dan { IfOk result (λ w. KeepsLimits w.clinic.schema (profile_of w.dan)) }
+fn make_ward(rt: &impl Abort, alloc: Global) -> Ward
+    ensures eve { KeepsLimits result.clinic.schema (profile_of result.eve) }
+    ensures dan { KeepsLimits result.clinic.schema (profile_of result.dan) }
 {
-    let clinic = make_clinic(alloc)?;
-    let eve = user_by(alloc, &clinic, "eve", Method::Lying)?;
-    let dan = user_by(alloc, &clinic, "dan", Method::Lying)?;
-    Ok(Ward { clinic, eve, dan })
+    let clinic = make_clinic(rt, alloc);
+    let eve = user_by(rt, alloc, &clinic, "eve", Method::Lying);
+    let dan = user_by(rt, alloc, &clinic, "dan", Method::Lying);
+    Ward { clinic, eve, dan }
 }
 
 // Splits a pass until it has one share, and counts the splits.
@@ -50,10 +50,9 @@ fn split_all(counter: &Counter<'_, MemoryDisk>, pass: &mut DeskPass<MemoryDisk>)
 }
 
 #[test]
-fn a_pass_splits_sixty_four_times(rt: HostRuntime) -> Result<(), Fail> {
+fn a_pass_splits_sixty_four_times(rt: HostRuntime) {
     let alloc = rt.alloc();
-    let ward = make_ward(alloc)?;
-    let (counter, mut pass) = counter_of(&rt, alloc, &ward.clinic, &ward.eve)?;
+    let ward = make_ward(&rt, alloc);
+    let (counter, mut pass) = counter_of(&rt, alloc, &ward.clinic, &ward.eve);
     assert_eq!(rt; split_all(&counter, &mut pass), 64);
-    Ok(())
 }

@@ -14,6 +14,7 @@ use cqe_base::laws::law_limits;
 use cqe_base::user::{Method, User};
 use entailment::{GroundSentence, Views};
 use std::alloc::{AllocError, Global};
+use std::process::Abort;
 use std::test::Fail;
 use std::thread::Threads;
 
@@ -125,7 +126,7 @@ fn agree_on_query<R: Threads + Sync>(
 }
 
 /// The same of a text.
-fn agree<R: Threads + Sync>(
+fn agree<R: Abort + Threads + Sync>(
     rt: &R,
     alloc: Global,
     clinic: &Clinic,
@@ -135,7 +136,7 @@ fn agree<R: Threads + Sync>(
     requires limits { KeepsLimits clinic.now.schema (profile_of user.now) }
     requires short { length text.now ≤ 4096 }
 {
-    let query = sentence(alloc, &clinic.schema, text)?;
+    let query = sentence(rt, alloc, &clinic.schema, text);
     let query = GroundSentence::new(alloc, &clinic.schema, query)?;
     let same = agree_on_query(rt, alloc, clinic, user, &query)?;
     Ok(same)
@@ -154,7 +155,7 @@ fn with_budget(user: User, budget: u64) -> User
 }
 
 /// Whether both bodies agree on some queries of a user.
-fn agree_on_texts<R: Threads + Sync>(
+fn agree_on_texts<R: Abort + Threads + Sync>(
     rt: &R,
     alloc: Global,
     clinic: &Clinic,
@@ -169,7 +170,7 @@ fn agree_on_texts<R: Threads + Sync>(
 }
 
 /// Whether they do for a user by this method, with this budget.
-fn agree_by<R: Threads + Sync>(
+fn agree_by<R: Abort + Threads + Sync>(
     rt: &R,
     alloc: Global,
     clinic: &Clinic,
@@ -179,7 +180,7 @@ fn agree_by<R: Threads + Sync>(
     requires some { 1 ≤ budget }
     requires small { budget ≤ 4000000 }
 {
-    let user = user_by(alloc, clinic, "kim", method)?;
+    let user = user_by(rt, alloc, clinic, "kim", method);
     let user = with_budget(user, budget);
     let same = agree_on_texts(rt, alloc, clinic, &user)?;
     Ok(same)
@@ -189,7 +190,7 @@ fn agree_by<R: Threads + Sync>(
 #[test]
 fn threads_find_what_one_finds(rt: HostRuntime) -> Result<(), Fail> {
     let alloc = rt.alloc();
-    let clinic = make_clinic(alloc)?;
+    let clinic = make_clinic(&rt, alloc);
     for budget in 1..12 {
         assert!(rt; agree_by(&rt, alloc, &clinic, Method::Lying, budget)?);
         assert!(rt; agree_by(&rt, alloc, &clinic, Method::Refusal, budget)?);

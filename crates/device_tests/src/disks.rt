@@ -6,10 +6,10 @@ use std::alloc::{AllocError, Global};
 use std::process::Abort;
 use std::test::Fail;
 
-// A call of a disk, and what it has to answer.
+/// A call of a disk, and what it has to answer.
 pub(crate) enum Step {
     Length(Result<u64, Failed>),
-    // Three bytes from this place on, or those that there are.
+    /// Three bytes from this place on, or those that there are.
     Read(u64, &'static [u8]),
     Write(u64, &'static [u8]),
     Sync(Result<(), Failed>),
@@ -42,7 +42,7 @@ fn writes(disk: &mut MemoryDisk, at: u64, bytes: &[u8]) -> bool {
     at <= disk.bytes().len() as u64 && disk.write_at(at, bytes).is_ok()
 }
 
-// Makes these calls, one after the other.
+/// Makes these calls, one after the other, each of which has to answer as its step says.
 pub(crate) fn play(rt: &impl Abort, disk: &mut MemoryDisk, steps: &[Step]) {
     for (number, step) in steps.iter().enumerate() {
         assert!(rt; answers(disk, step), "call {number}");

@@ -33,23 +33,29 @@ struct Book {
 
 /// Reads all scenes of a text.
 pub fn read_book(alloc: Global, text: &str) -> Result<Vec<Scene>, Trouble> {
+    let cuts = vec![in alloc; 4096]?;
     let mut book = Book {
         alloc,
         texts: Vec::new(alloc),
-        cuts: vec![in alloc; 4096]?,
+        cuts,
         scenes: Vec::new(alloc),
         block: Block::Text,
     };
-    for (index, line) in text.lines().enumerate() {
-        match book.take(line)? {
-            Some(()) => (),
-            None => return Err(Trouble::Line(index.saturating_add(1))),
-        }
-    }
+    book.take_all(text)?;
     Ok(book.scenes)
 }
 
 impl Book {
+    /// Takes all lines of a text.
+    fn take_all(&mut self, text: &str) -> Result<(), Trouble> {
+        for (index, line) in text.lines().enumerate() {
+            if self.take(line)?.is_none() {
+                return Err(Trouble::Line(index.saturating_add(1)));
+            }
+        }
+        Ok(())
+    }
+
     /// Takes a line; `None` where it has no form.
     fn take(&mut self, line: &str) -> Result<Option<()>, AllocError> {
         if line.is_empty() || line.starts_with("# ") || line == "#" {
@@ -91,14 +97,10 @@ impl Book {
 
     /// Says in which pieces the scenes from here on are played.
     fn cut(&mut self, rest: &str) -> Result<Option<()>, AllocError> {
-        let mut cuts = Vec::new(self.alloc);
-        for word in rest.split_whitespace() {
-            match word.parse::<usize>() {
-                Ok(size) => cuts.push(size)?,
-                Err(_) => return Ok(None),
-            }
+        match numbers(self.alloc, rest)? {
+            Some(cuts) => self.cuts = cuts,
+            None => return Ok(None),
         }
-        self.cuts = cuts;
         Ok(Some(()))
     }
 
@@ -112,44 +114,31 @@ impl Book {
     /// Begins a file or a disk.
     fn give(&mut self, name: &str, is_disk: bool) -> Result<Option<()>, AllocError> {
         let given = named(self.alloc, name)?;
-        let Some(scene) = self.scenes.last_mut() else {
-            return Ok(None);
-        };
         let step = if is_disk {
             Step::Disk(given)
         } else {
             Step::File(given)
         };
-        scene.steps.push(step)?;
         self.block = Block::Given;
+        self.step(step)
+    }
+
+    /// Appends a step to the last scene.
+    fn step(&mut self, step: Step) -> Result<Option<()>, AllocError> {
+        let Some(scene) = self.scenes.last_mut() else {
+            return Ok(None);
+        };
+        scene.steps.push(step)?;
         Ok(Some(()))
     }
 
     /// Begins a call.
     fn call(&mut self, rest: &str) -> Result<Option<()>, AllocError> {
-        let alloc = self.alloc;
-        let Some(words) = words_of(alloc, rest)? else {
+        let Some(words) = words_of(self.alloc, rest)? else {
             return Ok(None);
         };
-        let Some(scene) = self.scenes.last_mut() else {
-            return Ok(None);
-        };
-        scene.steps.push(Step::Call(Call {
-            words,
-            input: Vec::new(alloc),
-            clients: Vec::new(alloc),
-            output: Vec::new(alloc),
-            complaint: Vec::new(alloc),
-            status: 0,
-            unread: false,
-            unreached: false,
-            frames: Vec::new(alloc),
-            left: 0,
-            kept: Vec::new(alloc),
-            gone: Vec::new(alloc),
-        }))?;
         self.block = Block::Call;
-        Ok(Some(()))
+        self.step(Step::Call(call_of(self.alloc, words)))
     }
 
     /// Begins a client of the last call.
@@ -197,14 +186,7 @@ impl Book {
     /// The status of the last call, how many clients are left, that its input isn't read, or that
     /// no standby is reached.
     fn number(&mut self, head: &str, rest: &str) -> Option<()> {
-        let call = last_call(&mut self.scenes)?;
-        match head {
-            "status" => call.status = rest.parse::<u8>().ok()?,
-            "left" => call.left = rest.parse::<usize>().ok()?,
-            "unreached" => call.unreached = true,
-            _ => call.unread = true,
-        }
-        Some(())
+        set_number(last_call(&mut self.scenes)?, head, rest)
     }
 
     /// Appends a line of bytes to where its mark and the block say.
@@ -212,12 +194,26 @@ impl Book {
         let Some(mark) = Mark::of(head) else {
             return Ok(None);
         };
-        let mut bytes = Vec::new(self.alloc);
-        if !push_piece(self.alloc, &mut bytes, &self.texts, mark.flags, rest)? {
+        let Some(bytes) = self.bytes_of(mark.flags, rest)? else {
             return Ok(None);
+        };
+        self.append(mark.kind, &bytes)
+    }
+
+    /// The bytes for which a line stands.
+    fn bytes_of(&self, flags: &str, rest: &str) -> Result<Option<Vec<u8>>, AllocError> {
+        let mut bytes = Vec::new(self.alloc);
+        if push_piece(self.alloc, &mut bytes, &self.texts, flags, rest)? {
+            Ok(Some(bytes))
+        } else {
+            Ok(None)
         }
-        match self.target(mark.kind) {
-            Some(target) => target.extend_from_slice(&bytes)?,
+    }
+
+    /// Appends bytes of this kind to where they belong.
+    fn append(&mut self, kind: Kind, bytes: &[u8]) -> Result<Option<()>, AllocError> {
+        match self.target(kind) {
+            Some(target) => target.extend_from_slice(bytes)?,
             None => return Ok(None),
         }
         Ok(Some(()))
@@ -228,20 +224,7 @@ impl Book {
         match (kind, self.block) {
             (Kind::Bytes, Block::Text) => Some(&mut self.texts.last_mut()?.bytes),
             (Kind::Bytes, Block::Given) => given_bytes(self.scenes.last_mut()?.steps.last_mut()?),
-            (Kind::Bytes, Block::Kept) => {
-                Some(&mut last_call(&mut self.scenes)?.kept.last_mut()?.bytes)
-            }
-            (Kind::Bytes, Block::Frames) => Some(&mut last_call(&mut self.scenes)?.frames),
-            (Kind::Input, Block::Client) => {
-                Some(&mut last_call(&mut self.scenes)?.clients.last_mut()?.sends)
-            }
-            (Kind::Output, Block::Client) => {
-                Some(&mut last_call(&mut self.scenes)?.clients.last_mut()?.gets)
-            }
-            (Kind::Input, Block::Call) => Some(&mut last_call(&mut self.scenes)?.input),
-            (Kind::Output, Block::Call) => Some(&mut last_call(&mut self.scenes)?.output),
-            (Kind::Complaint, _) => Some(&mut last_call(&mut self.scenes)?.complaint),
-            _ => None,
+            (kind, block) => bytes_of_call(last_call(&mut self.scenes)?, kind, block),
         }
     }
 }
@@ -266,17 +249,18 @@ struct Mark<'t> {
     flags: &'t str,
 }
 
+const MARKS: [(&str, Kind); 4] = [
+    ("|", Kind::Bytes),
+    ("<", Kind::Input),
+    (">", Kind::Output),
+    ("!", Kind::Complaint),
+];
+
 impl<'t> Mark<'t> {
     fn of(head: &'t str) -> Option<Mark<'t>> {
-        let marks = [
-            ("|", Kind::Bytes),
-            ("<", Kind::Input),
-            (">", Kind::Output),
-            ("!", Kind::Complaint),
-        ];
-        for (mark, kind) in marks {
-            if let Some(flags) = head.strip_prefix(mark) {
-                return Some(Mark { kind, flags });
+        for (mark, kind) in &MARKS {
+            if let Some(flags) = head.strip_prefix(*mark) {
+                return Some(Mark { kind: *kind, flags });
             }
         }
         None
@@ -289,6 +273,62 @@ fn named(alloc: Global, name: &str) -> Result<Named, AllocError> {
         name: String::from_str(alloc, name)?,
         bytes: Vec::new(alloc),
     })
+}
+
+/// A call of these words from which nothing has to come yet.
+fn call_of(alloc: Global, words: Vec<String>) -> Call {
+    Call {
+        words,
+        input: Vec::new(alloc),
+        clients: Vec::new(alloc),
+        output: Vec::new(alloc),
+        complaint: Vec::new(alloc),
+        status: 0,
+        unread: false,
+        unreached: false,
+        frames: Vec::new(alloc),
+        left: 0,
+        kept: Vec::new(alloc),
+        gone: Vec::new(alloc),
+    }
+}
+
+/// Says of a call which status it has to have, how many clients are left, that its input isn't
+/// read, or that no standby is reached.
+fn set_number(call: &mut Call, head: &str, rest: &str) -> Option<()> {
+    match head {
+        "status" => call.status = rest.parse::<u8>().ok()?,
+        "left" => call.left = rest.parse::<usize>().ok()?,
+        "unreached" => call.unreached = true,
+        _ => call.unread = true,
+    }
+    Some(())
+}
+
+/// The bytes of a call to which lines of this kind belong in this block.
+fn bytes_of_call(call: &mut Call, kind: Kind, block: Block) -> Option<&mut Vec<u8>> {
+    match (kind, block) {
+        (Kind::Bytes, Block::Kept) => Some(&mut call.kept.last_mut()?.bytes),
+        (Kind::Bytes, Block::Frames) => Some(&mut call.frames),
+        (Kind::Input, Block::Client) => Some(&mut call.clients.last_mut()?.sends),
+        (Kind::Output, Block::Client) => Some(&mut call.clients.last_mut()?.gets),
+        (Kind::Input, Block::Call) => Some(&mut call.input),
+        (Kind::Output, Block::Call) => Some(&mut call.output),
+        (Kind::Complaint, _) => Some(&mut call.complaint),
+        _ => None,
+    }
+}
+
+/// The numbers of a line, with blanks between them.
+fn numbers(alloc: Global, line: &str) -> Result<Option<Vec<usize>>, AllocError> {
+    let mut numbers = Vec::new(alloc);
+    for word in line.split_whitespace() {
+        match word.parse::<usize>() {
+            Ok(number) => numbers.push(number)?,
+            Err(_) => return Ok(None),
+        }
+    }
+    Ok(Some(numbers))
 }
 
 /// The last call of the last scene.
@@ -312,14 +352,20 @@ fn given_bytes(step: &mut Step) -> Option<&mut Vec<u8>> {
 pub fn words_of(alloc: Global, line: &str) -> Result<Option<Vec<String>>, AllocError> {
     let mut words = Vec::new(alloc);
     for word in line.split_whitespace() {
-        let mut bytes = Vec::new(alloc);
-        if !push_text(&mut bytes, word)? {
-            return Ok(None);
-        }
-        match String::from_utf8(bytes) {
-            Ok(word) => words.push(word)?,
-            Err(_) => return Ok(None),
+        match word_of(alloc, word)? {
+            Some(word) => words.push(word)?,
+            None => return Ok(None),
         }
     }
     Ok(Some(words))
+}
+
+/// A word that may have a backslash as a text does.
+fn word_of(alloc: Global, word: &str) -> Result<Option<String>, AllocError> {
+    let mut bytes = Vec::new(alloc);
+    if push_text(&mut bytes, word)? {
+        Ok(String::from_utf8(bytes).ok())
+    } else {
+        Ok(None)
+    }
 }

@@ -8,7 +8,7 @@
 use crate::forms::form_text;
 use crate::machine::{end_text, judged_model, judged_refutation, search_text};
 use crate::readers::{request_text, sentence_text_of, words_text};
-use crate::scene::{Call, Scene, Step};
+use crate::scene::{Call, Named, Scene, Step};
 use crate::stage::{Outcome, Stage};
 use cqe_base::schema::Schema;
 use dimacs_text::answer_input;
@@ -46,10 +46,21 @@ pub fn perform(
     match program.as_str() {
         "cqe" => Ok(Some(stage.perform(rt, alloc, words, call, cut)?)),
         "dimacs" => Ok(Some(dimacs(alloc, call, cut)?)),
-        name => match reader_named(alloc, scene, name, words) {
-            Some(reader) => Ok(Some(by_lines(alloc, &reader, call)?)),
-            None => Ok(None),
-        },
+        name => read(alloc, scene, name, words, call),
+    }
+}
+
+/// What the reader of a name makes of a call; `None` where there is no such reader.
+fn read(
+    alloc: Global,
+    scene: &Scene,
+    name: &str,
+    words: &[String],
+    call: &Call,
+) -> Result<Option<Outcome>, AllocError> {
+    match reader_named(alloc, scene, name, words) {
+        Some(reader) => Ok(Some(by_lines(alloc, &reader, call)?)),
+        None => Ok(None),
     }
 }
 
@@ -58,7 +69,7 @@ fn reader_named(alloc: Global, scene: &Scene, name: &str, words: &[String]) -> O
     match name {
         "words" => Some(Reader::Words),
         "requests" => Some(Reader::Requests),
-        "sentences" => Some(Reader::Sentences(schema_in(alloc, scene, words.first()?)?)),
+        "sentences" => reader_of_sentences(alloc, scene, words),
         "searches" => Some(Reader::Searches),
         "ends" => Some(Reader::Ends),
         "refutations" => Some(Reader::Refutations),
@@ -68,19 +79,31 @@ fn reader_named(alloc: Global, scene: &Scene, name: &str, words: &[String]) -> O
     }
 }
 
-/// The schema of the policy in the file of this name.
-fn schema_in(alloc: Global, scene: &Scene, name: &String) -> Option<Schema> {
+/// The reader of sentences over the schema of the policy that the first word names.
+fn reader_of_sentences(alloc: Global, scene: &Scene, words: &[String]) -> Option<Reader> {
+    let file = file_named(scene, words.first()?)?;
+    let schema = schema_of(alloc, &file.bytes)?;
+    Some(Reader::Sentences(schema))
+}
+
+/// The file of this name.
+fn file_named<'s>(scene: &'s Scene, name: &String) -> Option<&'s Named> {
     for step in &scene.steps {
         if let Step::File(file) = step
             && file.name.as_str() == name.as_str()
         {
-            return match read_policy(alloc, &file.bytes) {
-                Ok(policy) => Some(policy.schema),
-                Err(_) => None,
-            };
+            return Some(file);
         }
     }
     None
+}
+
+/// The schema of a policy.
+fn schema_of(alloc: Global, bytes: &[u8]) -> Option<Schema> {
+    match read_policy(alloc, bytes) {
+        Ok(policy) => Some(policy.schema),
+        Err(_) => None,
+    }
 }
 
 /// The search machine on the clauses of the input.
@@ -89,11 +112,21 @@ fn dimacs(alloc: Global, call: &Call, cut: usize) -> Result<Outcome, AllocError>
     let mut source = MemorySource::with_plan(input, Pieces::UpTo(cut), Plan::Never);
     let mut sink = MemorySink::with_plan(alloc, Pieces::UpTo(cut), Plan::Never);
     let mut complaints = MemorySink::new(alloc);
-    let ending = answer_input(alloc, &mut source, &mut sink, &mut complaints);
+    let status = answer_input(alloc, &mut source, &mut sink, &mut complaints).status();
+    written(alloc, status, sink.bytes(), complaints.bytes())
+}
+
+/// An outcome of which this was written, and nothing else came.
+fn written(
+    alloc: Global,
+    status: u8,
+    output: &[u8],
+    complaint: &[u8],
+) -> Result<Outcome, AllocError> {
     Ok(Outcome {
-        status: ending.status(),
-        output: sink.bytes().to_vec(alloc)?,
-        complaint: complaints.bytes().to_vec(alloc)?,
+        status,
+        output: output.to_vec(alloc)?,
+        complaint: complaint.to_vec(alloc)?,
         unread: false,
         served: Vec::new(alloc),
         frames: Vec::new(alloc),
@@ -106,20 +139,23 @@ fn by_lines(alloc: Global, reader: &Reader, call: &Call) -> Result<Outcome, Allo
     let mut output = Vec::new(alloc);
     if let Ok(text) = str::from_utf8(&call.input) {
         for line in text.strip_suffix("\n").unwrap_or(text).split('\n') {
-            let answer = answer(alloc, reader, line)?;
-            output.extend_from_slice(answer.as_bytes())?;
-            output.push(b'\n')?;
+            push_answer(alloc, &mut output, reader, line)?;
         }
     }
-    Ok(Outcome {
-        status: 0,
-        output,
-        complaint: Vec::new(alloc),
-        unread: false,
-        served: Vec::new(alloc),
-        frames: Vec::new(alloc),
-        left: 0,
-    })
+    written(alloc, 0, &output, &[])
+}
+
+/// Appends what a reader makes of a line, as a line.
+fn push_answer(
+    alloc: Global,
+    output: &mut Vec<u8>,
+    reader: &Reader,
+    line: &str,
+) -> Result<(), AllocError> {
+    let answer = answer(alloc, reader, line)?;
+    output.extend_from_slice(answer.as_bytes())?;
+    output.push(b'\n')?;
+    Ok(())
 }
 
 /// What a reader makes of a line.

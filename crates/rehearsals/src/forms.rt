@@ -41,6 +41,14 @@ fn boxed(alloc: Global, stack: &mut Vec<Prop>) -> Result<Option<Box<Prop>>, Allo
     }
 }
 
+/// The last two formulas of a stack in boxes, in order.
+fn two(alloc: Global, stack: &mut Vec<Prop>) -> Result<Option<(Box<Prop>, Box<Prop>)>, AllocError> {
+    match (boxed(alloc, stack)?, boxed(alloc, stack)?) {
+        (Some(right), Some(left)) => Ok(Some((left, right))),
+        _ => Ok(None),
+    }
+}
+
 /// The formula of a word, whose parts come off a stack.
 fn node(alloc: Global, stack: &mut Vec<Prop>, word: &str) -> Result<Option<Prop>, AllocError> {
     match word {
@@ -50,13 +58,13 @@ fn node(alloc: Global, stack: &mut Vec<Prop>, word: &str) -> Result<Option<Prop>
             Some(part) => Ok(Some(Prop::Not(part))),
             None => Ok(None),
         },
-        "->" => match (boxed(alloc, stack)?, boxed(alloc, stack)?) {
-            (Some(right), Some(left)) => Ok(Some(Prop::Implies(left, right))),
-            _ => Ok(None),
+        "->" => match two(alloc, stack)? {
+            Some((left, right)) => Ok(Some(Prop::Implies(left, right))),
+            None => Ok(None),
         },
-        "<->" => match (boxed(alloc, stack)?, boxed(alloc, stack)?) {
-            (Some(right), Some(left)) => Ok(Some(Prop::Iff(left, right))),
-            _ => Ok(None),
+        "<->" => match two(alloc, stack)? {
+            Some((left, right)) => Ok(Some(Prop::Iff(left, right))),
+            None => Ok(None),
         },
         _ => wide_node(alloc, stack, word),
     }
@@ -65,18 +73,31 @@ fn node(alloc: Global, stack: &mut Vec<Prop>, word: &str) -> Result<Option<Prop>
 /// A fact, or a formula of many parts.
 fn wide_node(alloc: Global, stack: &mut Vec<Prop>, word: &str) -> Result<Option<Prop>, AllocError> {
     let Some((kind, count)) = word.split_once(":") else {
-        return Ok(match word.parse::<u32>() {
-            Ok(digits) => Some(Prop::Atom(fact(digits))),
-            Err(_) => None,
-        });
+        return Ok(atom(word));
     };
     let Ok(count) = count.parse::<usize>() else {
         return Ok(None);
     };
-    match (last(alloc, stack, count)?, kind) {
-        (Some(parts), "and") => Ok(Some(Prop::And(parts))),
-        (Some(parts), "or") => Ok(Some(Prop::Or(parts))),
-        _ => Ok(None),
+    match last(alloc, stack, count)? {
+        Some(parts) => Ok(wide(kind, parts)),
+        None => Ok(None),
+    }
+}
+
+/// The fact of a word.
+fn atom(word: &str) -> Option<Prop> {
+    match word.parse::<u32>() {
+        Ok(digits) => Some(Prop::Atom(fact(digits))),
+        Err(_) => None,
+    }
+}
+
+/// The formula of many parts of this kind.
+fn wide(kind: &str, parts: Vec<Prop>) -> Option<Prop> {
+    match kind {
+        "and" => Some(Prop::And(parts)),
+        "or" => Some(Prop::Or(parts)),
+        _ => None,
     }
 }
 
@@ -151,14 +172,28 @@ pub fn form_text(alloc: Global, line: &str) -> Result<String, AllocError> {
         let Some((sign, words)) = signed.trim().split_once(" ") else {
             return String::from_str(alloc, "no sign");
         };
-        match formula(alloc, words)? {
-            Some(prop) if has_room(former.variables(), &prop) => {
-                former.add(alloc, &prop, sign == "+")?;
-            }
-            _ => return String::from_str(alloc, "no formula"),
+        if !is_added(alloc, &mut former, sign == "+", words)? {
+            return String::from_str(alloc, "no formula");
         }
     }
     let mut text = format!(in alloc; "{}:", former.variables())?;
     push_clauses(&mut text, former.clauses())?;
     Ok(text)
+}
+
+/// Adds the formula of words with a sign, and answers whether they are one for which there is room.
+fn is_added(
+    alloc: Global,
+    former: &mut Former,
+    sign: bool,
+    words: &str,
+) -> Result<bool, AllocError> {
+    let Some(prop) = formula(alloc, words)? else {
+        return Ok(false);
+    };
+    if !has_room(former.variables(), &prop) {
+        return Ok(false);
+    }
+    former.add(alloc, &prop, sign)?;
+    Ok(true)
 }

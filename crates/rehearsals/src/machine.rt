@@ -38,14 +38,20 @@ fn clauses(alloc: Global, text: &str) -> Result<Option<Clauses>, AllocError> {
         return Ok(Some(clauses));
     }
     for clause in text.split(',') {
-        match literals(alloc, clause)? {
-            Some(literals) => {
-                let _number = clauses.push(&literals)?;
-            }
-            None => return Ok(None),
+        if !push_clause(alloc, &mut clauses, clause)? {
+            return Ok(None);
         }
     }
     Ok(Some(clauses))
+}
+
+/// Appends the clause of these numbers, and answers whether they are such.
+fn push_clause(alloc: Global, clauses: &mut Clauses, text: &str) -> Result<bool, AllocError> {
+    let Some(literals) = literals(alloc, text)? else {
+        return Ok(false);
+    };
+    let _number = clauses.push(&literals)?;
+    Ok(true)
 }
 
 /// How many variables there are, and the clauses: `N: clauses`.
@@ -74,27 +80,39 @@ fn push_literals(text: &mut String, literals: &[Lit]) -> Result<(), AllocError> 
 /// between them, each a clause, `by` and a chain, or `spent`.
 pub fn found_text(alloc: Global, found: &Found) -> Result<String, AllocError> {
     match found {
-        Found::Model(signs) => {
-            let mut text = String::from_str(alloc, "model ")?;
-            for sign in &signs.values {
-                text.push_str(if *sign { "1" } else { "0" })?;
-            }
-            Ok(text)
-        }
-        Found::Refuted(refutation) => {
-            let mut text = String::from_str(alloc, "refuted")?;
-            for (place, line) in refutation.lines.iter().enumerate() {
-                text.push_str(if place > 0 { "," } else { "" })?;
-                push_literals(&mut text, &line.clause)?;
-                text.push_str(" by")?;
-                for number in &line.chain {
-                    write!(text, " {number}")?;
-                }
-            }
-            Ok(text)
-        }
+        Found::Model(signs) => model_text(alloc, signs),
+        Found::Refuted(refutation) => refutation_text(alloc, refutation),
         Found::Spent => String::from_str(alloc, "spent"),
     }
+}
+
+/// `model` and a digit for each variable.
+fn model_text(alloc: Global, signs: &Signs) -> Result<String, AllocError> {
+    let mut text = String::from_str(alloc, "model ")?;
+    for sign in &signs.values {
+        text.push_str(if *sign { "1" } else { "0" })?;
+    }
+    Ok(text)
+}
+
+/// `refuted` and the lines, with a comma between them.
+fn refutation_text(alloc: Global, refutation: &Refutation) -> Result<String, AllocError> {
+    let mut text = String::from_str(alloc, "refuted")?;
+    for (place, line) in refutation.lines.iter().enumerate() {
+        text.push_str(if place > 0 { "," } else { "" })?;
+        push_line(&mut text, line)?;
+    }
+    Ok(text)
+}
+
+/// Appends a line: a clause, `by` and a chain.
+fn push_line(text: &mut String, line: &Line) -> Result<(), AllocError> {
+    push_literals(text, &line.clause)?;
+    text.push_str(" by")?;
+    for number in &line.chain {
+        write!(text, " {number}")?;
+    }
+    Ok(())
 }
 
 /// What both bodies find within a budget, or that they differ.
@@ -109,7 +127,12 @@ fn both(
     }
     let fast = found_text(alloc, &search(alloc, clauses, variables, budget)?)?;
     let plain = found_text(alloc, &search_plain(alloc, clauses, variables, budget)?)?;
-    if fast.as_str() == plain.as_str() {
+    agreed(alloc, fast, plain.as_str())
+}
+
+/// What both found, or that they differ.
+fn agreed(alloc: Global, fast: String, plain: &str) -> Result<String, AllocError> {
+    if fast.as_str() == plain {
         Ok(fast)
     } else {
         String::from_str(alloc, "the bodies differ")
@@ -119,31 +142,51 @@ fn both(
 /// The whole cost of a search, and what both bodies find at this budget, if they find nothing at
 /// one less, and a kept search differs from them in no order.
 pub fn search_text(alloc: Global, line: &str) -> Result<String, AllocError> {
-    let Some((variables, clauses)) = problem(alloc, line)? else {
-        return String::from_str(alloc, "no clauses");
-    };
-    if !is_searchable(&clauses, variables, BUDGET) {
+    match problem(alloc, line)? {
+        Some((variables, clauses)) => searched(alloc, &clauses, variables),
+        None => String::from_str(alloc, "no clauses"),
+    }
+}
+
+/// The same of clauses that are read.
+fn searched(alloc: Global, clauses: &Clauses, variables: u32) -> Result<String, AllocError> {
+    if !is_searchable(clauses, variables, BUDGET) {
         return String::from_str(alloc, "not searchable");
     }
-    let cost = search_with_cost(alloc, &clauses, variables, BUDGET)?.cost;
-    let below = both(alloc, &clauses, variables, cost.saturating_sub(1))?;
+    let cost = search_with_cost(alloc, clauses, variables, BUDGET)?.cost;
+    let below = both(alloc, clauses, variables, cost.saturating_sub(1))?;
     if below.as_str() != "spent" {
         return format!(in alloc; "{below} below {cost}");
     }
-    if let Some(text) = difference_in_orders(alloc, &clauses, variables)? {
+    found_at(alloc, clauses, variables, cost)
+}
+
+/// What both bodies find at the cost, if a kept search differs from them in no order.
+fn found_at(
+    alloc: Global,
+    clauses: &Clauses,
+    variables: u32,
+    cost: u64,
+) -> Result<String, AllocError> {
+    if let Some(text) = difference_in_orders(alloc, clauses, variables)? {
         return format!(in alloc; "a kept search differs: {text}");
     }
-    let found = both(alloc, &clauses, variables, cost)?;
+    let found = both(alloc, clauses, variables, cost)?;
     format!(in alloc; "{cost} {found}")
 }
 
 /// The same with the kind of the end alone.
 pub fn end_text(alloc: Global, line: &str) -> Result<String, AllocError> {
     let text = search_text(alloc, line)?;
+    two_words(alloc, text.as_str())
+}
+
+/// The first two words of a text that has so many, and any other as it is.
+fn two_words(alloc: Global, text: &str) -> Result<String, AllocError> {
     let mut words = text.split_whitespace();
     match (words.next(), words.next()) {
-        (Some(cost), Some(end)) => format!(in alloc; "{cost} {end}"),
-        _ => String::from_str(alloc, text.as_str()),
+        (Some(first), Some(second)) => format!(in alloc; "{first} {second}"),
+        _ => String::from_str(alloc, text),
     }
 }
 
@@ -167,17 +210,22 @@ fn refutation_line(alloc: Global, text: &str) -> Result<Option<Line>, AllocError
     let Some((clause, numbers)) = text.split_once("by") else {
         return Ok(None);
     };
-    let Some(clause) = literals(alloc, clause)? else {
-        return Ok(None);
-    };
+    match (literals(alloc, clause)?, chain(alloc, numbers)?) {
+        (Some(clause), Some(chain)) => Ok(Some(Line { clause, chain })),
+        _ => Ok(None),
+    }
+}
+
+/// The numbers of a chain; `None` where some word is none.
+fn chain(alloc: Global, text: &str) -> Result<Option<Vec<u32>>, AllocError> {
     let mut chain = Vec::new(alloc);
-    for word in numbers.split_whitespace() {
+    for word in text.split_whitespace() {
         match word.parse::<u32>() {
             Ok(number) => chain.push(number)?,
             Err(_) => return Ok(None),
         }
     }
-    Ok(Some(Line { clause, chain }))
+    Ok(Some(chain))
 }
 
 /// `right` or `wrong`.
@@ -188,11 +236,17 @@ fn verdict(alloc: Global, is_right: bool) -> Result<String, AllocError> {
 /// Whether a refutation of clauses is right: `clauses; lines`.
 pub fn judged_refutation(alloc: Global, line: &str) -> Result<String, AllocError> {
     let (given, lines) = line.split_once(";").unwrap_or((line, ""));
-    match (clauses(alloc, given)?, refutation(alloc, lines)?) {
-        (Some(clauses), Some(refutation)) => {
-            verdict(alloc, check_refutation(alloc, &clauses, &refutation)?)
-        }
-        _ => String::from_str(alloc, "no clauses"),
+    match clauses(alloc, given)? {
+        Some(clauses) => judged_lines(alloc, &clauses, lines),
+        None => String::from_str(alloc, "no clauses"),
+    }
+}
+
+/// Whether the refutation of these lines is right.
+fn judged_lines(alloc: Global, clauses: &Clauses, lines: &str) -> Result<String, AllocError> {
+    match refutation(alloc, lines)? {
+        Some(refutation) => verdict(alloc, check_refutation(alloc, clauses, &refutation)?),
+        None => String::from_str(alloc, "no clauses"),
     }
 }
 
@@ -202,9 +256,15 @@ pub fn judged_model(alloc: Global, line: &str) -> Result<String, AllocError> {
     let Some(clauses) = clauses(alloc, given)? else {
         return String::from_str(alloc, "no clauses");
     };
+    let signs = signs_of(alloc, signs)?;
+    verdict(alloc, check_model(&clauses, &signs))
+}
+
+/// The signs of digits.
+fn signs_of(alloc: Global, digits: &str) -> Result<Signs, AllocError> {
     let mut values = Vec::new(alloc);
-    for sign in signs.bytes() {
-        values.push(sign == b'1')?;
+    for digit in digits.bytes() {
+        values.push(digit == b'1')?;
     }
-    verdict(alloc, check_model(&clauses, &Signs { values }))
+    Ok(Signs { values })
 }

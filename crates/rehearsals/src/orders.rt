@@ -99,8 +99,7 @@ impl Growing {
     fn push_some(&mut self, dice: &mut Dice, clauses: &Clauses) -> Result<(), AllocError> {
         for _ in 0..dice.below(clauses.len() / 4 + 2) {
             if let Some(clause) = clauses.get(dice.below(clauses.len())) {
-                let most = if dice.below(8) == 0 { 1 } else { clause.len() };
-                self.push(&clause[..clause.len().min(most)])?;
+                self.push(front_of(dice, clause))?;
             }
         }
         Ok(())
@@ -157,14 +156,13 @@ impl Growing {
         let (cost, searched) = self.searched(alloc, budget)?;
         let found = self.found(alloc, budget)?;
         let plain = self.found_plainly(alloc, budget)?;
-        if cost == budget
-            && searched.as_str() == plain.as_str()
-            && found.as_str() == plain.as_str()
-        {
-            format!(in alloc; "{budget} {plain}")
-        } else {
-            format!(in alloc; "at {budget}: {cost} {searched}, {found}, plainly {plain}")
-        }
+        agreed(
+            alloc,
+            (budget, cost),
+            searched.as_str(),
+            found.as_str(),
+            plain.as_str(),
+        )
     }
 
     /// What differs between the kept search and the plain program, at the cost and at one less, if
@@ -172,17 +170,73 @@ impl Growing {
     fn difference(&mut self, alloc: Global) -> Result<Option<String>, AllocError> {
         let (cost, whole) = self.searched(alloc, BUDGET)?;
         let whole = format!(in alloc; "{cost} {whole}")?;
-        let found = self.at(alloc, cost)?;
-        if found.as_str() != whole.as_str() {
+        if let Some(found) = self.other_at(alloc, cost, whole.as_str())? {
             return Ok(Some(format!(in alloc; "{whole}, but {found}")?));
         }
-        let less = cost.saturating_sub(1);
-        let spent = format!(in alloc; "{less} spent")?;
-        let below = self.at(alloc, less)?;
-        if below.as_str() != spent.as_str() {
+        if let Some(below) = self.unspent_at(alloc, cost.saturating_sub(1))? {
             return Ok(Some(format!(in alloc; "{whole}, but {below}")?));
         }
         Ok(None)
+    }
+
+    /// What is found at a budget, if it isn't this.
+    fn other_at(
+        &mut self,
+        alloc: Global,
+        budget: u64,
+        want: &str,
+    ) -> Result<Option<String>, AllocError> {
+        let found = self.at(alloc, budget)?;
+        if found.as_str() == want {
+            Ok(None)
+        } else {
+            Ok(Some(found))
+        }
+    }
+
+    /// What is found at a budget, if anything is.
+    fn unspent_at(&mut self, alloc: Global, budget: u64) -> Result<Option<String>, AllocError> {
+        let spent = format!(in alloc; "{budget} spent")?;
+        let found = self.other_at(alloc, budget, spent.as_str())?;
+        Ok(found)
+    }
+
+    /// Takes a random step: what differs, if anything does.
+    fn step(
+        &mut self,
+        alloc: Global,
+        dice: &mut Dice,
+        clauses: &Clauses,
+    ) -> Result<Option<String>, AllocError> {
+        match dice.below(8) {
+            0..3 => self.push_some(dice, clauses)?,
+            3 => self.mark(alloc)?,
+            4 => self.cut(alloc)?,
+            _ => return self.difference(alloc),
+        }
+        Ok(None)
+    }
+}
+
+/// A clause, or now and then its first literal alone.
+fn front_of<'c>(dice: &mut Dice, clause: &'c [Lit]) -> &'c [Lit] {
+    let most = if dice.below(8) == 0 { 1 } else { clause.len() };
+    &clause[..clause.len().min(most)]
+}
+
+/// What all find at a budget that is spent whole, behind it; or what each finds, the plain program
+/// as the last.
+fn agreed(
+    alloc: Global,
+    (budget, cost): (u64, u64),
+    searched: &str,
+    found: &str,
+    plain: &str,
+) -> Result<String, AllocError> {
+    if cost == budget && searched == plain && found == plain {
+        format!(in alloc; "{budget} {plain}")
+    } else {
+        format!(in alloc; "at {budget}: {cost} {searched}, {found}, plainly {plain}")
     }
 }
 
@@ -195,15 +249,8 @@ fn difference_in_order(
 ) -> Result<Option<String>, AllocError> {
     let mut list = Growing::new(alloc, variables);
     for step in 0..STEPS {
-        match dice.below(8) {
-            0..3 => list.push_some(dice, clauses)?,
-            3 => list.mark(alloc)?,
-            4 => list.cut(alloc)?,
-            _ => {
-                if let Some(text) = list.difference(alloc)? {
-                    return Ok(Some(format!(in alloc; "step {step}: {text}")?));
-                }
-            }
+        if let Some(text) = list.step(alloc, dice, clauses)? {
+            return Ok(Some(format!(in alloc; "step {step}: {text}")?));
         }
     }
     Ok(None)

@@ -33,21 +33,30 @@ fn count_of(flags: &str) -> Count<'_> {
     if flags == "x" {
         return Count::Digits;
     }
-    if let Some(times) = flags.strip_prefix("*")
-        && let Ok(times) = times.parse::<u32>()
-        && times <= TIMES
-    {
+    if let Some(times) = times_of(flags) {
         return Count::Times(times);
     }
-    if let Some(range) = flags.strip_prefix("#")
-        && let Some((first, end)) = range.split_once("..")
-        && let Ok(first) = first.parse::<u32>()
-        && let Ok(end) = end.parse::<u32>()
-        && end <= TIMES
-    {
-        return Count::Numbered(first, end);
+    match range_of(flags) {
+        Some((first, end)) => Count::Numbered(first, end),
+        None => Count::Unknown(flags),
     }
-    Count::Unknown(flags)
+}
+
+/// The number of `*N`.
+fn times_of(flags: &str) -> Option<u32> {
+    let times = flags.strip_prefix("*")?.parse::<u32>().ok()?;
+    if times <= TIMES { Some(times) } else { None }
+}
+
+/// The numbers of `#A..B`.
+fn range_of(flags: &str) -> Option<(u32, u32)> {
+    let (first, end) = flags.strip_prefix("#")?.split_once("..")?;
+    let (first, end) = (first.parse::<u32>().ok()?, end.parse::<u32>().ok()?);
+    if end <= TIMES {
+        Some((first, end))
+    } else {
+        None
+    }
 }
 
 /// The value of a hexadecimal digit.
@@ -75,31 +84,33 @@ fn byte_of(word: &[u8]) -> Option<u8> {
 pub fn push_text(bytes: &mut Vec<u8>, text: &str) -> Result<bool, AllocError> {
     let mut rest = text.as_bytes();
     for _ in 0..text.len() {
-        match rest {
-            [] => return Ok(true),
-            [b'\\', b'x', first, second, behind @ ..] => {
-                let Some(byte) = byte_of(&[*first, *second]) else {
-                    return Ok(false);
-                };
-                bytes.push(byte)?;
-                rest = behind;
-            }
-            [b'\\', b'e', behind @ ..] => rest = behind,
-            [b'\\', letter, behind @ ..] => {
-                let Some(byte) = escaped(*letter) else {
-                    return Ok(false);
-                };
-                bytes.push(byte)?;
-                rest = behind;
-            }
-            [b'\\'] => return Ok(false),
-            [byte, behind @ ..] => {
-                bytes.push(*byte)?;
-                rest = behind;
-            }
+        if rest.is_empty() {
+            return Ok(true);
         }
+        let Some((byte, behind)) = front_of(rest) else {
+            return Ok(false);
+        };
+        if let Some(byte) = byte {
+            bytes.push(byte)?;
+        }
+        rest = behind;
     }
     Ok(true)
+}
+
+/// The byte that the front of a text stands for, if it stands for one, and what is behind that
+/// front; `None` where it has no form.
+fn front_of(text: &[u8]) -> Option<(Option<u8>, &[u8])> {
+    match text {
+        [b'\\', b'x', first, second, behind @ ..] => {
+            Some((Some(byte_of(&[*first, *second])?), behind))
+        }
+        [b'\\', b'e', behind @ ..] => Some((None, behind)),
+        [b'\\', letter, behind @ ..] => Some((Some(escaped(*letter)?), behind)),
+        [b'\\'] => None,
+        [byte, behind @ ..] => Some((Some(*byte), behind)),
+        [] => None,
+    }
 }
 
 /// What a letter behind a backslash stands for.
@@ -161,13 +172,7 @@ pub fn push_piece(
         None => (flags, "\n"),
     };
     match count_of(flags) {
-        Count::Text => match bytes_named(texts, text) {
-            Some(named) => {
-                bytes.extend_from_slice(named)?;
-                Ok(true)
-            }
-            None => Ok(false),
-        },
+        Count::Text => push_named(bytes, texts, text),
         Count::Digits => push_digits(bytes, text),
         Count::Times(times) => push_times(bytes, times, text, end),
         Count::Numbered(first, last) => push_numbered(alloc, bytes, (first, last), text, end),
@@ -175,14 +180,31 @@ pub fn push_piece(
     }
 }
 
+/// Appends the bytes of the text of this name.
+fn push_named(bytes: &mut Vec<u8>, texts: &[Named], name: &str) -> Result<bool, AllocError> {
+    let Some(named) = bytes_named(texts, name) else {
+        return Ok(false);
+    };
+    bytes.extend_from_slice(named)?;
+    Ok(true)
+}
+
 /// Appends a text and its end so many times.
 fn push_times(bytes: &mut Vec<u8>, times: u32, text: &str, end: &str) -> Result<bool, AllocError> {
     for _ in 0..times {
-        if !push_text(bytes, text)? {
+        if !push_ended(bytes, text, end)? {
             return Ok(false);
         }
-        bytes.extend_from_slice(end.as_bytes())?;
     }
+    Ok(true)
+}
+
+/// Appends a text and its end once.
+fn push_ended(bytes: &mut Vec<u8>, text: &str, end: &str) -> Result<bool, AllocError> {
+    if !push_text(bytes, text)? {
+        return Ok(false);
+    }
+    bytes.extend_from_slice(end.as_bytes())?;
     Ok(true)
 }
 
@@ -196,10 +218,9 @@ fn push_numbered(
 ) -> Result<bool, AllocError> {
     for number in range.0..range.1 {
         let text = numbered(alloc, text, number)?;
-        if !push_text(bytes, text.as_str())? {
+        if !push_ended(bytes, text.as_str(), end)? {
             return Ok(false);
         }
-        bytes.extend_from_slice(end.as_bytes())?;
     }
     Ok(true)
 }

@@ -13,6 +13,17 @@ pub fn difference(
     call: &Call,
     outcome: &Outcome,
 ) -> Result<Option<String>, AllocError> {
+    if let Some(what) = in_streams(alloc, call, outcome)? {
+        return Ok(Some(what));
+    }
+    if let Some(what) = in_links(alloc, call, outcome)? {
+        return Ok(Some(what));
+    }
+    on_disks(alloc, stage, &call.kept, &call.gone)
+}
+
+/// What differs first in the streams and the status.
+fn in_streams(alloc: Global, call: &Call, outcome: &Outcome) -> Result<Option<String>, AllocError> {
     if call.complaint.as_slice() != outcome.complaint.as_slice() {
         return said(alloc, "complaint", &outcome.complaint);
     }
@@ -25,6 +36,11 @@ pub fn difference(
     if call.unread && !outcome.unread {
         return Ok(Some(String::from_str(alloc, "the input was read")?));
     }
+    Ok(None)
+}
+
+/// What differs first in what the links got.
+fn in_links(alloc: Global, call: &Call, outcome: &Outcome) -> Result<Option<String>, AllocError> {
     if call.left != outcome.left {
         return Ok(Some(format!(in alloc; "{} clients are left", outcome.left)?));
     }
@@ -34,7 +50,7 @@ pub fn difference(
     if call.frames.as_slice() != outcome.frames.as_slice() {
         return said(alloc, "frames", &outcome.frames);
     }
-    on_disks(alloc, stage, &call.kept, &call.gone)
+    Ok(None)
 }
 
 /// A part of what came, and its bytes.
@@ -47,13 +63,19 @@ fn said(alloc: Global, part: &str, bytes: &[u8]) -> Result<Option<String>, Alloc
 fn shown(alloc: Global, bytes: &[u8]) -> Result<String, AllocError> {
     let mut text = String::new(alloc);
     for byte in bytes.iter().take(SHOWN) {
-        match *byte {
-            b' '..=b'~' => text.push(char::from(*byte))?,
-            b'\n' => text.push_str("\\n")?,
-            other => write!(text, "\\x{other:02x}")?,
-        }
+        push_byte(&mut text, *byte)?;
     }
     Ok(text)
+}
+
+/// Appends a byte as a text.
+fn push_byte(text: &mut String, byte: u8) -> Result<(), AllocError> {
+    match byte {
+        b' '..=b'~' => text.push(char::from(byte))?,
+        b'\n' => text.push_str("\\n")?,
+        other => write!(text, "\\x{other:02x}")?,
+    }
+    Ok(())
 }
 
 /// A client who was served otherwise than he had to be; all but those that are left have to be
@@ -94,6 +116,11 @@ fn on_disks(
             return said(alloc, wanted.name.as_str(), bytes);
         }
     }
+    not_gone(alloc, stage, gone)
+}
+
+/// A disk that is there though it may not be.
+fn not_gone(alloc: Global, stage: &Stage, gone: &[String]) -> Result<Option<String>, AllocError> {
     for name in gone {
         if stage.disk(name.as_str()).is_some() {
             return Ok(Some(format!(in alloc; "there is a disk {name}")?));

@@ -5,8 +5,8 @@ ghost use Rattle.outside.specs.MemoryShelves.{is_disk_out};
 use crate::scene::{Call, Client, Named};
 use cqe_top::top;
 use outside::{
-    Connection, MemoryDial, MemoryDisk, MemoryLinks, MemoryShelf, MemorySink, MemorySource,
-    OpenGate, Pieces, Plan,
+    Connection, Finished, MemoryDial, MemoryDisk, MemoryLinks, MemoryShelf, MemorySink,
+    MemorySource, OpenGate, Pieces, Plan,
 };
 use std::alloc::{AllocError, Global};
 use std::sync::Wait;
@@ -72,35 +72,74 @@ impl Stage {
         call: &Call,
         cut: usize,
     ) -> Result<Outcome, AllocError> {
-        let input = call.input.clone()?;
-        let mut source = MemorySource::with_plan(input, Pieces::UpTo(cut), Plan::Never);
-        let mut sink = MemorySink::with_plan(alloc, Pieces::UpTo(cut), Plan::Never);
-        let mut complaints = MemorySink::new(alloc);
-        let mut links = MemoryLinks::new(alloc, connections(alloc, &call.clients, cut)?);
-        if call.unreached {
-            links.plan_dials(broken_dials(alloc)?);
-        }
-        let status = top(
+        let mut ends = ends_of(alloc, call, cut)?;
+        let status = self.call(rt, alloc, words, &mut ends);
+        outcome_of(alloc, status, &ends)
+    }
+
+    /// Calls the program over these ends, and answers its status.
+    fn call(
+        &mut self,
+        rt: &(impl Threads + Wait + Sync),
+        alloc: Global,
+        words: &[String],
+        ends: &mut Ends,
+    ) -> u8 {
+        top(
             rt,
             alloc,
             words,
             &mut self.shelf,
-            &mut source,
-            &mut sink,
-            &mut complaints,
-            &mut links,
+            &mut ends.source,
+            &mut ends.sink,
+            &mut ends.complaints,
+            &mut ends.links,
             &OpenGate,
-        );
-        Ok(Outcome {
-            status,
-            output: sink.bytes().to_vec(alloc)?,
-            complaint: complaints.bytes().to_vec(alloc)?,
-            unread: source.left().len() == source.held().len(),
-            served: served(alloc, &links)?,
-            frames: frames(alloc, &links)?,
-            left: links.left(),
-        })
+        )
     }
+}
+
+/// What a call reads and writes besides the shelf.
+#[derive(Drop)]
+struct Ends {
+    source: MemorySource,
+    sink: MemorySink,
+    complaints: MemorySink,
+    links: MemoryLinks,
+}
+
+/// The ends of a call.
+fn ends_of(alloc: Global, call: &Call, cut: usize) -> Result<Ends, AllocError> {
+    let links = links_of(alloc, call, cut)?;
+    let input = call.input.clone()?;
+    Ok(Ends {
+        source: MemorySource::with_plan(input, Pieces::UpTo(cut), Plan::Never),
+        sink: MemorySink::with_plan(alloc, Pieces::UpTo(cut), Plan::Never),
+        complaints: MemorySink::new(alloc),
+        links,
+    })
+}
+
+/// The links of a call.
+fn links_of(alloc: Global, call: &Call, cut: usize) -> Result<MemoryLinks, AllocError> {
+    let mut links = MemoryLinks::new(alloc, connections(alloc, &call.clients, cut)?);
+    if call.unreached {
+        links.plan_dials(broken_dials(alloc)?);
+    }
+    Ok(links)
+}
+
+/// What came of a call, as its ends show it.
+fn outcome_of(alloc: Global, status: u8, ends: &Ends) -> Result<Outcome, AllocError> {
+    Ok(Outcome {
+        status,
+        output: ends.sink.bytes().to_vec(alloc)?,
+        complaint: ends.complaints.bytes().to_vec(alloc)?,
+        unread: ends.source.left().len() == ends.source.held().len(),
+        served: served(alloc, &ends.links)?,
+        frames: frames(alloc, &ends.links)?,
+        left: ends.links.left(),
+    })
 }
 
 /// Connections of these clients.
@@ -111,12 +150,17 @@ fn connections(
 ) -> Result<Vec<Connection>, AllocError> {
     let mut connections = Vec::new(alloc);
     for client in clients {
-        let sends = client.sends.clone()?;
-        let source = MemorySource::with_plan(sends, Pieces::UpTo(cut), Plan::Never);
-        let sink = MemorySink::with_plan(alloc, Pieces::UpTo(cut), Plan::Never);
-        connections.push(Connection::new(source, sink))?;
+        connections.push(connection(alloc, client, cut)?)?;
     }
     Ok(connections)
+}
+
+/// The connection of a client.
+fn connection(alloc: Global, client: &Client, cut: usize) -> Result<Connection, AllocError> {
+    let sends = client.sends.clone()?;
+    let source = MemorySource::with_plan(sends, Pieces::UpTo(cut), Plan::Never);
+    let sink = MemorySink::with_plan(alloc, Pieces::UpTo(cut), Plan::Never);
+    Ok(Connection::new(source, sink))
 }
 
 /// Plans of dials that fail at each exchange, more than a scene has users.
@@ -148,12 +192,17 @@ fn add_frames(frames: &mut Vec<u8>, dial: &MemoryDial) -> Result<(), AllocError>
 fn served(alloc: Global, links: &MemoryLinks) -> Result<Vec<Client>, AllocError> {
     let mut served = Vec::new(alloc);
     for door in links.doors_back() {
-        for client in door.finished() {
-            served.push(Client {
-                sends: client.source.held().to_vec(alloc)?,
-                gets: client.sink.bytes().to_vec(alloc)?,
-            })?;
+        for finished in door.finished() {
+            served.push(client_of(alloc, finished)?)?;
         }
     }
     Ok(served)
+}
+
+/// What a client sent and got.
+fn client_of(alloc: Global, finished: &Finished) -> Result<Client, AllocError> {
+    Ok(Client {
+        sends: finished.source.held().to_vec(alloc)?,
+        gets: finished.sink.bytes().to_vec(alloc)?,
+    })
 }

@@ -4,7 +4,9 @@ ghost use Rattle.std.specs.Prelude.{◌≡◌, List, ℕ, false};
 ghost use Rattle.outside.specs.MemoryShelves.{is_disk_out};
 
 use cqe_top::top;
-use outside::{Gate, MemoryLinks, MemoryShelf, MemorySink, MemorySource, OpenGate};
+use outside::{
+    Gate, MemoryDisk, MemoryLinks, MemoryShelf, MemorySink, MemorySource, OpenGate, Pieces, Plan,
+};
 use std::alloc::{AllocError, Global};
 use std::process::Abort;
 use std::sync::Wait;
@@ -23,100 +25,258 @@ mod selfrun;
 mod serve;
 mod ward;
 
-// What the program did.
+// A shelf that has all its disks, links, the streams of the last run, and the status with which it
+// ended.
 #[derive(Drop)]
-struct Run {
-    status: u8,
+struct Stage {
+    shelf: MemoryShelf,
+    links: MemoryLinks,
     source: MemorySource,
     sink: MemorySink,
     complaints: MemorySink,
+    status: u8,
+    ghost whole: { (name : List ℕ) → is_disk_out shelf name ≡ false },
 }
 
-// Calls the program over a shelf that has all its disks, and has them all again. No client comes.
-fn run_over(
+impl Stage {
+    /// No file, no disk and no client; the calls of the shelf fail by plan.
+    fn new(alloc: Global, plan: Plan) -> Stage {
+        Stage {
+            shelf: MemoryShelf::with_plan(alloc, plan),
+            links: MemoryLinks::new(alloc, Vec::new(alloc)),
+            source: MemorySource::new(Vec::new(alloc)),
+            sink: MemorySink::new(alloc),
+            complaints: MemorySink::new(alloc),
+            status: 0,
+        }
+    }
+
+    /// Puts a file on the shelf.
+    fn put_file(&mut self, alloc: Global, name: &str, bytes: &[u8]) -> Result<(), AllocError> {
+        self.shelf.put(alloc, name, bytes)
+    }
+
+    /// Puts a disk with these bytes, whose calls fail by plan, in the place of the one of its name.
+    fn put_disk(
+        &mut self,
+        alloc: Global,
+        name: &str,
+        bytes: Vec<u8>,
+        plan: Plan,
+    ) -> Result<(), AllocError> {
+        let disk = MemoryDisk::with_plan(alloc, bytes, plan)?;
+        self.shelf.put_disk(alloc, name, disk)
+    }
+
+    /// Lets the next run have these links.
+    fn set_links(&mut self, links: MemoryLinks) {
+        self.links = links;
+    }
+
+    /// Lets the next run have these streams.
+    fn set_streams(&mut self, source: MemorySource, sink: MemorySink, complaints: MemorySink) {
+        self.source = source;
+        self.sink = sink;
+        self.complaints = complaints;
+    }
+
+    /// Calls the program with these words.
+    fn call(
+        &mut self,
+        rt: &(impl Threads + Wait + Sync),
+        alloc: Global,
+        words: &[String],
+        gate: &(impl Gate + Sync),
+    ) {
+        let status = status_of(
+            rt,
+            alloc,
+            words,
+            &mut self.shelf,
+            &mut self.source,
+            &mut self.sink,
+            &mut self.complaints,
+            &mut self.links,
+            gate,
+        );
+        self.status = status;
+    }
+
+    /// The program with these words, where each ask passes this gate.
+    fn run_gated(
+        &mut self,
+        rt: &(impl Threads + Wait + Sync),
+        alloc: Global,
+        words: &[&str],
+        gate: &(impl Gate + Sync),
+    ) -> Result<(), AllocError> {
+        let texts = texts_of(alloc, words)?;
+        self.call(rt, alloc, &texts, gate);
+        Ok(())
+    }
+
+    /// The program with these words and this input.
+    fn run(
+        &mut self,
+        rt: &(impl Threads + Wait + Sync),
+        alloc: Global,
+        words: &[&str],
+        input: &str,
+    ) -> Result<(), AllocError> {
+        let source = source_of(alloc, input)?;
+        self.run_from(rt, alloc, words, source)
+    }
+
+    /// The same from this source.
+    fn run_from(
+        &mut self,
+        rt: &(impl Threads + Wait + Sync),
+        alloc: Global,
+        words: &[&str],
+        source: MemorySource,
+    ) -> Result<(), AllocError> {
+        self.set_streams(source, MemorySink::new(alloc), MemorySink::new(alloc));
+        self.run_gated(rt, alloc, words, &OpenGate)
+    }
+
+    /// The same with this input, into this sink.
+    fn run_into(
+        &mut self,
+        rt: &(impl Threads + Wait + Sync),
+        alloc: Global,
+        words: &[&str],
+        input: &str,
+        sink: MemorySink,
+    ) -> Result<(), AllocError> {
+        let source = source_of(alloc, input)?;
+        self.set_streams(source, sink, MemorySink::new(alloc));
+        self.run_gated(rt, alloc, words, &OpenGate)
+    }
+
+    /// The same with this input, where the complaints go into this sink.
+    fn run_complaining(
+        &mut self,
+        rt: &(impl Threads + Wait + Sync),
+        alloc: Global,
+        words: &[&str],
+        input: &str,
+        complaints: MemorySink,
+    ) -> Result<(), AllocError> {
+        let source = source_of(alloc, input)?;
+        self.set_streams(source, MemorySink::new(alloc), complaints);
+        self.run_gated(rt, alloc, words, &OpenGate)
+    }
+
+    /// Whether there is a disk of this name.
+    fn has_disk(&self, name: &str) -> bool {
+        self.shelf.disk(name).is_some()
+    }
+
+    /// The bytes that a disk reads; none where there is no disk.
+    fn disk_bytes(&self, name: &str) -> &[u8] {
+        match self.shelf.disk(name) {
+            Some(disk) => disk.bytes(),
+            None => &[],
+        }
+    }
+
+    /// How the last run ended, what it wrote and what it complained of.
+    fn check(&self, rt: &impl Abort, status: u8, output: &str, complaint: &str, what: &str) {
+        same(rt, self.complaints.bytes(), complaint.as_bytes(), what);
+        same(rt, self.sink.bytes(), output.as_bytes(), what);
+        assert_eq!(rt; self.status, status, "{what}");
+    }
+
+    /// A disk reads these bytes, where this call failed.
+    fn check_disk(&self, rt: &impl Abort, name: &str, wanted: &[u8], call: u64) {
+        assert_eq!(rt; self.disk_bytes(name), wanted, "{name}, call {call}");
+    }
+
+    /// What a disk reads begins with these bytes, where this call failed.
+    fn check_front(&self, rt: &impl Abort, name: &str, wanted: &[u8], call: u64) {
+        let found = self.disk_bytes(name).get(..wanted.len());
+        assert_eq!(rt; found, Some(wanted), "{name}, call {call}");
+    }
+}
+
+// The program; of its promise this says only that the shelf has all its disks again.
+fn status_of(
     rt: &(impl Threads + Wait + Sync),
     alloc: Global,
-    words: &[&str],
+    words: &[String],
     shelf: &mut MemoryShelf,
-    source: MemorySource,
-    sink: MemorySink,
-    complaints: MemorySink,
-) -> Result<Run, AllocError>
+    source: &mut MemorySource,
+    sink: &mut MemorySink,
+    complaints: &mut MemorySink,
+    links: &mut MemoryLinks,
+    gate: &(impl Gate + Sync),
+) -> u8
     requires { (name : List ℕ) → is_disk_out shelf.old name ≡ false }
     ensures { (name : List ℕ) → is_disk_out shelf.new name ≡ false }
 {
-    let mut links = MemoryLinks::new(alloc, Vec::new(alloc));
-    run_linked(
-        rt, alloc, words, shelf, source, sink, complaints, &mut links, &OpenGate,
+    top(
+        rt, alloc, words, shelf, source, sink, complaints, links, gate,
     )
 }
 
-// The same over these links, where each ask passes this gate.
-fn run_linked(
-    rt: &(impl Threads + Wait + Sync),
-    alloc: Global,
-    words: &[&str],
-    shelf: &mut MemoryShelf,
-    source: MemorySource,
-    sink: MemorySink,
-    complaints: MemorySink,
-    links: &mut MemoryLinks,
-    gate: &(impl Gate + Sync),
-) -> Result<Run, AllocError>
-    requires { (name : List ℕ) → is_disk_out shelf.old name ≡ false }
-    ensures { (name : List ℕ) → is_disk_out shelf.new name ≡ false }
-{
-    let (mut source, mut sink, mut complaints) = (source, sink, complaints);
+fn texts_of(alloc: Global, words: &[&str]) -> Result<Vec<String>, AllocError> {
     let mut texts = Vec::new(alloc);
     for word in words {
         texts.push(String::from_str(alloc, word)?)?;
     }
-    let status = top(
-        rt,
-        alloc,
-        &texts,
-        shelf,
-        &mut source,
-        &mut sink,
-        &mut complaints,
-        links,
-        gate,
-    );
-    Ok(Run {
-        status,
-        source,
-        sink,
-        complaints,
-    })
+    Ok(texts)
 }
 
-impl Run {
-    /// The program over a shelf that nobody asks for afterwards.
-    fn new(
-        rt: &(impl Threads + Wait + Sync),
-        alloc: Global,
-        words: &[&str],
-        mut shelf: MemoryShelf,
-        source: MemorySource,
-        sink: MemorySink,
-        complaints: MemorySink,
-    ) -> Result<Run, AllocError>
-        requires { (name : List ℕ) → is_disk_out shelf name ≡ false }
-    {
-        run_over(rt, alloc, words, &mut shelf, source, sink, complaints)
-    }
+// These bytes are the same.
+fn same(rt: &impl Abort, found: &[u8], wanted: &[u8], what: &str) {
+    assert_eq!(rt; found, wanted, "{what}");
+}
 
-    fn check(&self, rt: &impl Abort, status: u8, output: &str, complaint: &str, what: &str) {
-        assert_eq!(rt; self.complaints.bytes(), complaint.as_bytes(), "{what}");
-        assert_eq!(rt; self.sink.bytes(), output.as_bytes(), "{what}");
-        assert_eq!(rt; self.status, status, "{what}");
+// A source of this text that never fails.
+fn source_of(alloc: Global, text: &str) -> Result<MemorySource, AllocError> {
+    Ok(MemorySource::new(text.as_bytes().to_vec(alloc)?))
+}
+
+// The same, in pieces of so many bytes, where a call fails.
+fn failing_source(
+    alloc: Global,
+    text: &str,
+    size: usize,
+    call: u64,
+) -> Result<MemorySource, AllocError> {
+    let plan = failing_at(alloc, call)?;
+    let bytes = text.as_bytes().to_vec(alloc)?;
+    Ok(MemorySource::with_plan(bytes, Pieces::UpTo(size), plan))
+}
+
+// A sink that takes each byte by a call of its own, where a call fails.
+fn failing_sink(alloc: Global, call: u64) -> Result<MemorySink, AllocError> {
+    let plan = failing_at(alloc, call)?;
+    Ok(MemorySink::with_plan(alloc, Pieces::UpTo(1), plan))
+}
+
+// A plan by which this call fails.
+fn failing_at(alloc: Global, call: u64) -> Result<Plan, AllocError> {
+    Ok(Plan::At(vec![in alloc; call]?))
+}
+
+// Which calls of an object fail: this one, or each from this one on.
+#[derive(Clone, Copy)]
+enum Fails {
+    At(u64),
+    From(u64),
+}
+
+impl Fails {
+    fn plan(self, alloc: Global) -> Result<Plan, AllocError> {
+        match self {
+            Fails::At(call) => failing_at(alloc, call),
+            Fails::From(call) => Ok(Plan::From(call)),
+        }
     }
 }
 
-fn joined(alloc: Global, parts: &[&str]) -> Result<Vec<u8>, AllocError> {
-    let mut bytes = Vec::new(alloc);
-    for part in parts {
-        bytes.extend_from_slice(part.as_bytes())?;
-    }
-    Ok(bytes)
+// The first so many bytes of a text, or all of it.
+fn front(text: &str, count: u64) -> &str {
+    text.get(..count as usize).unwrap_or(text)
 }

@@ -1,26 +1,27 @@
 //! Threads that ask at desks.
 ghost use Rattle.std.specs.Prelude.{◌≡◌, ◌+◌, ◌*◌, ◌^◌, ◌≤◌, length, Some};
 ghost use Rattle.std.specs.Thread.{IsSync};
+ghost use Rattle.cqe_base.specs.History.{profile_of};
+ghost use Rattle.cqe_base.specs.Limits.{KeepsLimits};
 ghost use Rattle.turnstile.specs.Passes.{IsOf, IsReady, first_value, fixed, shares as shares_of};
 ghost use Rattle.turnstile.specs.Passes.{turns};
 ghost use Rattle.desk_counter.specs.Counters.{IsPassOf};
 
-use super::make_ward;
-use crate::clinic::{HEADER, counter_of, user_by};
-use censors::admit;
+use super::{Ward, make_ward};
+use crate::clinic::{Clinic, counter_of, desk_on, user_by};
 use cqe_base::sentence::Sentence;
-use cqe_base::user::{Mark, Method};
+use cqe_base::user::{Entry, Mark, Method, User};
 use desk_counter::{Counter, CounterOf, DeskPass, Owned, TicketedDesk};
 use outside::{Disk, Gate, MemoryDisk, OpenGate, Point};
 use std::alloc::Global;
+use std::process::Abort;
 use std::sync::Wait;
 use std::sync::atomic::AtomicU64;
 use std::sync::atomic::Ordering::SeqCst;
-use std::test::Fail;
 use std::thread;
 use std::thread::{Threads, join};
 use turnstile::Pass;
-use user_desk::{Desk, Standing, open_desk};
+use user_desk::{Desk, Standing};
 use user_log::Reply;
 
 /// A session at a counter, which asks one text so often and counts the replies that are its mark.
@@ -196,73 +197,92 @@ fn ask_in_thread<
 
 // Two threads ask one desk 100 times each, with a pass and a question of their own. The passes
 // meet, and the counter is closed. It says how many replies were the marks that were looked for.
-fn ask_by_two<'w, R: Threads + Wait + Sync>(
+fn ask_by_two<'w, R: Abort + Threads + Wait + Sync>(
     rt: &R,
     alloc: Global,
     counter: Counter<'w, MemoryDisk>,
     pass: DeskPass<MemoryDisk>,
     questions: ((&str, Mark), (&str, Mark)),
-) -> Option<(Desk<'w, MemoryDisk>, u64)>
+) -> (Desk<'w, MemoryDisk>, u64)
     requires pass { IsPassOf pass counter }
     requires all { (shares_of pass ≡ 65) × (turns pass ≡ 65 * 2 ^ 57) }
     requires short { (length questions.0.0.now ≤ 4096) × (length questions.1.0.now ≤ 4096) }
 {
     let mut first = pass;
-    let second = counter.split(&mut first).ok()?;
+    let Ok(second) = counter.split(&mut first) else {
+        panic!(rt; "not split");
+    };
     let one = session_at(alloc, &counter, first, 64, questions.0, 100, &OpenGate);
     let two = session_at(alloc, &counter, second, 1, questions.1, 100, &OpenGate);
     let (one, two) = ask_in_thread(rt, one, two);
     let told = one.told + two.told;
     if one.shares != 64 || two.shares != 1 {
-        return None;
+        panic!(rt; "other shares");
     }
     let mut pass = one.pass;
     counter.meet(&mut pass, two.pass);
-    Some((counter.close(pass), told))
+    (counter.close(pass), told)
 }
 
-// A liar who keeps `hiv(ann)` secret is told `no` of `drug(ann)`, a lie, and `yes` of
-// `not hiv(bob)`, the truth.
-#[test]
-fn two_threads_ask_one_desk(rt: HostRuntime) -> Result<(), Fail> {
-    let alloc = rt.alloc();
-    let ward = make_ward(alloc)?;
-    let (counter, pass) = counter_of(&rt, alloc, &ward.clinic, &ward.eve)?;
-    let questions = (("drug(ann)", Mark::No), ("not hiv(bob)", Mark::Yes));
-    let (desk, told) = ask_by_two(&rt, alloc, counter, pass, questions).ok_or("not split")?;
+/// Whether an entry is of the lie, which is marked by no; each other one is marked by yes.
+fn is_lie(rt: &impl Abort, entry: &Entry) -> bool {
+    match entry.query {
+        Sentence::Not(_) => {
+            assert_eq!(rt; entry.mark, Mark::Yes);
+            false
+        }
+        _ => {
+            assert_eq!(rt; entry.mark, Mark::No);
+            true
+        }
+    }
+}
+
+/// How many entries are lies.
+fn count_lies(rt: &impl Abort, entries: &[Entry]) -> u64 {
+    let mut lies = 0_u64;
+    for entry in entries {
+        if is_lie(rt, entry) {
+            lies = lies.wrapping_add(1);
+        }
+    }
+    lies
+}
+
+/// A desk has an entry for each of the 200 asks, and half of them are lies.
+fn check_entries(rt: &impl Abort, desk: &Desk<'_, MemoryDisk>, told: u64) {
     assert_eq!(rt;
         (told, desk.entries().len(), desk.broken()),
         (200, 200, false)
     );
-    let mut lies = 0u64;
-    for entry in desk.entries() {
-        match entry.query {
-            Sentence::Not(_) => assert_eq!(rt; entry.mark, Mark::Yes),
-            _ => {
-                assert_eq!(rt; entry.mark, Mark::No);
-                lies = lies.wrapping_add(1);
-            }
-        }
-    }
-    assert_eq!(rt; lies, 100);
-    // Its journal is opened again only where each mark is that of the rule.
-    let disk = desk.close();
-    let admission = admit(alloc, &ward.clinic.schema, &ward.clinic.world, &ward.eve)?;
-    let opened = open_desk(
-        alloc,
-        &ward.clinic.schema,
-        &ward.clinic.world,
-        &ward.eve,
-        admission,
-        &HEADER,
-        disk,
-    );
-    let Ok(again) = opened else {
-        panic!(rt; "no memory for a desk");
-    };
+    assert_eq!(rt; count_lies(rt, desk.entries()), 100);
+}
+
+// A journal is opened again only where each mark is that of the rule.
+fn opens_again(rt: &impl Abort, alloc: Global, ward: &Ward, disk: MemoryDisk)
+    requires { KeepsLimits ward.now.clinic.schema (profile_of ward.now.eve) }
+{
+    let again = desk_on(rt, alloc, &ward.clinic, &ward.eve, disk);
     assert_eq!(rt; *again.standing(), Standing::Open);
     assert_eq!(rt; again.entries().len(), 200);
-    Ok(())
+}
+
+/// What two ask: a lie is told of the first, and the truth of the second.
+const QUESTIONS: ((&str, Mark), (&str, Mark)) = (
+    ("drug(ann)", Mark::No),
+    ("not hiv(bob)", Mark::Yes),
+);
+
+// A liar who keeps `hiv(ann)` secret is told `no` of `drug(ann)`, a lie, and `yes` of
+// `not hiv(bob)`, the truth.
+#[test]
+fn two_threads_ask_one_desk(rt: HostRuntime) {
+    let alloc = rt.alloc();
+    let ward = make_ward(&rt, alloc);
+    let (counter, pass) = counter_of(&rt, alloc, &ward.clinic, &ward.eve);
+    let (desk, told) = ask_by_two(&rt, alloc, counter, pass, QUESTIONS);
+    check_entries(&rt, &desk, told);
+    opens_again(&rt, alloc, &ward, desk.close());
 }
 
 /// So often a call is waited for at most.
@@ -373,36 +393,39 @@ fn ask_two_desks<'w, R: Threads + Wait + Sync>(
     ask_while_held(rt, one, two)
 }
 
+/// Each was told the mark, and the second didn't wait for the first.
+const ONE_EACH: Beside = Beside {
+    first_told: 1,
+    second_told: 1,
+    saw_held: true,
+    gave_up: false,
+};
+
 #[test]
-fn users_do_not_wait_for_each_other(rt: HostRuntime) -> Result<(), Fail> {
+fn users_do_not_wait_for_each_other(rt: HostRuntime) {
     let alloc = rt.alloc();
-    let ward = make_ward(alloc)?;
-    let eves = counter_of(&rt, alloc, &ward.clinic, &ward.eve)?;
-    let dans = counter_of(&rt, alloc, &ward.clinic, &ward.dan)?;
-    let beside = Beside {
-        first_told: 1,
-        second_told: 1,
-        saw_held: true,
-        gave_up: false,
-    };
-    assert_eq!(rt; ask_two_desks(&rt, alloc, eves, dans), beside);
-    Ok(())
+    let ward = make_ward(&rt, alloc);
+    let eves = counter_of(&rt, alloc, &ward.clinic, &ward.eve);
+    let dans = counter_of(&rt, alloc, &ward.clinic, &ward.dan);
+    assert_eq!(rt; ask_two_desks(&rt, alloc, eves, dans), ONE_EACH);
 }
 
 // Two sessions of one user ask once, the second while the first is held.
-fn ask_one_desk<'w, R: Threads + Wait + Sync>(
+fn ask_one_desk<'w, R: Abort + Threads + Wait + Sync>(
     rt: &R,
     alloc: Global,
     counter: Counter<'w, MemoryDisk>,
     pass: DeskPass<MemoryDisk>,
     questions: ((&str, Mark), (&str, Mark)),
-) -> Option<Beside>
+) -> Beside
     requires pass { IsPassOf pass counter }
     requires all { (shares_of pass ≡ 65) × (turns pass ≡ 65 * 2 ^ 57) }
     requires short { (length questions.0.0.now ≤ 4096) × (length questions.1.0.now ≤ 4096) }
 {
     let mut first = pass;
-    let second = counter.split(&mut first).ok()?;
+    let Ok(second) = counter.split(&mut first) else {
+        panic!(rt; "not split");
+    };
     let hold = Hold {
         held: AtomicU64::new(0),
         answered: AtomicU64::new(0),
@@ -410,52 +433,42 @@ fn ask_one_desk<'w, R: Threads + Wait + Sync>(
     };
     let one = session_at(alloc, &counter, first, 64, questions.0, 1, &hold);
     let two = session_at(alloc, &counter, second, 1, questions.1, 1, &hold);
-    Some(ask_while_held(rt, one, two))
+    ask_while_held(rt, one, two)
+}
+
+// Two sessions of this user ask so, and neither waits.
+fn check_desk<R: Abort + Threads + Wait + Sync>(
+    rt: &R,
+    alloc: Global,
+    clinic: &Clinic,
+    user: &User,
+    questions: ((&str, Mark), (&str, Mark)),
+)
+    requires limits { KeepsLimits clinic.now.schema (profile_of user.now) }
+    requires short { (length questions.0.0.now ≤ 4096) × (length questions.1.0.now ≤ 4096) }
+{
+    let (counter, pass) = counter_of(rt, alloc, clinic, user);
+    assert_eq!(rt; ask_one_desk(rt, alloc, counter, pass, questions), ONE_EACH);
 }
 
 // The log has grown when the first ask is settled, so its text is examined again.
 #[test]
-fn sessions_of_one_user_do_not_wait_for_each_others_examinations(
-    rt: HostRuntime,
-) -> Result<(), Fail> {
+fn sessions_of_one_user_do_not_wait_for_each_others_examinations(rt: HostRuntime) {
     let alloc = rt.alloc();
-    let ward = make_ward(alloc)?;
-    let (counter, pass) = counter_of(&rt, alloc, &ward.clinic, &ward.eve)?;
-    let beside = Beside {
-        first_told: 1,
-        second_told: 1,
-        saw_held: true,
-        gave_up: false,
-    };
-    let questions = (("drug(ann)", Mark::No), ("not hiv(bob)", Mark::Yes));
-    assert_eq!(rt;
-        ask_one_desk(&rt, alloc, counter, pass, questions),
-        Some(beside)
-    );
-    Ok(())
+    let ward = make_ward(&rt, alloc);
+    check_desk(&rt, alloc, &ward.clinic, &ward.eve, QUESTIONS);
 }
 
 // By the first log the text that is asked is told truly. A secret that is added beside the ask
 // isn't in the log, but it makes the truth a harm: the text is examined again, and gets a lie.
 #[test]
-fn a_secret_that_is_added_beside_an_ask_counts(rt: HostRuntime) -> Result<(), Fail> {
+fn a_secret_that_is_added_beside_an_ask_counts(rt: HostRuntime) {
     let alloc = rt.alloc();
-    let ward = make_ward(alloc)?;
-    let eve = user_by(alloc, &ward.clinic, "eve", Method::Combined)?;
-    let (counter, pass) = counter_of(&rt, alloc, &ward.clinic, &eve)?;
-    let beside = Beside {
-        first_told: 1,
-        second_told: 1,
-        saw_held: true,
-        gave_up: false,
-    };
+    let ward = make_ward(&rt, alloc);
+    let eve = user_by(&rt, alloc, &ward.clinic, "eve", Method::Combined);
     let text = "hiv(ann) or hiv(bob)";
     let questions = ((text, Mark::No), (text, Mark::Protected));
-    assert_eq!(rt;
-        ask_one_desk(&rt, alloc, counter, pass, questions),
-        Some(beside)
-    );
-    Ok(())
+    check_desk(&rt, alloc, &ward.clinic, &eve, questions);
 }
 
 /// A gate that holds each ask, once its text was examined, until two were.
@@ -478,19 +491,21 @@ impl Gate for Both {
 
 // Two sessions of one user ask once, and neither ask is settled before both texts were examined. It
 // says how many replies of each were the mark that was looked for, and whether one gave up.
-fn ask_examined<'w, R: Threads + Wait + Sync>(
+fn ask_examined<'w, R: Abort + Threads + Wait + Sync>(
     rt: &R,
     alloc: Global,
     counter: Counter<'w, MemoryDisk>,
     pass: DeskPass<MemoryDisk>,
     questions: ((&str, Mark), (&str, Mark)),
-) -> Option<(u64, u64, bool)>
+) -> (u64, u64, bool)
     requires pass { IsPassOf pass counter }
     requires all { (shares_of pass ≡ 65) × (turns pass ≡ 65 * 2 ^ 57) }
     requires short { (length questions.0.0.now ≤ 4096) × (length questions.1.0.now ≤ 4096) }
 {
     let mut first = pass;
-    let second = counter.split(&mut first).ok()?;
+    let Ok(second) = counter.split(&mut first) else {
+        panic!(rt; "not split");
+    };
     let gate = Both {
         examined: AtomicU64::new(0),
         given_up: AtomicU64::new(0),
@@ -498,22 +513,28 @@ fn ask_examined<'w, R: Threads + Wait + Sync>(
     let one = session_at(alloc, &counter, first, 64, questions.0, 1, &gate);
     let two = session_at(alloc, &counter, second, 1, questions.1, 1, &gate);
     let (one, two) = ask_in_thread(rt, one, two);
-    Some((one.told, two.told, gate.given_up.load(SeqCst) == 1))
+    (one.told, two.told, gate.given_up.load(SeqCst) == 1)
+}
+
+// Both sessions are told the mark that they look for, or neither is, and nobody gives up.
+fn check_examined<R: Abort + Threads + Wait + Sync>(rt: &R, alloc: Global, ward: &Ward)
+    requires { KeepsLimits ward.now.clinic.schema (profile_of ward.now.eve) }
+{
+    let questions = (("hiv(ann) or hiv(bob)", Mark::Yes), ("hiv(bob)", Mark::Yes));
+    let (counter, pass) = counter_of(rt, alloc, &ward.clinic, &ward.eve);
+    let told = ask_examined(rt, alloc, counter, pass, questions);
+    assert_eq!(rt; told.0, told.1);
+    assert!(rt; !told.2);
 }
 
 // Before any entry each text could be answered truly: yes to the first, no to the second. Together
 // these would tell the secret, so behind a yes to the first the second is answered yes, a lie, and
 // behind a no to the second the first is answered no, a lie too.
 #[test]
-fn what_was_examined_after_an_older_log_is_not_used(rt: HostRuntime) -> Result<(), Fail> {
+fn what_was_examined_after_an_older_log_is_not_used(rt: HostRuntime) {
     let alloc = rt.alloc();
-    let ward = make_ward(alloc)?;
-    let questions = (("hiv(ann) or hiv(bob)", Mark::Yes), ("hiv(bob)", Mark::Yes));
+    let ward = make_ward(&rt, alloc);
     for _ in 0..10 {
-        let (counter, pass) = counter_of(&rt, alloc, &ward.clinic, &ward.eve)?;
-        let told = ask_examined(&rt, alloc, counter, pass, questions).ok_or("not split")?;
-        assert_eq!(rt; told.0, told.1);
-        assert!(rt; !told.2);
+        check_examined(&rt, alloc, &ward);
     }
-    Ok(())
 }

@@ -1,11 +1,9 @@
 //! Audits that are cut, and the worlds that they print.
-ghost use Rattle.std.specs.Prelude.{◌≡◌, List, ℕ, false};
-ghost use Rattle.outside.specs.MemoryShelves.{is_disk_out};
-
-use super::ward::{FACTS, audit, batch, init, shelf_of, ward};
-use super::{Run, joined};
-use outside::{MemoryShelf, MemorySink, MemorySource, Pieces, Plan};
+use super::Stage;
+use super::ward::{AUDIT, FACTS, batch, init, stage_of, ward};
+use outside::{MemorySink, Pieces, Plan};
 use std::alloc::{AllocError, Global};
+use std::process::Abort;
 use std::sync::Wait;
 use std::test::Fail;
 use std::thread::Threads;
@@ -17,34 +15,15 @@ const SCRIPT: &str =
 #[test]
 fn an_audit_may_be_cut(rt: HostRuntime) -> Result<(), Fail> {
     let alloc = rt.alloc();
-    let mut shelf = ward(&rt, alloc)?;
-    let _run = batch(&rt, alloc, &mut shelf, SCRIPT)?;
-    let run = Run::new(
-        &rt,
-        alloc,
-        &[
-            "audit",
-            "--policy",
-            "p",
-            "--facts",
-            "f",
-            "--journals",
-            "d",
-            "--user",
-            "kim",
-        ],
-        shelf,
-        MemorySource::new(joined(alloc, &["not read"])?),
-        MemorySink::with_plan(alloc, Pieces::Whole, Plan::From(1)),
-        MemorySink::new(alloc),
-    )?;
-    run.check(
-        &rt,
-        7,
-        "user kim combined open\n",
-        "cqe: write fault\n",
-        "a sink that fails at its second call",
-    );
+    let mut stage = ward(&rt, alloc)?;
+    batch(&rt, alloc, &mut stage, SCRIPT)?;
+    let sink = MemorySink::with_plan(alloc, Pieces::Whole, Plan::From(1));
+    let mut words = AUDIT;
+    words[8] = "kim";
+    stage.run_into(&rt, alloc, &words, "not read", sink)?;
+    let what = "a sink that fails at its second call";
+    let part = "user kim combined open\n";
+    stage.check(&rt, 7, part, "cqe: write fault\n", what);
     Ok(())
 }
 
@@ -143,12 +122,14 @@ fn lines_of(alloc: Global, text: &str, user: &str) -> Result<String, AllocError>
     Ok(lines)
 }
 
-// What the program wrote.
-fn text_of(run: &Run) -> Result<&str, Fail> {
-    match str::from_utf8(run.sink.bytes()) {
-        Ok(text) => Ok(text),
-        Err(_) => Err(Fail::from(AllocError)),
-    }
+// The lines of a user that the program wrote; none where it wrote no text.
+fn written_for(alloc: Global, stage: &Stage, user: &str) -> Result<String, AllocError> {
+    lines_of(alloc, text_of(stage), user)
+}
+
+// What the program wrote; nothing where it was no text.
+fn text_of(stage: &Stage) -> &str {
+    str::from_utf8(stage.sink.bytes()).unwrap_or("")
 }
 
 // The facts that an audit's line of a secret names, as a facts file.
@@ -185,32 +166,39 @@ fn replies_in(
     alloc: Global,
     line: &str,
     user: &str,
-) -> Result<String, Fail> {
+) -> Result<String, AllocError> {
     let facts = facts_in(alloc, line)?;
-    let mut shelf = shelf_of(alloc, SEVERAL.as_bytes(), &facts)?;
-    let _made = init(rt, alloc, &mut shelf)?;
-    let run = batch(rt, alloc, &mut shelf, ASKS)?;
-    Ok(lines_of(alloc, text_of(&run)?, user)?)
+    let mut stage = stage_of(alloc, SEVERAL.as_bytes(), &facts)?;
+    init(rt, alloc, &mut stage)?;
+    batch(rt, alloc, &mut stage, ASKS)?;
+    written_for(alloc, &stage, user)
 }
 
-// How many worlds the user's audit prints, each without its secret and with the same lines for him;
+// Whether the world of an audit's line doesn't have its secret, and gives the user these lines.
+fn is_same_world(
+    rt: &(impl Threads + Wait + Sync),
+    alloc: Global,
+    line: &str,
+    user: &str,
+    wanted: &str,
+) -> Result<bool, AllocError> {
+    let replies = replies_in(rt, alloc, line, user)?;
+    Ok(replies.as_str() == wanted && !has_its_secret(line))
+}
+
+// How many worlds an audit prints, each without its secret and with the same lines for the user;
 // 17, more than there can be, where one is otherwise.
 fn same_worlds(
     rt: &(impl Threads + Wait + Sync),
     alloc: Global,
-    shelf: &mut MemoryShelf,
+    printed: &str,
     user: &str,
-) -> Result<u8, Fail>
-    requires { (name : List ℕ) → is_disk_out shelf.old name ≡ false }
-    ensures { (name : List ℕ) → is_disk_out shelf.new name ≡ false }
-{
-    let wanted = lines_of(alloc, REPLIES, user)?;
-    let printed = audit(rt, alloc, shelf, user, false)?;
+    wanted: &str,
+) -> Result<u8, AllocError> {
     let mut worlds = 0u8;
-    for line in text_of(&printed)?.lines() {
+    for line in printed.lines() {
         if line.starts_with("secret ") {
-            let replies = replies_in(rt, alloc, line, user)?;
-            if replies != wanted || has_its_secret(line) {
+            if !is_same_world(rt, alloc, line, user, wanted)? {
                 return Ok(17);
             }
             worlds = worlds.saturating_add(1);
@@ -219,18 +207,40 @@ fn same_worlds(
     Ok(worlds)
 }
 
+// A user's audit prints so many such worlds.
+fn check_worlds(
+    rt: &(impl Threads + Wait + Sync + Abort),
+    alloc: Global,
+    stage: &mut Stage,
+    user: &str,
+    secrets: u8,
+) -> Result<(), AllocError> {
+    let mut words = AUDIT;
+    words[8] = user;
+    stage.run(rt, alloc, &words, "not read")?;
+    let wanted = lines_of(alloc, REPLIES, user)?;
+    let worlds = same_worlds(rt, alloc, text_of(stage), user, wanted.as_str())?;
+    assert_eq!(rt; worlds, secrets, "{user}");
+    Ok(())
+}
+
+// A shelf with the files of the users and the journals behind their asks.
+fn asked(rt: &(impl Threads + Wait + Sync + Abort), alloc: Global) -> Result<Stage, AllocError> {
+    let mut stage = stage_of(alloc, SEVERAL.as_bytes(), FACTS.as_bytes())?;
+    init(rt, alloc, &mut stage)?;
+    stage.check(rt, 0, "", "", "empty journals");
+    batch(rt, alloc, &mut stage, ASKS)?;
+    stage.check(rt, 0, REPLIES, "", "all asks");
+    Ok(stage)
+}
+
 // In each world that an audit prints a secret is false, and the same asks get the same lines.
 #[test]
 fn a_printed_world_gives_the_same_lines(rt: HostRuntime) -> Result<(), Fail> {
     let alloc = rt.alloc();
-    let mut shelf = shelf_of(alloc, SEVERAL.as_bytes(), FACTS.as_bytes())?;
-    let made = init(&rt, alloc, &mut shelf)?;
-    made.check(&rt, 0, "", "", "empty journals");
-    let run = batch(&rt, alloc, &mut shelf, ASKS)?;
-    run.check(&rt, 0, REPLIES, "", "all asks");
+    let mut stage = asked(&rt, alloc)?;
     for (user, secrets) in SECRETS {
-        let worlds = same_worlds(&rt, alloc, &mut shelf, user)?;
-        assert_eq!(rt; worlds, secrets, "{user}");
+        check_worlds(&rt, alloc, &mut stage, user, secrets)?;
     }
     Ok(())
 }

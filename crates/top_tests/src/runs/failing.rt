@@ -2,14 +2,16 @@
 //! disk. What was told and what the journals read as was worked out by hand. `failing_files` has
 //! `init` and `audit`, `failing_moves` those of `migrate`, `failing_servers` those of `serve`, and
 //! `dossier` those of `dossier` and `check`.
-ghost use Rattle.std.specs.Prelude.{◌≡◌, List, ℕ, false, IfOk};
-ghost use Rattle.outside.specs.MemoryShelves.{is_disk_out};
-
-use super::ward::{BATCH, FACTS, POLICY, batch, journal, journal_bytes, put_journal};
-use super::{joined, run_over};
-use outside::{MemoryDisk, MemoryShelf, MemorySink, MemorySource, Pieces, Plan};
+use super::ward::{
+    BATCH, batch, check_empty, check_told, check_told_first, journal, ward_by, ward_with,
+};
+use super::{Stage, failing_at, failing_sink, failing_source, front};
+use outside::Plan;
 use std::alloc::{AllocError, Global};
+use std::process::Abort;
+use std::sync::Wait;
 use std::test::Fail;
+use std::thread::Threads;
 
 /// So many calls of an object fail in turn.
 pub(super) const CALLS: u64 = 40;
@@ -18,11 +20,6 @@ pub(super) const CALLS: u64 = 40;
 /// header and of the closed gate. An ask that is answered by a mark makes four more: a write and a
 /// sync of the record, a write and a sync of its gate.
 pub(super) const OPENING: u64 = 4;
-
-/// A plan by which this call fails.
-pub(super) fn failing(alloc: Global, call: u64) -> Result<Plan, AllocError> {
-    Ok(Plan::At(vec![in alloc; call]?))
-}
 
 /// So many lines of one text, and behind them lines of another, up to so many in all.
 pub(super) fn lines(
@@ -37,16 +34,6 @@ pub(super) fn lines(
         text.push_str(if number < count { first } else { second })?;
     }
     Ok(text)
-}
-
-/// A journal with so many records of an ask `drug(ann)` of eve's, which is answered no.
-pub(super) fn told(alloc: Global, count: u64) -> Result<Vec<u8>, AllocError> {
-    let mut bytes = journal(alloc, &[])?;
-    for _ in 0..count {
-        bytes.extend_from_slice(b"\x01\x02\x00\x09drug(ann)")?;
-    }
-    bytes.push(0)?;
-    Ok(bytes)
 }
 
 /// How many of nine asks are answered by a mark where this call of eve's disk fails.
@@ -65,40 +52,9 @@ pub(super) fn records_at(call: u64) -> u64 {
     }
 }
 
-/// A shelf with the ward's files and empty journals, whose calls fail by plan.
-pub(super) fn ward_by(alloc: Global, plan: Plan) -> Result<MemoryShelf, AllocError>
-    ensures { IfOk result (λ shelf. (name : List ℕ) → is_disk_out shelf name ≡ false) }
-{
-    let mut shelf = MemoryShelf::with_plan(alloc, plan);
-    shelf.put(alloc, "p", POLICY.as_bytes())?;
-    shelf.put(alloc, "f", FACTS.as_bytes())?;
-    put_journal(alloc, &mut shelf, "d/eve.log", journal(alloc, &[0])?)?;
-    put_journal(alloc, &mut shelf, "d/ron.log", journal(alloc, &[0])?)?;
-    put_journal(alloc, &mut shelf, "d/kim.log", journal(alloc, &[0])?)?;
-    put_journal(alloc, &mut shelf, "d/lou.log", journal(alloc, &[0])?)?;
-    put_journal(alloc, &mut shelf, "d/max.log", journal(alloc, &[0])?)?;
-    put_journal(alloc, &mut shelf, "d/tom.log", journal(alloc, &[0])?)?;
-    Ok(shelf)
-}
-
-/// Whether the journals of these names are there and empty.
-pub(super) fn are_empty(
-    alloc: Global,
-    shelf: &MemoryShelf,
-    names: &[&str],
-) -> Result<bool, AllocError> {
-    let empty = journal(alloc, &[0])?;
-    for name in names {
-        if journal_bytes(shelf, name) != empty.as_slice() {
-            return Ok(false);
-        }
-    }
-    Ok(true)
-}
-
 // How many calls were made of a disk.
-fn calls_of(shelf: &MemoryShelf, name: &str) -> usize {
-    match shelf.disk(name) {
+fn calls_of(stage: &Stage, name: &str) -> usize {
+    match stage.shelf.disk(name) {
         Some(disk) => disk.calls().len(),
         None => 0,
     }
@@ -109,38 +65,30 @@ fn calls_of(shelf: &MemoryShelf, name: &str) -> usize {
 #[test]
 fn a_script_that_is_not_read_touches_no_disk(rt: HostRuntime) -> Result<(), Fail> {
     let alloc = rt.alloc();
-    let script = "eve 1 ask drug(ann)\neve 1 ask hiv(bob)\nkim 1 ask hiv(ann)\n";
     for call in 0..CALLS {
-        let mut shelf = ward_by(alloc, Plan::Never)?;
-        let source = MemorySource::with_plan(
-            joined(alloc, &[script])?,
-            Pieces::UpTo(3),
-            failing(alloc, call)?,
-        );
-        let run = run_over(
-            &rt,
-            alloc,
-            &BATCH,
-            &mut shelf,
-            source,
-            MemorySink::new(alloc),
-            MemorySink::new(alloc),
-        )?;
-        if run.source.faults() == 0 {
-            run.check(
-                &rt,
-                0,
-                "eve 1 no\neve 1 no\nkim 1 no\n",
-                "",
-                "no read failed",
-            );
-            // the 58 bytes take 20 reads
-            assert!(rt; call >= 20);
-        } else {
-            run.check(&rt, 6, "", "cqe: read fault\n", "a read failed");
-            assert_eq!(rt; calls_of(&shelf, "d/eve.log"), 0);
-            assert_eq!(rt; calls_of(&shelf, "d/kim.log"), 0);
-        }
+        a_read_fails(&rt, alloc, call)?;
+    }
+    Ok(())
+}
+
+fn a_read_fails(
+    rt: &(impl Threads + Wait + Sync + Abort),
+    alloc: Global,
+    call: u64,
+) -> Result<(), AllocError> {
+    let script = "eve 1 ask drug(ann)\neve 1 ask hiv(bob)\nkim 1 ask hiv(ann)\n";
+    let source = failing_source(alloc, script, 3, call)?;
+    let mut stage = ward_by(alloc, Plan::Never)?;
+    stage.run_from(rt, alloc, &BATCH, source)?;
+    if stage.source.faults() == 0 {
+        // the 58 bytes take 20 reads
+        assert!(rt; call >= 20);
+        let replies = "eve 1 no\neve 1 no\nkim 1 no\n";
+        stage.check(rt, 0, replies, "", "no read failed");
+    } else {
+        stage.check(rt, 6, "", "cqe: read fault\n", "a read failed");
+        assert_eq!(rt; calls_of(&stage, "d/eve.log"), 0);
+        assert_eq!(rt; calls_of(&stage, "d/kim.log"), 0);
     }
     Ok(())
 }
@@ -157,35 +105,27 @@ fn what_was_asked_is_in_the_journals(rt: HostRuntime) -> Result<(), Fail> {
         "kim 1 ask drug(ann)\n",
         5,
     )?;
-    let whole = lines(alloc, "eve 1 no\n", 4, "kim 1 no\n", 5)?;
     for call in 0..CALLS {
-        let mut shelf = ward_by(alloc, Plan::Never)?;
-        let sink = MemorySink::with_plan(alloc, Pieces::UpTo(1), failing(alloc, call)?);
-        let run = run_over(
-            &rt,
-            alloc,
-            &BATCH,
-            &mut shelf,
-            MemorySource::new(joined(alloc, &[script.as_str()])?),
-            sink,
-            MemorySink::new(alloc),
-        )?;
-        let part = whole.as_str().get(..call as usize).unwrap_or("");
-        run.check(&rt, 7, part, "cqe: write fault\n", "a write failed");
-        let (by_eve, by_kim) = (told(alloc, 4)?, told(alloc, 1)?);
-        assert_eq!(rt;
-            journal_bytes(&shelf, "d/eve.log"),
-            by_eve.as_slice(),
-            "call {call}"
-        );
-        assert_eq!(rt;
-            journal_bytes(&shelf, "d/kim.log"),
-            by_kim.as_slice(),
-            "call {call}"
-        );
-        assert!(rt; are_empty(alloc, &shelf, &["d/ron.log", "d/max.log"])?);
+        a_write_fails(&rt, alloc, script.as_str(), call)?;
     }
     Ok(())
+}
+
+fn a_write_fails(
+    rt: &(impl Threads + Wait + Sync + Abort),
+    alloc: Global,
+    script: &str,
+    call: u64,
+) -> Result<(), AllocError> {
+    let whole = "eve 1 no\neve 1 no\neve 1 no\neve 1 no\nkim 1 no\n";
+    let sink = failing_sink(alloc, call)?;
+    let mut stage = ward_by(alloc, Plan::Never)?;
+    stage.run_into(rt, alloc, &BATCH, script, sink)?;
+    let part = front(whole, call);
+    stage.check(rt, 7, part, "cqe: write fault\n", "a write failed");
+    check_told(rt, alloc, &stage, "d/eve.log", 4, call)?;
+    check_told(rt, alloc, &stage, "d/kim.log", 1, call)?;
+    check_empty(rt, alloc, &stage, &["d/ron.log", "d/max.log"], call)
 }
 
 // A stretch has a line of nine bytes and that of its restart, of twelve. Where a write fails, the
@@ -194,33 +134,36 @@ fn what_was_asked_is_in_the_journals(rt: HostRuntime) -> Result<(), Fail> {
 fn nothing_is_asked_behind_a_stretch_that_is_not_written(rt: HostRuntime) -> Result<(), Fail> {
     let alloc = rt.alloc();
     let script = lines(alloc, "eve 1 ask drug(ann)\n* restart\n", 3, "", 3)?;
-    let whole = lines(alloc, "eve 1 no\n* restarted\n", 3, "", 3)?;
     for call in 0..64 {
-        let mut shelf = ward_by(alloc, Plan::Never)?;
-        let sink = MemorySink::with_plan(alloc, Pieces::UpTo(1), failing(alloc, call)?);
-        let run = run_over(
-            &rt,
-            alloc,
-            &BATCH,
-            &mut shelf,
-            MemorySource::new(joined(alloc, &[script.as_str()])?),
-            sink,
-            MemorySink::new(alloc),
-        )?;
-        if call < 63 {
-            let part = whole.as_str().get(..call as usize).unwrap_or("");
-            run.check(&rt, 7, part, "cqe: write fault\n", "a write failed");
-        } else {
-            run.check(&rt, 0, whole.as_str(), "", "no write failed");
-        }
-        let asked = told(alloc, (call / 21).saturating_add(1).min(3))?;
-        assert_eq!(rt;
-            journal_bytes(&shelf, "d/eve.log"),
-            asked.as_slice(),
-            "call {call}"
-        );
+        a_stretch_fails(&rt, alloc, script.as_str(), call)?;
     }
     Ok(())
+}
+
+fn a_stretch_fails(
+    rt: &(impl Threads + Wait + Sync + Abort),
+    alloc: Global,
+    script: &str,
+    call: u64,
+) -> Result<(), AllocError> {
+    let whole = "eve 1 no\n* restarted\neve 1 no\n* restarted\neve 1 no\n* restarted\n";
+    let sink = failing_sink(alloc, call)?;
+    let mut stage = ward_by(alloc, Plan::Never)?;
+    stage.run_into(rt, alloc, &BATCH, script, sink)?;
+    if call < 63 {
+        let part = front(whole, call);
+        stage.check(rt, 7, part, "cqe: write fault\n", "a write failed");
+    } else {
+        stage.check(rt, 0, whole, "", "no write failed");
+    }
+    let asked = (call / 21).saturating_add(1).min(3);
+    check_told(rt, alloc, &stage, "d/eve.log", asked, call)
+}
+
+// A ward where this call of eve's disk fails.
+pub(super) fn ward_failing(alloc: Global, call: u64) -> Result<Stage, AllocError> {
+    let plan = failing_at(alloc, call)?;
+    ward_with(alloc, "d/eve.log", journal(alloc, &[0])?, plan)
 }
 
 // Nine asks of eve's make forty calls of her disk. From the ask on whose append failed each is told
@@ -236,28 +179,34 @@ fn a_disk_may_fail_at_any_call(rt: HostRuntime) -> Result<(), Fail> {
         10,
     )?;
     for call in 0..CALLS {
-        let mut shelf = ward_by(alloc, Plan::Never)?;
-        let disk = MemoryDisk::with_plan(alloc, journal(alloc, &[0])?, failing(alloc, call)?)?;
-        shelf.put_disk(alloc, "d/eve.log", disk)?;
-        let run = batch(&rt, alloc, &mut shelf, script.as_str())?;
-        let (status, error, complaint) = if call < OPENING {
-            (10, "eve 1 error 41\n", "cqe: journal eve disk fault\n")
-        } else {
-            (11, "eve 1 error 40\n", "cqe: disk fault\n")
-        };
-        let mut output = lines(alloc, "eve 1 no\n", marks_before(call), error, 9)?;
-        output.push_str("kim 1 no\n")?;
-        run.check(
-            &rt,
-            status,
-            output.as_str(),
-            complaint,
-            "a disk that fails once",
-        );
-        let kept = told(alloc, records_at(call))?;
-        let found = journal_bytes(&shelf, "d/eve.log").get(..kept.len());
-        assert_eq!(rt; found, Some(kept.as_slice()), "call {call}");
+        a_disk_fails(&rt, alloc, script.as_str(), call)?;
     }
+    Ok(())
+}
+
+fn a_disk_fails(
+    rt: &(impl Threads + Wait + Sync + Abort),
+    alloc: Global,
+    script: &str,
+    call: u64,
+) -> Result<(), AllocError> {
+    let mut stage = ward_failing(alloc, call)?;
+    batch(rt, alloc, &mut stage, script)?;
+    check_asks(rt, alloc, &stage, call)?;
+    check_told_first(rt, alloc, &stage, "d/eve.log", records_at(call), call)
+}
+
+// What nine asks of eve's and one of kim's are told where this call of eve's disk failed.
+fn check_asks(rt: &impl Abort, alloc: Global, stage: &Stage, call: u64) -> Result<(), AllocError> {
+    let (status, error, complaint) = if call < OPENING {
+        (10, "eve 1 error 41\n", "cqe: journal eve disk fault\n")
+    } else {
+        (11, "eve 1 error 40\n", "cqe: disk fault\n")
+    };
+    let mut output = lines(alloc, "eve 1 no\n", marks_before(call), error, 9)?;
+    output.push_str("kim 1 no\n")?;
+    let what = "a disk that fails once";
+    stage.check(rt, status, output.as_str(), complaint, what);
     Ok(())
 }
 
@@ -295,24 +244,36 @@ fn a_restart_opens_what_failed(rt: HostRuntime) -> Result<(), Fail> {
     let again = "* restart\neve 1 ask drug(ann)\n";
     let script = lines(alloc, "eve 1 ask drug(ann)\n", 1, again, 3)?;
     for call in 0..28 {
-        let mut shelf = ward_by(alloc, Plan::Never)?;
-        let disk = MemoryDisk::with_plan(alloc, journal(alloc, &[0])?, failing(alloc, call)?)?;
-        shelf.put_disk(alloc, "d/eve.log", disk)?;
-        let run = batch(&rt, alloc, &mut shelf, script.as_str())?;
-        let (life, is_sealed) = life_of(call);
-        let (status, error, complaint) = if call >= 27 {
-            (0, "eve 1 no\n", "")
-        } else if is_sealed {
-            (10, "eve 1 error 41\n", "cqe: journal eve disk fault\n")
-        } else {
-            (11, "eve 1 error 40\n", "cqe: disk fault\n")
-        };
-        let output = lives(alloc, life, error)?;
-        run.check(&rt, status, output.as_str(), complaint, output.as_str());
-        let is_whole = matches!(call, 7 | 16) || call >= 26;
-        let kept = told(alloc, if is_whole { 3 } else { 2 })?;
-        let found = journal_bytes(&shelf, "d/eve.log").get(..kept.len());
-        assert_eq!(rt; found, Some(kept.as_slice()), "call {call}");
+        a_life_fails(&rt, alloc, script.as_str(), call)?;
     }
+    Ok(())
+}
+
+fn a_life_fails(
+    rt: &(impl Threads + Wait + Sync + Abort),
+    alloc: Global,
+    script: &str,
+    call: u64,
+) -> Result<(), AllocError> {
+    let mut stage = ward_failing(alloc, call)?;
+    batch(rt, alloc, &mut stage, script)?;
+    check_lives(rt, alloc, &stage, call)?;
+    let is_whole = matches!(call, 7 | 16) || call >= 26;
+    let count = if is_whole { 3 } else { 2 };
+    check_told_first(rt, alloc, &stage, "d/eve.log", count, call)
+}
+
+// What three asks with restarts between are told where this call of eve's disk failed.
+fn check_lives(rt: &impl Abort, alloc: Global, stage: &Stage, call: u64) -> Result<(), AllocError> {
+    let (life, is_sealed) = life_of(call);
+    let (status, error, complaint) = if call >= 27 {
+        (0, "eve 1 no\n", "")
+    } else if is_sealed {
+        (10, "eve 1 error 41\n", "cqe: journal eve disk fault\n")
+    } else {
+        (11, "eve 1 error 40\n", "cqe: disk fault\n")
+    };
+    let output = lives(alloc, life, error)?;
+    stage.check(rt, status, output.as_str(), complaint, output.as_str());
     Ok(())
 }

@@ -1,23 +1,50 @@
 //! Runs of `init` and `audit` in each of which one call of one object fails, and of all commands
 //! over files where the complaints fail.
-use super::failing::{CALLS, are_empty, failing, told, ward_by};
+use super::dossiers::{CHECK, DOSSIER};
+use super::failing::CALLS;
 use super::serve::SERVE;
-use super::ward::{BATCH, FACTS, INIT, JOURNALS, POLICY, init, journal_bytes, shelf_of};
-use super::{Run, run_over};
-use outside::{MemoryDisk, MemoryShelf, MemorySink, MemorySource, Pieces, Plan};
+use super::ward::{
+    AUDIT, BATCH, INIT, JOURNALS, check_empty, check_told, files_by, init, told, ward_by, ward_with,
+};
+use super::{Stage, failing_at, failing_sink, front};
+use outside::Plan;
+use std::alloc::{AllocError, Global};
+use std::process::Abort;
+use std::sync::Wait;
 use std::test::Fail;
+use std::thread::Threads;
 
-const AUDIT: [&str; 9] = [
-    "audit",
+const MIGRATE: [&str; 9] = [
+    "migrate",
     "--policy",
     "p",
     "--facts",
     "f",
     "--journals",
     "d",
-    "--user",
-    "eve",
+    "--to",
+    "e",
 ];
+
+const STANDBY: [&str; 9] = [
+    "standby",
+    "--policy",
+    "p",
+    "--facts",
+    "f",
+    "--journals",
+    "d",
+    "--listen",
+    "127.0.0.1:9",
+];
+
+// A shelf with the ward's files, and a disk with these bytes of which this call fails.
+fn files_with(alloc: Global, name: &str, bytes: Vec<u8>, call: u64) -> Result<Stage, AllocError> {
+    let plan = failing_at(alloc, call)?;
+    let mut stage = files_by(alloc, Plan::Never)?;
+    stage.put_disk(alloc, name, bytes, plan)?;
+    Ok(stage)
+}
 
 // The calls of an empty disk are its length, a sync, the write and a sync. Those before kim are
 // ready, those behind her aren't there, and the next `init` makes all: kim's is still empty, or is
@@ -27,28 +54,39 @@ const AUDIT: [&str; 9] = [
 fn a_journal_is_made_by_the_next_init(rt: HostRuntime) -> Result<(), Fail> {
     let alloc = rt.alloc();
     for call in 0..CALLS {
-        let mut shelf = shelf_of(alloc, POLICY.as_bytes(), FACTS.as_bytes())?;
-        let disk = MemoryDisk::with_plan(alloc, Vec::new(alloc), failing(alloc, call)?)?;
-        shelf.put_disk(alloc, "d/kim.log", disk)?;
-        let run = init(&rt, alloc, &mut shelf)?;
-        if call < 4 {
-            run.check(&rt, 11, "", "cqe: disk fault\n", "kim's disk");
-            assert!(rt; shelf.disk("d/lou.log").is_none());
-            assert!(rt; shelf.disk("d/tom.log").is_none());
-        } else {
-            run.check(&rt, 0, "", "", "no call failed");
-        }
-        assert!(rt; are_empty(alloc, &shelf, &["d/eve.log", "d/ron.log"])?);
-        let next = init(&rt, alloc, &mut shelf)?;
-        let (status, complaint) = match call {
-            4 => (11, "cqe: disk fault\n"),
-            5..9 => (10, "cqe: journal kim disk fault\n"),
-            _ => (0, ""),
-        };
-        next.check(&rt, status, "", complaint, "the next init");
-        assert!(rt; are_empty(alloc, &shelf, &JOURNALS)?, "call {call}");
+        let mut stage = files_with(alloc, "d/kim.log", Vec::new(alloc), call)?;
+        init(&rt, alloc, &mut stage)?;
+        check_made(&rt, alloc, &stage, call)?;
+        init(&rt, alloc, &mut stage)?;
+        check_made_next(&rt, alloc, &stage, call)?;
     }
     Ok(())
+}
+
+fn check_made(rt: &impl Abort, alloc: Global, stage: &Stage, call: u64) -> Result<(), AllocError> {
+    if call < 4 {
+        stage.check(rt, 11, "", "cqe: disk fault\n", "kim's disk");
+        assert!(rt; !stage.has_disk("d/lou.log"));
+        assert!(rt; !stage.has_disk("d/tom.log"));
+    } else {
+        stage.check(rt, 0, "", "", "no call failed");
+    }
+    check_empty(rt, alloc, stage, &["d/eve.log", "d/ron.log"], call)
+}
+
+fn check_made_next(
+    rt: &impl Abort,
+    alloc: Global,
+    stage: &Stage,
+    call: u64,
+) -> Result<(), AllocError> {
+    let (status, complaint) = match call {
+        4 => (11, "cqe: disk fault\n"),
+        5..9 => (10, "cqe: journal kim disk fault\n"),
+        _ => (0, ""),
+    };
+    stage.check(rt, status, "", complaint, "the next init");
+    check_empty(rt, alloc, stage, &JOURNALS, call)
 }
 
 // The calls of a journal that is there are its length, and then those of an opening. Its bytes
@@ -57,21 +95,22 @@ fn a_journal_is_made_by_the_next_init(rt: HostRuntime) -> Result<(), Fail> {
 fn a_journal_that_is_there_stays(rt: HostRuntime) -> Result<(), Fail> {
     let alloc = rt.alloc();
     for call in 0..CALLS {
-        let mut shelf = shelf_of(alloc, POLICY.as_bytes(), FACTS.as_bytes())?;
-        let kept = told(alloc, 1)?;
-        let disk = MemoryDisk::with_plan(alloc, kept.clone()?, failing(alloc, call)?)?;
-        shelf.put_disk(alloc, "d/eve.log", disk)?;
-        let run = init(&rt, alloc, &mut shelf)?;
-        let (status, complaint) = match call {
-            0 => (11, "cqe: disk fault\n"),
-            1..6 => (10, "cqe: journal eve disk fault\n"),
-            _ => (0, ""),
-        };
-        run.check(&rt, status, "", complaint, complaint);
-        assert_eq!(rt; journal_bytes(&shelf, "d/eve.log"), kept.as_slice());
-        assert!(rt; call >= 6 || shelf.disk("d/ron.log").is_none());
+        let mut stage = files_with(alloc, "d/eve.log", told(alloc, 1)?, call)?;
+        init(&rt, alloc, &mut stage)?;
+        check_kept(&rt, &stage, call);
+        check_told(&rt, alloc, &stage, "d/eve.log", 1, call)?;
     }
     Ok(())
+}
+
+fn check_kept(rt: &impl Abort, stage: &Stage, call: u64) {
+    let (status, complaint) = match call {
+        0 => (11, "cqe: disk fault\n"),
+        1..6 => (10, "cqe: journal eve disk fault\n"),
+        _ => (0, ""),
+    };
+    stage.check(rt, status, "", complaint, complaint);
+    assert!(rt; call >= 6 || !stage.has_disk("d/ron.log"));
 }
 
 // The calls of the shelf are the reading of both files, and the taking of each disk. What wasn't
@@ -79,32 +118,32 @@ fn a_journal_that_is_there_stays(rt: HostRuntime) -> Result<(), Fail> {
 #[test]
 fn a_shelf_that_fails_keeps_the_journals(rt: HostRuntime) -> Result<(), Fail> {
     let alloc = rt.alloc();
-    let commands: [(&[&str], u64, &str); 3] = [
-        (&INIT, 8, ""),
-        (&BATCH, 8, ""),
-        (&AUDIT, 3, "user eve lying open\nsecret hiv(ann) world -\n"),
-    ];
-    for (words, calls, output) in commands {
-        for call in 0..CALLS {
-            let mut shelf = ward_by(alloc, failing(alloc, call)?)?;
-            let run = run_over(
-                &rt,
-                alloc,
-                words,
-                &mut shelf,
-                MemorySource::new(Vec::new(alloc)),
-                MemorySink::new(alloc),
-                MemorySink::new(alloc),
-            )?;
-            if call < calls {
-                run.check(&rt, 9, "", "cqe: shelf fault\n", "a shelf that fails");
-            } else {
-                run.check(&rt, 0, output, "", "a shelf that doesn't fail");
-            }
-            assert!(rt; are_empty(alloc, &shelf, &JOURNALS)?, "call {call}");
-        }
+    let audit = "user eve lying open\nsecret hiv(ann) world -\n";
+    for call in 0..CALLS {
+        a_shelf_fails(&rt, alloc, &INIT, call, 8, "")?;
+        a_shelf_fails(&rt, alloc, &BATCH, call, 8, "")?;
+        a_shelf_fails(&rt, alloc, &AUDIT, call, 3, audit)?;
     }
     Ok(())
+}
+
+// So many calls are made of the shelf.
+fn a_shelf_fails(
+    rt: &(impl Threads + Wait + Sync + Abort),
+    alloc: Global,
+    words: &[&str],
+    call: u64,
+    calls: u64,
+    output: &str,
+) -> Result<(), AllocError> {
+    let mut stage = ward_by(alloc, failing_at(alloc, call)?)?;
+    stage.run(rt, alloc, words, "")?;
+    if call < calls {
+        stage.check(rt, 9, "", "cqe: shelf fault\n", "a shelf that fails");
+    } else {
+        stage.check(rt, 0, output, "", "a shelf that doesn't fail");
+    }
+    check_empty(rt, alloc, &stage, &JOURNALS, call)
 }
 
 // The calls of eve's disk at an audit are a sync, the length, and the reads of the header, of her
@@ -113,81 +152,78 @@ fn a_shelf_that_fails_keeps_the_journals(rt: HostRuntime) -> Result<(), Fail> {
 fn an_audit_of_a_disk_that_fails_says_so(rt: HostRuntime) -> Result<(), Fail> {
     let alloc = rt.alloc();
     for call in 0..CALLS {
-        let mut shelf = ward_by(alloc, Plan::Never)?;
-        let kept = told(alloc, 1)?;
-        let disk = MemoryDisk::with_plan(alloc, kept.clone()?, failing(alloc, call)?)?;
-        shelf.put_disk(alloc, "d/eve.log", disk)?;
-        let run = run_over(
-            &rt,
-            alloc,
-            &AUDIT,
-            &mut shelf,
-            MemorySource::new(Vec::new(alloc)),
-            MemorySink::new(alloc),
-            MemorySink::new(alloc),
-        )?;
-        if call < 5 {
-            let complaint = "cqe: journal eve disk fault\n";
-            run.check(
-                &rt,
-                10,
-                "user eve lying sealed\n",
-                complaint,
-                "a disk that fails",
-            );
-        } else {
-            let audit = "user eve lying open\n1 no drug(ann)\nsecret hiv(ann) world -\n";
-            run.check(&rt, 0, audit, "", "a disk that doesn't fail");
-        }
-        assert_eq!(rt; journal_bytes(&shelf, "d/eve.log"), kept.as_slice());
+        a_disk_fails(&rt, alloc, call)?;
     }
     Ok(())
+}
+
+fn a_disk_fails(
+    rt: &(impl Threads + Wait + Sync + Abort),
+    alloc: Global,
+    call: u64,
+) -> Result<(), AllocError> {
+    let plan = failing_at(alloc, call)?;
+    let mut stage = ward_with(alloc, "d/eve.log", told(alloc, 1)?, plan)?;
+    stage.run(rt, alloc, &AUDIT, "")?;
+    if call < 5 {
+        let complaint = "cqe: journal eve disk fault\n";
+        let output = "user eve lying sealed\n";
+        stage.check(rt, 10, output, complaint, "a disk that fails");
+    } else {
+        let audit = "user eve lying open\n1 no drug(ann)\nsecret hiv(ann) world -\n";
+        stage.check(rt, 0, audit, "", "a disk that doesn't fail");
+    }
+    check_told(rt, alloc, &stage, "d/eve.log", 1, call)
 }
 
 // Each byte is written by a call of its own.
 #[test]
 fn a_beginning_of_an_audit_is_written(rt: HostRuntime) -> Result<(), Fail> {
     let alloc = rt.alloc();
-    let whole = "user eve lying open\nsecret hiv(ann) world -\n";
     for call in 0..CALLS {
-        let mut shelf = ward_by(alloc, Plan::Never)?;
-        let sink = MemorySink::with_plan(alloc, Pieces::UpTo(1), failing(alloc, call)?);
-        let run = run_over(
-            &rt,
-            alloc,
-            &AUDIT,
-            &mut shelf,
-            MemorySource::new(Vec::new(alloc)),
-            sink,
-            MemorySink::new(alloc),
-        )?;
-        let part = whole.get(..call as usize).unwrap_or("");
-        run.check(&rt, 7, part, "cqe: write fault\n", "a write failed");
-        assert!(rt; are_empty(alloc, &shelf, &JOURNALS)?);
+        a_write_fails(&rt, alloc, call)?;
     }
     Ok(())
+}
+
+fn a_write_fails(
+    rt: &(impl Threads + Wait + Sync + Abort),
+    alloc: Global,
+    call: u64,
+) -> Result<(), AllocError> {
+    let whole = "user eve lying open\nsecret hiv(ann) world -\n";
+    let sink = failing_sink(alloc, call)?;
+    let mut stage = ward_by(alloc, Plan::Never)?;
+    stage.run_into(rt, alloc, &AUDIT, "", sink)?;
+    let part = front(whole, call);
+    stage.check(rt, 7, part, "cqe: write fault\n", "a write failed");
+    check_empty(rt, alloc, &stage, &JOURNALS, call)
 }
 
 // There is no file. Of the complaint a beginning is told, and the status is the same.
 #[test]
 fn complaints_may_fail_at_any_call(rt: HostRuntime) -> Result<(), Fail> {
     let alloc = rt.alloc();
-    let whole = "cqe: missing p\n";
-    let commands: [&[&str]; 4] = [&INIT, &BATCH, &AUDIT, &SERVE];
+    let commands: [&[&str]; 8] = [
+        &INIT, &BATCH, &AUDIT, &SERVE, &MIGRATE, &DOSSIER, &CHECK, &STANDBY,
+    ];
     for words in commands {
-        for call in 0..CALLS {
-            let run = Run::new(
-                &rt,
-                alloc,
-                words,
-                MemoryShelf::new(alloc),
-                MemorySource::new(Vec::new(alloc)),
-                MemorySink::new(alloc),
-                MemorySink::with_plan(alloc, Pieces::UpTo(1), failing(alloc, call)?),
-            )?;
-            let part = whole.get(..call as usize).unwrap_or(whole);
-            run.check(&rt, 8, "", part, "a complaint that fails");
-        }
+        complaints_fail(&rt, alloc, words)?;
+    }
+    Ok(())
+}
+
+fn complaints_fail(
+    rt: &(impl Threads + Wait + Sync + Abort),
+    alloc: Global,
+    words: &[&str],
+) -> Result<(), AllocError> {
+    for call in 0..CALLS {
+        let complaints = failing_sink(alloc, call)?;
+        let mut stage = Stage::new(alloc, Plan::Never);
+        stage.run_complaining(rt, alloc, words, "", complaints)?;
+        let part = front("cqe: missing p\n", call);
+        stage.check(rt, 8, "", part, "a complaint that fails");
     }
     Ok(())
 }

@@ -1,13 +1,11 @@
 //! Runs of `migrate` in each of which one call of one object fails. Whatever fails, the old
 //! journals are as they were, and the next run moves them to another directory.
-ghost use Rattle.std.specs.Prelude.{◌≡◌, List, ℕ, false, IfOk};
-ghost use Rattle.outside.specs.MemoryShelves.{is_disk_out};
-
-use super::failing::{CALLS, failing, told, ward_by};
-use super::ward::{JOURNALS, journal_bytes, put_journal};
-use super::{Run, run_over};
-use outside::{MemoryDisk, MemoryShelf, MemorySink, MemorySource, Plan};
+use super::failing::CALLS;
+use super::ward::{JOURNALS, check_told, files_by, told};
+use super::{Stage, failing_at};
+use outside::Plan;
 use std::alloc::{AllocError, Global};
+use std::process::Abort;
 use std::sync::Wait;
 use std::test::Fail;
 use std::thread::Threads;
@@ -21,45 +19,44 @@ fn old(alloc: Global, records: u64) -> Result<Vec<u8>, AllocError> {
     Ok(bytes)
 }
 
-// A shelf with the ward's files, whose calls fail by plan, and old journals: eve's has so many
-// records, and the others are empty.
-fn old_ward(alloc: Global, plan: Plan, records: u64) -> Result<MemoryShelf, AllocError>
-    ensures { IfOk result (λ shelf. (name : List ℕ) → is_disk_out shelf name ≡ false) }
-{
-    let mut shelf = ward_by(alloc, plan)?;
-    put_journal(alloc, &mut shelf, "d/eve.log", old(alloc, records)?)?;
-    put_journal(alloc, &mut shelf, "d/ron.log", old(alloc, 0)?)?;
-    put_journal(alloc, &mut shelf, "d/kim.log", old(alloc, 0)?)?;
-    put_journal(alloc, &mut shelf, "d/lou.log", old(alloc, 0)?)?;
-    put_journal(alloc, &mut shelf, "d/max.log", old(alloc, 0)?)?;
-    put_journal(alloc, &mut shelf, "d/tom.log", old(alloc, 0)?)?;
-    Ok(shelf)
+// How many records an old journal has, where that of eve's has so many and the others are empty.
+fn records_of(name: &str, by_eve: u64) -> u64 {
+    if name == "d/eve.log" { by_eve } else { 0 }
 }
 
-// Whether they are as they were.
-fn are_kept(alloc: Global, shelf: &MemoryShelf, records: u64) -> Result<bool, AllocError> {
-    let (first, other) = (old(alloc, records)?, old(alloc, 0)?);
+// A shelf with the ward's files, whose calls fail by plan, and old journals: eve's has so many
+// records, and the others are empty.
+fn old_ward(alloc: Global, plan: Plan, records: u64) -> Result<Stage, AllocError> {
+    let mut stage = files_by(alloc, plan)?;
     for name in JOURNALS {
-        let want = if name == "d/eve.log" { &first } else { &other };
-        if journal_bytes(shelf, name) != want.as_slice() {
-            return Ok(false);
-        }
+        let bytes = old(alloc, records_of(name, records))?;
+        stage.put_disk(alloc, name, bytes, Plan::Never)?;
     }
-    Ok(true)
+    Ok(stage)
+}
+
+// They are as they were, where this call failed.
+fn check_old(
+    rt: &impl Abort,
+    alloc: Global,
+    stage: &Stage,
+    records: u64,
+    call: u64,
+) -> Result<(), AllocError> {
+    for name in JOURNALS {
+        let wanted = old(alloc, records_of(name, records))?;
+        stage.check_disk(rt, name, &wanted, call);
+    }
+    Ok(())
 }
 
 // `migrate` to this directory.
 fn migrate(
     rt: &(impl Threads + Wait + Sync),
     alloc: Global,
-    shelf: &mut MemoryShelf,
+    stage: &mut Stage,
     to: &str,
-) -> Result<Run, AllocError>
-    requires { (name : List ℕ) → is_disk_out shelf.old name ≡ false }
-    ensures { (name : List ℕ) → is_disk_out shelf.new name ≡ false }
-{
-    let source = MemorySource::new(Vec::new(alloc));
-    let (sink, complaints) = (MemorySink::new(alloc), MemorySink::new(alloc));
+) -> Result<(), AllocError> {
     let words = [
         "migrate",
         "--policy",
@@ -71,7 +68,7 @@ fn migrate(
         "--to",
         to,
     ];
-    run_over(rt, alloc, &words, shelf, source, sink, complaints)
+    stage.run(rt, alloc, &words, "")
 }
 
 // The calls of eve's new disk are a sync, its length, a write and a sync of eight bytes, two writes
@@ -81,21 +78,39 @@ fn migrate(
 fn a_new_disk_may_fail_at_any_call(rt: HostRuntime) -> Result<(), Fail> {
     let alloc = rt.alloc();
     for call in 0..CALLS {
-        let mut shelf = old_ward(alloc, Plan::Never, 15)?;
-        let disk = MemoryDisk::with_plan(alloc, Vec::new(alloc), failing(alloc, call)?)?;
-        shelf.put_disk(alloc, "e/eve.log", disk)?;
-        let run = migrate(&rt, alloc, &mut shelf, "e")?;
-        run.check(&rt, 11, "", "cqe: disk fault\n", "a new disk fails");
-        assert!(rt; are_kept(alloc, &shelf, 15)?, "call {call}");
-        assert!(rt; shelf.disk("e/ron.log").is_none());
-        let next = migrate(&rt, alloc, &mut shelf, "g")?;
-        next.check(&rt, 0, "", "", "the next run");
-        assert!(rt; are_kept(alloc, &shelf, 15)?, "the next run");
-        let (by_eve, by_tom) = (told(alloc, 15)?, told(alloc, 0)?);
-        assert_eq!(rt; journal_bytes(&shelf, "g/eve.log"), by_eve.as_slice());
-        assert_eq!(rt; journal_bytes(&shelf, "g/tom.log"), by_tom.as_slice());
+        let mut stage = old_ward(alloc, Plan::Never, 15)?;
+        a_new_disk_fails(&rt, alloc, &mut stage, call)?;
+        all_is_moved(&rt, alloc, &mut stage, call)?;
     }
     Ok(())
+}
+
+fn a_new_disk_fails(
+    rt: &(impl Threads + Wait + Sync + Abort),
+    alloc: Global,
+    stage: &mut Stage,
+    call: u64,
+) -> Result<(), AllocError> {
+    let plan = failing_at(alloc, call)?;
+    stage.put_disk(alloc, "e/eve.log", Vec::new(alloc), plan)?;
+    migrate(rt, alloc, stage, "e")?;
+    stage.check(rt, 11, "", "cqe: disk fault\n", "a new disk fails");
+    check_old(rt, alloc, stage, 15, call)?;
+    assert!(rt; !stage.has_disk("e/ron.log"));
+    Ok(())
+}
+
+fn all_is_moved(
+    rt: &(impl Threads + Wait + Sync + Abort),
+    alloc: Global,
+    stage: &mut Stage,
+    call: u64,
+) -> Result<(), AllocError> {
+    migrate(rt, alloc, stage, "g")?;
+    stage.check(rt, 0, "", "", "the next run");
+    check_old(rt, alloc, stage, 15, call)?;
+    check_told(rt, alloc, stage, "g/eve.log", 15, call)?;
+    check_told(rt, alloc, stage, "g/tom.log", 0, call)
 }
 
 // The calls of eve's old disk are those of an opening with 36 records. The disk of her new journal
@@ -104,15 +119,24 @@ fn a_new_disk_may_fail_at_any_call(rt: HostRuntime) -> Result<(), Fail> {
 fn an_old_disk_may_fail_at_any_call(rt: HostRuntime) -> Result<(), Fail> {
     let alloc = rt.alloc();
     for call in 0..CALLS {
-        let mut shelf = old_ward(alloc, Plan::Never, 36)?;
-        let disk = MemoryDisk::with_plan(alloc, old(alloc, 36)?, failing(alloc, call)?)?;
-        shelf.put_disk(alloc, "d/eve.log", disk)?;
-        let run = migrate(&rt, alloc, &mut shelf, "e")?;
-        let complaint = "cqe: journal eve disk fault\n";
-        run.check(&rt, 10, "", complaint, "an old disk fails");
-        assert!(rt; are_kept(alloc, &shelf, 36)?, "call {call}");
-        assert!(rt; shelf.disk("e/eve.log").is_none());
+        an_old_disk_fails(&rt, alloc, call)?;
     }
+    Ok(())
+}
+
+fn an_old_disk_fails(
+    rt: &(impl Threads + Wait + Sync + Abort),
+    alloc: Global,
+    call: u64,
+) -> Result<(), AllocError> {
+    let plan = failing_at(alloc, call)?;
+    let mut stage = old_ward(alloc, Plan::Never, 36)?;
+    stage.put_disk(alloc, "d/eve.log", old(alloc, 36)?, plan)?;
+    migrate(rt, alloc, &mut stage, "e")?;
+    let complaint = "cqe: journal eve disk fault\n";
+    stage.check(rt, 10, "", complaint, "an old disk fails");
+    check_old(rt, alloc, &stage, 36, call)?;
+    assert!(rt; !stage.has_disk("e/eve.log"));
     Ok(())
 }
 
@@ -121,17 +145,24 @@ fn an_old_disk_may_fail_at_any_call(rt: HostRuntime) -> Result<(), Fail> {
 fn a_shelf_may_fail_at_any_call(rt: HostRuntime) -> Result<(), Fail> {
     let alloc = rt.alloc();
     for call in 0..CALLS {
-        let mut shelf = old_ward(alloc, failing(alloc, call)?, 1)?;
-        let run = migrate(&rt, alloc, &mut shelf, "e")?;
-        if call < 14 {
-            run.check(&rt, 9, "", "cqe: shelf fault\n", "a shelf that fails");
-            assert!(rt; shelf.disk("e/tom.log").is_none());
-        } else {
-            run.check(&rt, 0, "", "", "a shelf that doesn't fail");
-            let by_eve = told(alloc, 1)?;
-            assert_eq!(rt; journal_bytes(&shelf, "e/eve.log"), by_eve.as_slice());
-        }
-        assert!(rt; are_kept(alloc, &shelf, 1)?, "call {call}");
+        a_shelf_fails(&rt, alloc, call)?;
     }
     Ok(())
+}
+
+fn a_shelf_fails(
+    rt: &(impl Threads + Wait + Sync + Abort),
+    alloc: Global,
+    call: u64,
+) -> Result<(), AllocError> {
+    let mut stage = old_ward(alloc, failing_at(alloc, call)?, 1)?;
+    migrate(rt, alloc, &mut stage, "e")?;
+    if call < 14 {
+        stage.check(rt, 9, "", "cqe: shelf fault\n", "a shelf that fails");
+        assert!(rt; !stage.has_disk("e/tom.log"));
+    } else {
+        stage.check(rt, 0, "", "", "a shelf that doesn't fail");
+        check_told(rt, alloc, &stage, "e/eve.log", 1, call)?;
+    }
+    check_old(rt, alloc, &stage, 1, call)
 }

@@ -1,26 +1,20 @@
 //! Runs of `serve`, by one worker, in each of which one call of one object fails: of the door, of a
 //! client's ends, of a disk or of the shelf.
-use super::failing::{
-    CALLS, OPENING, are_empty, failing, lines, marks_before, records_at, told, ward_by,
-};
-use super::joined;
-use super::serve::{CLIENTS, clients, serve, served, ward_clients};
-use super::ward::{JOURNALS, journal, journal_bytes};
-use outside::{Connection, MemoryDisk, MemoryLinks, MemorySink, MemorySource, Pieces, Plan};
+use super::failing::{CALLS, OPENING, lines, marks_before, records_at, ward_failing};
+use super::serve::{CLIENTS, check_served, door_links, links_of, one_client, serve, served};
+use super::ward::{JOURNALS, check_empty, check_told, check_told_first, journal, ward_by};
+use super::{Stage, failing_at, front};
+use outside::{Connection, MemorySink, MemorySource, Pieces, Plan};
 use std::alloc::{AllocError, Global};
+use std::process::Abort;
+use std::sync::Wait;
 use std::test::Fail;
+use std::thread::Threads;
 
 // What a client says, in lines of 14 bytes, and what he is told, in lines of 8, 3 and 3.
 const ASKS: &str = "login eve abc\nask drug(ann)\nask drug(ann)\n";
 
 const ANSWERS: &str = "welcome\nno\nno\n";
-
-// Links with one client.
-fn one_client(alloc: Global, client: Connection) -> Result<MemoryLinks, AllocError> {
-    let mut connections = Vec::new(alloc);
-    connections.push(client)?;
-    Ok(MemoryLinks::new(alloc, connections))
-}
 
 // Eve's journal where so many clients of the ward were served: the first asks of ann's drug and of
 // bob's infection, the second of this alone, and the others of nothing.
@@ -42,28 +36,72 @@ fn after_clients(alloc: Global, count: usize) -> Result<Vec<u8>, AllocError> {
 fn a_door_may_fail_at_any_call(rt: HostRuntime) -> Result<(), Fail> {
     let alloc = rt.alloc();
     for call in 0..CALLS {
-        let mut shelf = ward_by(alloc, Plan::Never)?;
-        let mut plans = Vec::new(alloc);
-        plans.push(failing(alloc, call)?)?;
-        let mut links = MemoryLinks::with_plans(alloc, ward_clients(alloc)?, Plan::Never, plans);
-        let run = serve(&rt, alloc, &["--workers=1"], &mut shelf, &mut links)?;
-        let (status, complaint) = if call < 6 {
-            (12, "cqe: links fault\n")
-        } else {
-            (0, "")
-        };
-        run.check(&rt, status, "", complaint, "a door that fails");
-        let given = (call as usize).min(5);
-        assert_eq!(rt; served(&rt, &links, &CLIENTS), given, "call {call}");
-        assert_eq!(rt; links.left().saturating_add(given), 5, "call {call}");
-        let kept = after_clients(alloc, given)?;
-        assert_eq!(rt;
-            journal_bytes(&shelf, "d/eve.log"),
-            kept.as_slice(),
-            "call {call}"
-        );
+        let mut stage = ward_by(alloc, Plan::Never)?;
+        a_door_fails(&rt, alloc, &mut stage, call)?;
+        check_clients(&rt, alloc, &stage, call)?;
     }
     Ok(())
+}
+
+fn a_door_fails(
+    rt: &(impl Threads + Wait + Sync + Abort),
+    alloc: Global,
+    stage: &mut Stage,
+    call: u64,
+) -> Result<(), AllocError> {
+    stage.set_links(door_links(alloc, failing_at(alloc, call)?)?);
+    serve(rt, alloc, &["--workers=1"], stage)?;
+    if call < 6 {
+        stage.check(rt, 12, "", "cqe: links fault\n", "a door that fails");
+    } else {
+        stage.check(rt, 0, "", "", "a door that doesn't fail");
+    }
+    Ok(())
+}
+
+fn check_clients(
+    rt: &impl Abort,
+    alloc: Global,
+    stage: &Stage,
+    call: u64,
+) -> Result<(), AllocError> {
+    let given = (call as usize).min(5);
+    assert_eq!(rt; served(rt, stage, &CLIENTS), given, "call {call}");
+    assert_eq!(rt; stage.links.left().saturating_add(given), 5, "call {call}");
+    let kept = after_clients(alloc, given)?;
+    stage.check_disk(rt, "d/eve.log", &kept, call);
+    Ok(())
+}
+
+// A client who sends the asks, each byte by a call of its own of which one fails.
+fn failing_to_send(alloc: Global, call: u64) -> Result<Connection, AllocError> {
+    let plan = failing_at(alloc, call)?;
+    let bytes = ASKS.as_bytes().to_vec(alloc)?;
+    let source = MemorySource::with_plan(bytes, Pieces::UpTo(1), plan);
+    Ok(Connection::new(source, MemorySink::new(alloc)))
+}
+
+// A client who sends the asks and gets the answers, each byte by a call of its own of which one
+// fails.
+fn failing_to_get(alloc: Global, call: u64) -> Result<Connection, AllocError> {
+    let plan = failing_at(alloc, call)?;
+    let source = MemorySource::new(ASKS.as_bytes().to_vec(alloc)?);
+    let sink = MemorySink::with_plan(alloc, Pieces::UpTo(1), plan);
+    Ok(Connection::new(source, sink))
+}
+
+// Serves this client.
+fn served_to(
+    rt: &(impl Threads + Wait + Sync + Abort),
+    alloc: Global,
+    client: Connection,
+) -> Result<Stage, AllocError> {
+    let links = one_client(alloc, client)?;
+    let mut stage = ward_by(alloc, Plan::Never)?;
+    stage.set_links(links);
+    serve(rt, alloc, &["--workers=1"], &mut stage)?;
+    stage.check(rt, 0, "", "", "a client who fails");
+    Ok(stage)
 }
 
 // Each byte comes by a call of its own. The lines that came whole are answered, and what was
@@ -72,30 +110,20 @@ fn a_door_may_fail_at_any_call(rt: HostRuntime) -> Result<(), Fail> {
 fn a_client_may_fail_at_any_byte(rt: HostRuntime) -> Result<(), Fail> {
     let alloc = rt.alloc();
     for call in 0..CALLS {
-        let mut shelf = ward_by(alloc, Plan::Never)?;
-        let source = MemorySource::with_plan(
-            joined(alloc, &[ASKS])?,
-            Pieces::UpTo(1),
-            failing(alloc, call)?,
-        );
-        let client = Connection::new(source, MemorySink::new(alloc));
-        let mut links = one_client(alloc, client)?;
-        let run = serve(&rt, alloc, &["--workers=1"], &mut shelf, &mut links)?;
-        run.check(&rt, 0, "", "", "a client who fails");
-        let (answer, count) = match call {
-            0..14 => ("", 0),
-            14..28 => ("welcome\n", 0),
-            _ => ("welcome\nno\n", 1),
-        };
-        assert_eq!(rt; served(&rt, &links, &[(ASKS, answer)]), 1, "call {call}");
-        let kept = told(alloc, count)?;
-        assert_eq!(rt;
-            journal_bytes(&shelf, "d/eve.log"),
-            kept.as_slice(),
-            "call {call}"
-        );
+        let stage = served_to(&rt, alloc, failing_to_send(alloc, call)?)?;
+        check_sent(&rt, alloc, &stage, call)?;
     }
     Ok(())
+}
+
+fn check_sent(rt: &impl Abort, alloc: Global, stage: &Stage, call: u64) -> Result<(), AllocError> {
+    let (answer, count) = match call {
+        0..14 => ("", 0),
+        14..28 => ("welcome\n", 0),
+        _ => ("welcome\nno\n", 1),
+    };
+    check_served(rt, stage, ASKS, answer, call);
+    check_told(rt, alloc, stage, "d/eve.log", count, call)
 }
 
 // Each byte is written by a call of its own. The ask of the line that failed was carried out, and
@@ -104,27 +132,20 @@ fn a_client_may_fail_at_any_byte(rt: HostRuntime) -> Result<(), Fail> {
 fn an_answer_may_fail_at_any_byte(rt: HostRuntime) -> Result<(), Fail> {
     let alloc = rt.alloc();
     for call in 0..CALLS {
-        let mut shelf = ward_by(alloc, Plan::Never)?;
-        let source = MemorySource::new(joined(alloc, &[ASKS])?);
-        let sink = MemorySink::with_plan(alloc, Pieces::UpTo(1), failing(alloc, call)?);
-        let mut links = one_client(alloc, Connection::new(source, sink))?;
-        let run = serve(&rt, alloc, &["--workers=1"], &mut shelf, &mut links)?;
-        run.check(&rt, 0, "", "", "a client who fails");
-        let answer = ANSWERS.get(..call as usize).unwrap_or(ANSWERS);
-        assert_eq!(rt; served(&rt, &links, &[(ASKS, answer)]), 1, "call {call}");
-        let count = match call {
-            0..8 => 0,
-            8..11 => 1,
-            _ => 2,
-        };
-        let kept = told(alloc, count)?;
-        assert_eq!(rt;
-            journal_bytes(&shelf, "d/eve.log"),
-            kept.as_slice(),
-            "call {call}"
-        );
+        let stage = served_to(&rt, alloc, failing_to_get(alloc, call)?)?;
+        check_got(&rt, alloc, &stage, call)?;
     }
     Ok(())
+}
+
+fn check_got(rt: &impl Abort, alloc: Global, stage: &Stage, call: u64) -> Result<(), AllocError> {
+    check_served(rt, stage, ASKS, front(ANSWERS, call), call);
+    let count = match call {
+        0..8 => 0,
+        8..11 => 1,
+        _ => 2,
+    };
+    check_told(rt, alloc, stage, "d/eve.log", count, call)
 }
 
 // As in a batch: nine asks make forty calls of eve's disk.
@@ -133,26 +154,41 @@ fn a_served_disk_may_fail_at_any_call(rt: HostRuntime) -> Result<(), Fail> {
     let alloc = rt.alloc();
     let asks = lines(alloc, "login eve abc\n", 1, "ask drug(ann)\n", 10)?;
     for call in 0..CALLS {
-        let mut shelf = ward_by(alloc, Plan::Never)?;
-        let disk = MemoryDisk::with_plan(alloc, journal(alloc, &[0])?, failing(alloc, call)?)?;
-        shelf.put_disk(alloc, "d/eve.log", disk)?;
-        let mut links = MemoryLinks::new(alloc, clients(alloc, &[asks.as_str()])?);
-        let run = serve(&rt, alloc, &["--workers=1"], &mut shelf, &mut links)?;
-        let (status, error, complaint) = if call < OPENING {
-            (10, "error 41\n", "cqe: journal eve disk fault\n")
-        } else {
-            (11, "error 40\n", "cqe: disk fault\n")
-        };
-        run.check(&rt, status, "", complaint, complaint);
-        let replies = lines(alloc, "no\n", marks_before(call), error, 9)?;
-        let mut answer = String::from_str(alloc, "welcome\n")?;
-        answer.push_str(replies.as_str())?;
-        let rows = [(asks.as_str(), answer.as_str())];
-        assert_eq!(rt; served(&rt, &links, &rows), 1, "call {call}");
-        let kept = told(alloc, records_at(call))?;
-        let found = journal_bytes(&shelf, "d/eve.log").get(..kept.len());
-        assert_eq!(rt; found, Some(kept.as_slice()), "call {call}");
+        a_disk_fails(&rt, alloc, asks.as_str(), call)?;
     }
+    Ok(())
+}
+
+fn a_disk_fails(
+    rt: &(impl Threads + Wait + Sync + Abort),
+    alloc: Global,
+    asks: &str,
+    call: u64,
+) -> Result<(), AllocError> {
+    let mut stage = ward_failing(alloc, call)?;
+    stage.set_links(links_of(alloc, &[asks])?);
+    serve(rt, alloc, &["--workers=1"], &mut stage)?;
+    check_answer(rt, alloc, &stage, asks, call)?;
+    check_told_first(rt, alloc, &stage, "d/eve.log", records_at(call), call)
+}
+
+fn check_answer(
+    rt: &impl Abort,
+    alloc: Global,
+    stage: &Stage,
+    asks: &str,
+    call: u64,
+) -> Result<(), AllocError> {
+    let (status, error, complaint) = if call < OPENING {
+        (10, "error 41\n", "cqe: journal eve disk fault\n")
+    } else {
+        (11, "error 40\n", "cqe: disk fault\n")
+    };
+    stage.check(rt, status, "", complaint, complaint);
+    let replies = lines(alloc, "no\n", marks_before(call), error, 9)?;
+    let mut answer = String::from_str(alloc, "welcome\n")?;
+    answer.push_str(replies.as_str())?;
+    check_served(rt, stage, asks, answer.as_str(), call);
     Ok(())
 }
 
@@ -161,17 +197,25 @@ fn a_served_disk_may_fail_at_any_call(rt: HostRuntime) -> Result<(), Fail> {
 fn a_shelf_that_fails_serves_nobody(rt: HostRuntime) -> Result<(), Fail> {
     let alloc = rt.alloc();
     for call in 0..CALLS {
-        let mut shelf = ward_by(alloc, failing(alloc, call)?)?;
-        let mut links = MemoryLinks::new(alloc, clients(alloc, &["login eve abc\nask ann\n"])?);
-        let run = serve(&rt, alloc, &["--workers=1"], &mut shelf, &mut links)?;
-        if call < 8 {
-            run.check(&rt, 9, "", "cqe: shelf fault\n", "a shelf that fails");
-            assert_eq!(rt; links.left(), 1);
-        } else {
-            run.check(&rt, 0, "", "", "a shelf that doesn't fail");
-            assert_eq!(rt; links.left(), 0);
-        }
-        assert!(rt; are_empty(alloc, &shelf, &JOURNALS)?, "call {call}");
+        a_shelf_fails(&rt, alloc, call)?;
     }
     Ok(())
+}
+
+fn a_shelf_fails(
+    rt: &(impl Threads + Wait + Sync + Abort),
+    alloc: Global,
+    call: u64,
+) -> Result<(), AllocError> {
+    let mut stage = ward_by(alloc, failing_at(alloc, call)?)?;
+    stage.set_links(links_of(alloc, &["login eve abc\nask ann\n"])?);
+    serve(rt, alloc, &["--workers=1"], &mut stage)?;
+    if call < 8 {
+        stage.check(rt, 9, "", "cqe: shelf fault\n", "a shelf that fails");
+        assert_eq!(rt; stage.links.left(), 1);
+    } else {
+        stage.check(rt, 0, "", "", "a shelf that doesn't fail");
+        assert_eq!(rt; stage.links.left(), 0);
+    }
+    check_empty(rt, alloc, &stage, &JOURNALS, call)
 }

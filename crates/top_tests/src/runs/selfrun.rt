@@ -1,29 +1,38 @@
 //! Workloads that the program makes and runs itself.
-use super::Run;
-use super::failing::{CALLS, failing};
-use outside::{MemoryShelf, MemorySink, MemorySource, Pieces, Plan};
+use super::failing::CALLS;
+use super::{Stage, failing_sink};
+use outside::{MemorySink, Pieces, Plan};
 use std::alloc::{AllocError, Global};
+use std::process::Abort;
 use std::sync::Wait;
 use std::test::Fail;
 use std::thread::Threads;
 
 const WORDS: [&str; 7] = ["selfrun", "--seed", "7", "--users", "3", "--asks", "60"];
 
+// A workload of one ask.
+const SHORT: [&str; 7] = ["selfrun", "--seed", "7", "--users", "1", "--asks", "1"];
+
 fn selfrun(
     rt: &(impl Threads + Wait + Sync),
     alloc: Global,
     words: &[&str],
     sink: MemorySink,
-) -> Result<Run, AllocError> {
-    Run::new(
-        rt,
-        alloc,
-        words,
-        MemoryShelf::new(alloc),
-        MemorySource::new(Vec::new(alloc)),
-        sink,
-        MemorySink::new(alloc),
-    )
+) -> Result<Stage, AllocError> {
+    let mut stage = Stage::new(alloc, Plan::Never);
+    stage.run_into(rt, alloc, words, "", sink)?;
+    Ok(stage)
+}
+
+// What it writes where nothing fails.
+fn summary(
+    rt: &(impl Threads + Wait + Sync + Abort),
+    alloc: Global,
+    words: &[&str],
+) -> Result<Vec<u8>, AllocError> {
+    let stage = selfrun(rt, alloc, words, MemorySink::new(alloc))?;
+    assert_eq!(rt; stage.status, 0);
+    stage.sink.bytes().to_vec(alloc)
 }
 
 // The number behind the word of a line.
@@ -37,36 +46,38 @@ fn number_in(line: &str) -> u64 {
 #[test]
 fn the_replies_of_a_workload_are_counted(rt: HostRuntime) -> Result<(), Fail> {
     let alloc = rt.alloc();
-    let run = selfrun(&rt, alloc, &WORDS, MemorySink::new(alloc))?;
-    let again = selfrun(&rt, alloc, &WORDS, MemorySink::new(alloc))?;
-    assert_eq!(rt; run.status, 0);
-    assert_eq!(rt; run.sink.bytes(), again.sink.bytes());
-    let Ok(text) = str::from_utf8(run.sink.bytes()) else {
+    let found = summary(&rt, alloc, &WORDS)?;
+    let again = summary(&rt, alloc, &WORDS)?;
+    super::same(&rt, &found, &again, "the same workload");
+    let Ok(text) = str::from_utf8(&found) else {
         return Err(Fail::from(AllocError));
     };
+    check_summary(&rt, text);
+    Ok(())
+}
+
+fn check_summary(rt: &impl Abort, text: &str) {
     assert!(rt; text.starts_with("seed 7\nusers 3\nasks 60\nyes "));
     assert!(rt; text.ends_with("\nerrors 0\n"));
-    // the four marks
+    assert_eq!(rt; marks_in(text), 60);
+}
+
+// How many of the four marks were given.
+fn marks_in(text: &str) -> u64 {
     let mut sum: u64 = 0;
     for line in text.lines().skip(3).take(4) {
         sum = sum.saturating_add(number_in(line));
     }
-    assert_eq!(rt; sum, 60);
-    Ok(())
+    sum
 }
 
 #[test]
 fn a_summary_may_be_cut(rt: HostRuntime) -> Result<(), Fail> {
     let alloc = rt.alloc();
     let sink = MemorySink::with_plan(alloc, Pieces::Whole, Plan::From(2));
-    let run = selfrun(&rt, alloc, &WORDS, sink)?;
-    run.check(
-        &rt,
-        7,
-        "seed 7\nusers 3\n",
-        "cqe: write fault\n",
-        "a sink that fails at its third call",
-    );
+    let stage = selfrun(&rt, alloc, &WORDS, sink)?;
+    let what = "a sink that fails at its third call";
+    stage.check(&rt, 7, "seed 7\nusers 3\n", "cqe: write fault\n", what);
     Ok(())
 }
 
@@ -75,17 +86,34 @@ fn a_summary_may_be_cut(rt: HostRuntime) -> Result<(), Fail> {
 #[test]
 fn a_summary_may_be_cut_at_any_call(rt: HostRuntime) -> Result<(), Fail> {
     let alloc = rt.alloc();
-    let words = ["selfrun", "--seed", "7", "--users", "1", "--asks", "1"];
-    let whole = selfrun(&rt, alloc, &words, MemorySink::new(alloc))?;
-    assert_eq!(rt; whole.status, 0);
-    assert!(rt; whole.sink.bytes().len() > 40);
+    let whole = summary(&rt, alloc, &SHORT)?;
+    assert!(rt; whole.len() > 40);
     for call in 0..CALLS {
-        let sink = MemorySink::with_plan(alloc, Pieces::UpTo(1), failing(alloc, call)?);
-        let run = selfrun(&rt, alloc, &words, sink)?;
-        assert_eq!(rt; run.status, 7);
-        assert_eq!(rt; run.complaints.bytes(), b"cqe: write fault\n".as_slice());
-        let part = whole.sink.bytes().get(..call as usize);
-        assert_eq!(rt; Some(run.sink.bytes()), part, "call {call}");
+        a_write_fails(&rt, alloc, &whole, call)?;
     }
     Ok(())
+}
+
+fn a_write_fails(
+    rt: &(impl Threads + Wait + Sync + Abort),
+    alloc: Global,
+    whole: &[u8],
+    call: u64,
+) -> Result<(), AllocError> {
+    let sink = failing_sink(alloc, call)?;
+    let stage = selfrun(rt, alloc, &SHORT, sink)?;
+    check_cut(rt, &stage, whole, call);
+    Ok(())
+}
+
+fn check_cut(rt: &impl Abort, stage: &Stage, whole: &[u8], call: u64) {
+    assert_eq!(rt; stage.status, 7);
+    super::same(
+        rt,
+        stage.complaints.bytes(),
+        b"cqe: write fault\n",
+        "a write failed",
+    );
+    let part = whole.get(..call as usize);
+    assert_eq!(rt; Some(stage.sink.bytes()), part, "call {call}");
 }

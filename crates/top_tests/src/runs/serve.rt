@@ -1,14 +1,8 @@
 //! Servers over links in memory.
-ghost use Rattle.std.specs.Prelude.{◌≡◌, List, ℕ, false};
-ghost use Rattle.outside.specs.MemoryShelves.{is_disk_out};
-
-use super::ward::{
-    FACTS, JOURNALS, POLICY, init, journal, journal_bytes, put_journal, shelf_of, ward,
-};
-use super::{Run, joined, run_linked};
+use super::ward::{FACTS, JOURNALS, POLICY, files_by, init, journal, stage_of, ward, ward_of_eve};
+use super::{Fails, Stage, failing_at, same};
 use outside::{
-    Connection, Gate, MemoryDisk, MemoryLinks, MemoryShelf, MemorySink, MemorySource, OpenGate,
-    Plan, Point,
+    Connection, Finished, Gate, MemoryLinks, MemorySink, MemorySource, OpenGate, Plan, Point,
 };
 use std::alloc::{AllocError, Global};
 use std::process::Abort;
@@ -37,20 +31,14 @@ fn serve_by(
     rt: &(impl Threads + Wait + Sync),
     alloc: Global,
     numbers: &[&'static str],
-    shelf: &mut MemoryShelf,
-    links: &mut MemoryLinks,
+    stage: &mut Stage,
     gate: &(impl Gate + Sync),
-) -> Result<Run, AllocError>
-    requires { (name : List ℕ) → is_disk_out shelf.old name ≡ false }
-    ensures { (name : List ℕ) → is_disk_out shelf.new name ≡ false }
-{
-    let source = MemorySource::new(joined(alloc, &["not read"])?);
-    let (sink, complaints) = (MemorySink::new(alloc), MemorySink::new(alloc));
+) -> Result<(), AllocError> {
     let mut words = SERVE.to_vec(alloc)?;
     words.extend_from_slice(numbers)?;
-    run_linked(
-        rt, alloc, &words, shelf, source, sink, complaints, links, gate,
-    )
+    let source = MemorySource::new(b"not read".to_vec(alloc)?);
+    stage.set_streams(source, MemorySink::new(alloc), MemorySink::new(alloc));
+    stage.run_gated(rt, alloc, &words, gate)
 }
 
 /// `serve` with these further words on this shelf; each ask passes at once.
@@ -58,39 +46,73 @@ pub(super) fn serve(
     rt: &(impl Threads + Wait + Sync),
     alloc: Global,
     numbers: &[&'static str],
-    shelf: &mut MemoryShelf,
-    links: &mut MemoryLinks,
-) -> Result<Run, AllocError>
-    requires { (name : List ℕ) → is_disk_out shelf.old name ≡ false }
-    ensures { (name : List ℕ) → is_disk_out shelf.new name ≡ false }
-{
-    serve_by(rt, alloc, numbers, shelf, links, &OpenGate)
+    stage: &mut Stage,
+) -> Result<(), AllocError> {
+    serve_by(rt, alloc, numbers, stage, &OpenGate)
 }
 
-/// Clients who send these texts.
-pub(super) fn clients(alloc: Global, texts: &[&str]) -> Result<Vec<Connection>, AllocError> {
+// A client who sends this text.
+fn client_of(alloc: Global, text: &str) -> Result<Connection, AllocError> {
+    let source = MemorySource::new(text.as_bytes().to_vec(alloc)?);
+    Ok(Connection::new(source, MemorySink::new(alloc)))
+}
+
+// Clients who send these texts.
+fn clients(alloc: Global, texts: &[&str]) -> Result<Vec<Connection>, AllocError> {
     let mut clients = Vec::new(alloc);
     for text in texts {
-        let source = MemorySource::new(joined(alloc, &[text])?);
-        clients.push(Connection::new(source, MemorySink::new(alloc)))?;
+        clients.push(client_of(alloc, text)?)?;
     }
     Ok(clients)
 }
 
+/// Links with clients who send these texts.
+pub(super) fn links_of(alloc: Global, texts: &[&str]) -> Result<MemoryLinks, AllocError> {
+    let clients = clients(alloc, texts)?;
+    Ok(MemoryLinks::new(alloc, clients))
+}
+
+/// Links with one client.
+pub(super) fn one_client(alloc: Global, client: Connection) -> Result<MemoryLinks, AllocError> {
+    let mut connections = Vec::new(alloc);
+    connections.push(client)?;
+    Ok(MemoryLinks::new(alloc, connections))
+}
+
 /// How many clients were served; each who sent the text of a row has got its answer.
-pub(super) fn served(rt: &impl Abort, links: &MemoryLinks, rows: &[(&str, &str)]) -> usize {
+pub(super) fn served(rt: &impl Abort, stage: &Stage, rows: &[(&str, &str)]) -> usize {
     let mut count: usize = 0;
-    for door in links.doors_back() {
-        for client in door.finished() {
-            for (text, answer) in rows {
-                if text.as_bytes() == client.source.held() {
-                    assert_eq!(rt; client.sink.bytes(), answer.as_bytes(), "{text}");
-                    count = count.saturating_add(1);
-                }
-            }
+    for door in stage.links.doors_back() {
+        count = count.saturating_add(served_at(rt, door.finished(), rows));
+    }
+    count
+}
+
+// The same of the clients of one door.
+fn served_at(rt: &impl Abort, clients: &[Finished], rows: &[(&str, &str)]) -> usize {
+    let mut count: usize = 0;
+    for client in clients {
+        count = count.saturating_add(rows_of(rt, client, rows));
+    }
+    count
+}
+
+// How many rows have the text that a client sent.
+fn rows_of(rt: &impl Abort, client: &Finished, rows: &[(&str, &str)]) -> usize {
+    let mut count: usize = 0;
+    for (text, answer) in rows {
+        if text.as_bytes() == client.source.held() {
+            same(rt, client.sink.bytes(), answer.as_bytes(), text);
+            count = count.saturating_add(1);
         }
     }
     count
+}
+
+/// One client was served, who sent this text and got this answer, where this call failed.
+pub(super) fn check_served(rt: &impl Abort, stage: &Stage, text: &str, answer: &str, call: u64) {
+    let count = served(rt, stage, &[(text, answer)]);
+    assert_eq!(rt; count, 1, "{answer}, call {call}");
 }
 
 /// What clients of the ward send, in any order, and what they get: eve is told no of what is true
@@ -112,18 +134,20 @@ pub(super) const CLIENTS: [(&str, &str); 5] = [
     ("", ""),
 ];
 
-/// These clients, in this order.
-pub(super) fn ward_clients(alloc: Global) -> Result<Vec<Connection>, AllocError> {
-    clients(
-        alloc,
-        &[
-            CLIENTS[0].0,
-            CLIENTS[1].0,
-            CLIENTS[2].0,
-            CLIENTS[3].0,
-            CLIENTS[4].0,
-        ],
-    )
+/// Links with these clients, in this order, which fail by plan, as their doors do.
+fn ward_links(alloc: Global, plan: Plan, door_plans: Vec<Plan>) -> Result<MemoryLinks, AllocError> {
+    let mut clients = Vec::new(alloc);
+    for (text, _) in CLIENTS {
+        clients.push(client_of(alloc, text)?)?;
+    }
+    Ok(MemoryLinks::with_plans(alloc, clients, plan, door_plans))
+}
+
+/// The same, where the first door fails by plan.
+pub(super) fn door_links(alloc: Global, plan: Plan) -> Result<MemoryLinks, AllocError> {
+    let mut door_plans = Vec::new(alloc);
+    door_plans.push(plan)?;
+    ward_links(alloc, Plan::Never, door_plans)
 }
 
 // Words about workers and sessions, and how many doors they open.
@@ -138,37 +162,41 @@ const NUMBERS: [(&[&str], u32); 4] = [
 fn each_worker_has_a_door(rt: HostRuntime) -> Result<(), Fail> {
     let alloc = rt.alloc();
     for (numbers, doors) in NUMBERS {
-        let mut shelf = ward(&rt, alloc)?;
-        let mut links = MemoryLinks::new(alloc, Vec::new(alloc));
-        let run = serve(&rt, alloc, numbers, &mut shelf, &mut links)?;
-        run.check(&rt, 0, "", "", "no client");
-        assert_eq!(rt; links.faults(), 0);
-        assert_eq!(rt; links.listened().len(), 1);
-        for place in links.listened() {
-            assert_eq!(rt; place.address.as_str(), "here");
-            assert_eq!(rt; place.doors, doors);
-        }
+        let mut stage = ward(&rt, alloc)?;
+        serve(&rt, alloc, numbers, &mut stage)?;
+        stage.check(&rt, 0, "", "", "no client");
+        check_listened(&rt, &stage, doors);
     }
     Ok(())
+}
+
+// It listened once, with so many doors.
+fn check_listened(rt: &impl Abort, stage: &Stage, doors: u32) {
+    assert_eq!(rt; stage.links.faults(), 0);
+    assert_eq!(rt; stage.links.listened().len(), 1);
+    for place in stage.links.listened() {
+        assert_eq!(rt; place.address.as_str(), "here");
+        assert_eq!(rt; place.doors, doors);
+    }
 }
 
 #[test]
 fn nobody_listens(rt: HostRuntime) -> Result<(), Fail> {
     let alloc = rt.alloc();
-    let mut shelf = shelf_of(alloc, POLICY.as_bytes(), FACTS.as_bytes())?;
-    let mut links = MemoryLinks::with_plans(
-        alloc,
-        ward_clients(alloc)?,
-        Plan::From(0),
-        Vec::new(alloc),
-    );
-    let run = serve(&rt, alloc, &[], &mut shelf, &mut links)?;
-    run.check(&rt, 12, "", "cqe: links fault\n", "links that fail");
-    assert_eq!(rt; links.left(), 5);
-    for name in JOURNALS {
-        assert!(rt; shelf.disk(name).is_none(), "{name}");
-    }
+    let mut stage = files_by(alloc, Plan::Never)?;
+    stage.set_links(ward_links(alloc, Plan::From(0), Vec::new(alloc))?);
+    serve(&rt, alloc, &[], &mut stage)?;
+    stage.check(&rt, 12, "", "cqe: links fault\n", "links that fail");
+    check_untouched(&rt, &stage);
     Ok(())
+}
+
+// No client came, and no journal was taken.
+fn check_untouched(rt: &impl Abort, stage: &Stage) {
+    assert_eq!(rt; stage.links.left(), 5);
+    for name in JOURNALS {
+        assert!(rt; !stage.has_disk(name), "{name}");
+    }
 }
 
 // One worker's door fails at its second call: what was served by then is answered, and the disks
@@ -176,106 +204,145 @@ fn nobody_listens(rt: HostRuntime) -> Result<(), Fail> {
 #[test]
 fn a_door_fails(rt: HostRuntime) -> Result<(), Fail> {
     let alloc = rt.alloc();
-    let mut shelf = ward(&rt, alloc)?;
-    let mut plans = Vec::new(alloc);
-    plans.push(Plan::From(1))?;
-    let mut links = MemoryLinks::with_plans(alloc, ward_clients(alloc)?, Plan::Never, plans);
-    let run = serve(&rt, alloc, &["--workers=1"], &mut shelf, &mut links)?;
-    run.check(&rt, 12, "", "cqe: links fault\n", "a door that fails");
-    assert_eq!(rt; served(&rt, &links, &CLIENTS), 1);
-    assert_eq!(rt; links.left(), 4);
-    let want = journal(
+    let mut stage = ward(&rt, alloc)?;
+    stage.set_links(door_links(alloc, Plan::From(1))?);
+    serve(&rt, alloc, &["--workers=1"], &mut stage)?;
+    stage.check(&rt, 12, "", "cqe: links fault\n", "a door that fails");
+    check_one_visit(&rt, alloc, &stage)?;
+    Ok(())
+}
+
+// The first client alone came.
+fn check_one_visit(rt: &impl Abort, alloc: Global, stage: &Stage) -> Result<(), AllocError> {
+    assert_eq!(rt; served(rt, stage, &CLIENTS), 1);
+    assert_eq!(rt; stage.links.left(), 4);
+    let wanted = journal(
         alloc,
         b"\x01\x02\x00\x09drug(ann)\x01\x02\x00\x08hiv(bob)\x00",
     )?;
-    assert_eq!(rt; journal_bytes(&shelf, "d/eve.log"), want.as_slice());
+    stage.check_disk(rt, "d/eve.log", &wanted, 1);
     Ok(())
 }
+
+// A call of the shelf that fails, whether the links listen, the status and the complaint. The calls
+// are the reading of both files, and then the taking of six disks.
+const CAUSES: [(u64, bool, u8, &str); 5] = [
+    (0, false, 9, "cqe: shelf fault\n"),
+    (1, false, 9, "cqe: shelf fault\n"),
+    (2, false, 12, "cqe: links fault\n"),
+    (2, true, 9, "cqe: shelf fault\n"),
+    (7, true, 9, "cqe: shelf fault\n"),
+];
+
+// The one file that there is, by its name and text, the status and the complaint.
+const FILES: [(&str, &str, u8, &str); 3] = [
+    ("other", POLICY, 8, "cqe: missing p\n"),
+    ("p", POLICY, 8, "cqe: missing f\n"),
+    ("p", "version = 3", 3, "cqe: policy 9\n"),
+];
 
 // Files, then listening, then the journals, then the run, and at its end the journals that were
 // refused.
 #[test]
 fn causes_come_in_their_order(rt: HostRuntime) -> Result<(), Fail> {
     let alloc = rt.alloc();
-    // the shelf's calls are the reading of both files, and then the taking of six disks
-    for (call, listens, status, complaint) in [
-        (0, false, 9, "cqe: shelf fault\n"),
-        (1, false, 9, "cqe: shelf fault\n"),
-        (2, false, 12, "cqe: links fault\n"),
-        (2, true, 9, "cqe: shelf fault\n"),
-        (7, true, 9, "cqe: shelf fault\n"),
-    ] {
-        let mut shelf = MemoryShelf::with_plan(alloc, Plan::At(vec![in alloc; call]?));
-        shelf.put(alloc, "p", POLICY.as_bytes())?;
-        shelf.put(alloc, "f", FACTS.as_bytes())?;
+    for (call, listens, status, complaint) in CAUSES {
         let plan = if listens { Plan::Never } else { Plan::From(0) };
-        let mut links = MemoryLinks::with_plans(alloc, ward_clients(alloc)?, plan, Vec::new(alloc));
-        let run = serve(&rt, alloc, &[], &mut shelf, &mut links)?;
-        run.check(&rt, status, "", complaint, complaint);
-        assert_eq!(rt; links.left(), 5);
+        a_shelf_fails(&rt, alloc, call, plan, status, complaint)?;
     }
-    for (put, bytes, status, complaint) in [
-        ("other", POLICY, 8, "cqe: missing p\n"),
-        ("p", POLICY, 8, "cqe: missing f\n"),
-        ("p", "version = 3", 3, "cqe: policy 9\n"),
-    ] {
-        let mut shelf = MemoryShelf::new(alloc);
-        shelf.put(alloc, put, bytes.as_bytes())?;
-        let mut links = MemoryLinks::with_plans(
-            alloc,
-            Vec::new(alloc),
-            Plan::From(0),
-            Vec::new(alloc),
-        );
-        let run = serve(&rt, alloc, &[], &mut shelf, &mut links)?;
-        run.check(&rt, status, "", complaint, complaint);
+    for (name, text, status, complaint) in FILES {
+        a_file_is_refused(&rt, alloc, name, text, status, complaint)?;
     }
     Ok(())
 }
 
-// A disk that fails is told to its user alone, and a refused journal is the end before it. The rows
-// of its table make it long.
+fn a_shelf_fails(
+    rt: &(impl Threads + Wait + Sync + Abort),
+    alloc: Global,
+    call: u64,
+    links: Plan,
+    status: u8,
+    complaint: &str,
+) -> Result<(), AllocError> {
+    let links = ward_links(alloc, links, Vec::new(alloc))?;
+    let mut stage = files_by(alloc, failing_at(alloc, call)?)?;
+    stage.set_links(links);
+    serve(rt, alloc, &[], &mut stage)?;
+    stage.check(rt, status, "", complaint, complaint);
+    assert_eq!(rt; stage.links.left(), 5);
+    Ok(())
+}
+
+fn a_file_is_refused(
+    rt: &(impl Threads + Wait + Sync + Abort),
+    alloc: Global,
+    name: &str,
+    text: &str,
+    status: u8,
+    complaint: &str,
+) -> Result<(), AllocError> {
+    let mut stage = Stage::new(alloc, Plan::Never);
+    stage.put_file(alloc, name, text.as_bytes())?;
+    let clients = Vec::new(alloc);
+    stage.set_links(MemoryLinks::with_plans(alloc, clients, Plan::From(0), Vec::new(alloc)));
+    serve(rt, alloc, &[], &mut stage)?;
+    stage.check(rt, status, "", complaint, complaint);
+    Ok(())
+}
+
+// What eve asks in the rows below.
+const ASKS: &str = "login eve abc\nask drug(ann)\nask hiv(bob)\n";
+
+// Which calls of eve's disk fail, whether ron's journal is whole, the status, eve's answer and the
+// complaint.
+const JOURNAL_FAULTS: [(Fails, bool, u8, &str, &str); 4] = [
+    (
+        Fails::At(5),
+        true,
+        11,
+        "welcome\nerror 40\nerror 40\n",
+        "cqe: disk fault\n",
+    ),
+    (
+        Fails::At(5),
+        false,
+        10,
+        "welcome\nerror 40\nerror 40\n",
+        "cqe: journal ron not a journal\n",
+    ),
+    (
+        Fails::At(0),
+        true,
+        10,
+        "welcome\nerror 41\nerror 41\n",
+        "cqe: journal eve disk fault\n",
+    ),
+    (Fails::From(12), true, 0, "welcome\nno\nno\n", ""),
+];
+
+// A disk that fails is told to its user alone, and a refused journal is the end before it.
 #[test]
 fn a_journal_is_refused_or_fails(rt: HostRuntime) -> Result<(), Fail> {
     let alloc = rt.alloc();
-    let asks = "login eve abc\nask drug(ann)\nask hiv(bob)\n";
-    let rows: [(Plan, bool, u8, &str, &str); 4] = [
-        (
-            Plan::At(vec![in alloc; 5]?),
-            true,
-            11,
-            "welcome\nerror 40\nerror 40\n",
-            "cqe: disk fault\n",
-        ),
-        (
-            Plan::At(vec![in alloc; 5]?),
-            false,
-            10,
-            "welcome\nerror 40\nerror 40\n",
-            "cqe: journal ron not a journal\n",
-        ),
-        (
-            Plan::At(vec![in alloc; 0]?),
-            true,
-            10,
-            "welcome\nerror 41\nerror 41\n",
-            "cqe: journal eve disk fault\n",
-        ),
-        (Plan::From(12), true, 0, "welcome\nno\nno\n", ""),
-    ];
-    for (plan, is_whole, status, answer, complaint) in rows {
-        let mut shelf = ward(&rt, alloc)?;
-        let disk = MemoryDisk::with_plan(alloc, journal(alloc, &[0])?, plan)?;
-        shelf.put_disk(alloc, "d/eve.log", disk)?;
+    for (fails, is_whole, status, answer, complaint) in JOURNAL_FAULTS {
+        let mut stage = ward_of_eve(&rt, alloc, fails.plan(alloc)?)?;
         if !is_whole {
-            put_journal(alloc, &mut shelf, "d/ron.log", joined(alloc, &["abc"])?)?;
+            stage.put_disk(alloc, "d/ron.log", b"abc".to_vec(alloc)?, Plan::Never)?;
         }
-        let mut links = MemoryLinks::new(alloc, clients(alloc, &[asks])?);
-        let run = serve(&rt, alloc, &[], &mut shelf, &mut links)?;
-        run.check(&rt, status, "", complaint, complaint);
-        assert_eq!(rt; served(&rt, &links, &[(asks, answer)]), 1, "{answer}");
+        serve_eve(&rt, alloc, &mut stage)?;
+        stage.check(&rt, status, "", complaint, complaint);
+        check_served(&rt, &stage, ASKS, answer, 0);
     }
     Ok(())
+}
+
+fn serve_eve(
+    rt: &(impl Threads + Wait + Sync),
+    alloc: Global,
+    stage: &mut Stage,
+) -> Result<(), AllocError> {
+    stage.set_links(links_of(alloc, &[ASKS])?);
+    serve(rt, alloc, &[], stage)
 }
 
 // Behind an append that failed each later session of the user is answered so too, although the disk
@@ -284,13 +351,11 @@ fn a_journal_is_refused_or_fails(rt: HostRuntime) -> Result<(), Fail> {
 fn a_failed_append_is_told_in_later_sessions_too(rt: HostRuntime) -> Result<(), Fail> {
     let alloc = rt.alloc();
     let asks = "login eve abc\nask drug(ann)\n";
-    let mut shelf = ward(&rt, alloc)?;
-    let disk = MemoryDisk::with_plan(alloc, journal(alloc, &[0])?, Plan::At(vec![in alloc; 5]?))?;
-    shelf.put_disk(alloc, "d/eve.log", disk)?;
-    let mut links = MemoryLinks::new(alloc, clients(alloc, &[asks, asks, asks])?);
-    let run = serve(&rt, alloc, &["--workers", "1"], &mut shelf, &mut links)?;
-    run.check(&rt, 11, "", "cqe: disk fault\n", "three sessions");
-    assert_eq!(rt; served(&rt, &links, &[(asks, "welcome\nerror 40\n")]), 3);
+    let mut stage = ward_of_eve(&rt, alloc, failing_at(alloc, 5)?)?;
+    stage.set_links(links_of(alloc, &[asks, asks, asks])?);
+    serve(&rt, alloc, &["--workers", "1"], &mut stage)?;
+    stage.check(&rt, 11, "", "cqe: disk fault\n", "three sessions");
+    assert_eq!(rt; served(&rt, &stage, &[(asks, "welcome\nerror 40\n")]), 3);
     Ok(())
 }
 
@@ -347,23 +412,32 @@ fn was_set(mark: &AtomicU64) -> bool {
     false
 }
 
+// What each of them sends and gets.
+const TWO_CLIENTS: [(&str, &str); 2] = [
+    ("login eve abc\nask drug(ann)\n", "welcome\nno\n"),
+    ("login kim abc\nask drug(ann)\n", "welcome\nyes\n"),
+];
+
+// A shelf with these two and journals, and links with a client of each.
+fn two_users(rt: &(impl Threads + Wait + Sync), alloc: Global) -> Result<Stage, AllocError> {
+    let mut stage = stage_of(alloc, TWO.as_bytes(), FACTS.as_bytes())?;
+    init(rt, alloc, &mut stage)?;
+    let links = links_of(alloc, &[TWO_CLIENTS[0].0, TWO_CLIENTS[1].0])?;
+    stage.set_links(links);
+    Ok(stage)
+}
+
 #[test]
 fn users_are_served_side_by_side(rt: HostRuntime) -> Result<(), Fail> {
     let alloc = rt.alloc();
-    let mut shelf = shelf_of(alloc, TWO.as_bytes(), FACTS.as_bytes())?;
-    let _made = init(&rt, alloc, &mut shelf)?;
-    let rows = [
-        ("login eve abc\nask drug(ann)\n", "welcome\nno\n"),
-        ("login kim abc\nask drug(ann)\n", "welcome\nyes\n"),
-    ];
-    let mut links = MemoryLinks::new(alloc, clients(alloc, &[rows[0].0, rows[1].0])?);
+    let mut stage = two_users(&rt, alloc)?;
     let hold = Hold {
         settled: AtomicU64::new(0),
         given_up: AtomicU64::new(0),
     };
-    let run = serve_by(&rt, alloc, &["--workers=2"], &mut shelf, &mut links, &hold)?;
-    run.check(&rt, 0, "", "", "two users");
-    assert_eq!(rt; served(&rt, &links, &rows), 2);
+    serve_by(&rt, alloc, &["--workers=2"], &mut stage, &hold)?;
+    stage.check(&rt, 0, "", "", "two users");
+    assert_eq!(rt; served(&rt, &stage, &TWO_CLIENTS), 2);
     assert_eq!(rt; hold.given_up.load(SeqCst), 0);
     Ok(())
 }

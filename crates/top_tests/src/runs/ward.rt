@@ -1,10 +1,8 @@
 //! The ward: a policy of six users, facts, and a shelf with both; and the commands over it.
-ghost use Rattle.std.specs.Prelude.{◌≡◌, List, ℕ, false, IfOk};
-ghost use Rattle.outside.specs.MemoryShelves.{is_disk_out};
-
-use super::{Run, joined, run_over};
-use outside::{MemoryDisk, MemoryShelf, MemorySink, MemorySource};
+use super::Stage;
+use outside::Plan;
 use std::alloc::{AllocError, Global};
+use std::process::Abort;
 use std::sync::Wait;
 use std::thread::Threads;
 
@@ -63,10 +61,22 @@ const FACTS_DIGEST: [u8; 32] = [
     181, 196, 185, 119, 95, 82, 137, 92, 253, 226, 5,
 ];
 
-/// The words of `init` and of `batch`.
+/// The words of `init`, of `batch` and of eve's `audit`.
 pub(super) const INIT: [&str; 7] = ["init", "--policy", "p", "--facts", "f", "--journals", "d"];
 
 pub(super) const BATCH: [&str; 7] = ["batch", "--policy", "p", "--facts", "f", "--journals", "d"];
+
+pub(super) const AUDIT: [&str; 9] = [
+    "audit",
+    "--policy",
+    "p",
+    "--facts",
+    "f",
+    "--journals",
+    "d",
+    "--user",
+    "eve",
+];
 
 /// The journals of the six users, in the order of the policy.
 pub(super) const JOURNALS: [&str; 6] = [
@@ -79,87 +89,78 @@ pub(super) const JOURNALS: [&str; 6] = [
 ];
 
 /// A shelf with these two files.
-pub(super) fn shelf_of(
-    alloc: Global,
-    policy: &[u8],
-    facts: &[u8],
-) -> Result<MemoryShelf, AllocError>
-    ensures { IfOk result (λ shelf. (name : List ℕ) → is_disk_out shelf name ≡ false) }
-{
-    let mut shelf = MemoryShelf::new(alloc);
-    shelf.put(alloc, "p", policy)?;
-    shelf.put(alloc, "f", facts)?;
-    Ok(shelf)
+pub(super) fn stage_of(alloc: Global, policy: &[u8], facts: &[u8]) -> Result<Stage, AllocError> {
+    let mut stage = Stage::new(alloc, Plan::Never);
+    stage.put_file(alloc, "p", policy)?;
+    stage.put_file(alloc, "f", facts)?;
+    Ok(stage)
 }
 
-/// A shelf with the ward's files, and empty journals.
-pub(super) fn ward(
+/// A shelf with the ward's files, whose calls fail by plan.
+pub(super) fn files_by(alloc: Global, plan: Plan) -> Result<Stage, AllocError> {
+    let mut stage = Stage::new(alloc, plan);
+    stage.put_file(alloc, "p", POLICY.as_bytes())?;
+    stage.put_file(alloc, "f", FACTS.as_bytes())?;
+    Ok(stage)
+}
+
+/// A shelf with the ward's files, and journals that `init` made.
+pub(super) fn ward(rt: &(impl Threads + Wait + Sync), alloc: Global) -> Result<Stage, AllocError> {
+    let mut stage = files_by(alloc, Plan::Never)?;
+    init(rt, alloc, &mut stage)?;
+    Ok(stage)
+}
+
+/// The same, but for an empty journal of eve's whose calls fail by plan.
+pub(super) fn ward_of_eve(
     rt: &(impl Threads + Wait + Sync),
     alloc: Global,
-) -> Result<MemoryShelf, AllocError>
-    ensures { IfOk result (λ shelf. (name : List ℕ) → is_disk_out shelf name ≡ false) }
-{
-    let mut shelf = shelf_of(alloc, POLICY.as_bytes(), FACTS.as_bytes())?;
-    let _run = init(rt, alloc, &mut shelf)?;
-    Ok(shelf)
+    plan: Plan,
+) -> Result<Stage, AllocError> {
+    let mut stage = ward(rt, alloc)?;
+    stage.put_disk(alloc, "d/eve.log", journal(alloc, &[0])?, plan)?;
+    Ok(stage)
+}
+
+/// A shelf with the ward's files and empty journals, whose calls fail by plan.
+pub(super) fn ward_by(alloc: Global, plan: Plan) -> Result<Stage, AllocError> {
+    let mut stage = files_by(alloc, plan)?;
+    for name in JOURNALS {
+        stage.put_disk(alloc, name, journal(alloc, &[0])?, Plan::Never)?;
+    }
+    Ok(stage)
+}
+
+/// A shelf with the ward's files and empty journals, where that of this name is a disk with these
+/// bytes, whose calls fail by plan.
+pub(super) fn ward_with(
+    alloc: Global,
+    name: &str,
+    bytes: Vec<u8>,
+    plan: Plan,
+) -> Result<Stage, AllocError> {
+    let mut stage = ward_by(alloc, Plan::Never)?;
+    stage.put_disk(alloc, name, bytes, plan)?;
+    Ok(stage)
 }
 
 /// `init` on this shelf.
 pub(super) fn init(
     rt: &(impl Threads + Wait + Sync),
     alloc: Global,
-    shelf: &mut MemoryShelf,
-) -> Result<Run, AllocError>
-    requires { (name : List ℕ) → is_disk_out shelf.old name ≡ false }
-    ensures { (name : List ℕ) → is_disk_out shelf.new name ≡ false }
-{
-    let source = MemorySource::new(joined(alloc, &["not read"])?);
-    let (sink, complaints) = (MemorySink::new(alloc), MemorySink::new(alloc));
-    run_over(rt, alloc, &INIT, shelf, source, sink, complaints)
+    stage: &mut Stage,
+) -> Result<(), AllocError> {
+    stage.run(rt, alloc, &INIT, "not read")
 }
 
 /// `batch` of this script on this shelf.
 pub(super) fn batch(
     rt: &(impl Threads + Wait + Sync),
     alloc: Global,
-    shelf: &mut MemoryShelf,
+    stage: &mut Stage,
     script: &str,
-) -> Result<Run, AllocError>
-    requires { (name : List ℕ) → is_disk_out shelf.old name ≡ false }
-    ensures { (name : List ℕ) → is_disk_out shelf.new name ≡ false }
-{
-    let source = MemorySource::new(joined(alloc, &[script])?);
-    let (sink, complaints) = (MemorySink::new(alloc), MemorySink::new(alloc));
-    run_over(rt, alloc, &BATCH, shelf, source, sink, complaints)
-}
-
-/// `audit` of this user on this shelf, as text or in JSON.
-pub(super) fn audit(
-    rt: &(impl Threads + Wait + Sync),
-    alloc: Global,
-    shelf: &mut MemoryShelf,
-    user: &str,
-    json: bool,
-) -> Result<Run, AllocError>
-    requires { (name : List ℕ) → is_disk_out shelf.old name ≡ false }
-    ensures { (name : List ℕ) → is_disk_out shelf.new name ≡ false }
-{
-    let source = MemorySource::new(joined(alloc, &["not read"])?);
-    let (sink, complaints) = (MemorySink::new(alloc), MemorySink::new(alloc));
-    let words = [
-        "audit",
-        "--policy",
-        "p",
-        "--facts",
-        "f",
-        "--journals",
-        "d",
-        "--user",
-        user,
-        "--json",
-    ];
-    let count = if json { 10 } else { 9 };
-    run_over(rt, alloc, &words[..count], shelf, source, sink, complaints)
+) -> Result<(), AllocError> {
+    stage.run(rt, alloc, &BATCH, script)
 }
 
 /// A journal of the ward: the header, and from byte 72 on these bytes.
@@ -172,24 +173,55 @@ pub(super) fn journal(alloc: Global, behind: &[u8]) -> Result<Vec<u8>, AllocErro
     Ok(bytes)
 }
 
-/// Puts a disk with these bytes, which never fails, in the place of a journal.
-pub(super) fn put_journal(
-    alloc: Global,
-    shelf: &mut MemoryShelf,
-    name: &str,
-    bytes: Vec<u8>,
-) -> Result<(), AllocError>
-    requires { (name : List ℕ) → is_disk_out shelf.old name ≡ false }
-    ensures { (name : List ℕ) → is_disk_out shelf.new name ≡ false }
-{
-    let disk = MemoryDisk::new(alloc, bytes)?;
-    shelf.put_disk(alloc, name, disk)
+/// A journal with so many records of an ask `drug(ann)` of eve's, which is answered no.
+pub(super) fn told(alloc: Global, count: u64) -> Result<Vec<u8>, AllocError> {
+    let mut bytes = journal(alloc, &[])?;
+    for _ in 0..count {
+        bytes.extend_from_slice(b"\x01\x02\x00\x09drug(ann)")?;
+    }
+    bytes.push(0)?;
+    Ok(bytes)
 }
 
-/// The bytes that a journal reads; none where there is no disk.
-pub(super) fn journal_bytes<'s>(shelf: &'s MemoryShelf, name: &str) -> &'s [u8] {
-    match shelf.disk(name) {
-        Some(disk) => disk.bytes(),
-        None => &[],
+/// A journal has so many such records, where this call failed.
+pub(super) fn check_told(
+    rt: &impl Abort,
+    alloc: Global,
+    stage: &Stage,
+    name: &str,
+    count: u64,
+    call: u64,
+) -> Result<(), AllocError> {
+    let wanted = told(alloc, count)?;
+    stage.check_disk(rt, name, &wanted, call);
+    Ok(())
+}
+
+/// A disk begins with a journal of so many such records, where this call failed.
+pub(super) fn check_told_first(
+    rt: &impl Abort,
+    alloc: Global,
+    stage: &Stage,
+    name: &str,
+    count: u64,
+    call: u64,
+) -> Result<(), AllocError> {
+    let wanted = told(alloc, count)?;
+    stage.check_front(rt, name, &wanted, call);
+    Ok(())
+}
+
+/// The journals of these names are there and empty, where this call failed.
+pub(super) fn check_empty(
+    rt: &impl Abort,
+    alloc: Global,
+    stage: &Stage,
+    names: &[&str],
+    call: u64,
+) -> Result<(), AllocError> {
+    let empty = journal(alloc, &[0])?;
+    for name in names {
+        stage.check_disk(rt, name, &empty, call);
     }
+    Ok(())
 }

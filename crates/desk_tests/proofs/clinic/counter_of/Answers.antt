@@ -9,11 +9,11 @@ use Rattle.desk_tests.proofs.clinic.counter_of.Goals as goal
 -- the counter's history is the desk's, which is legal and within the limits
 pub returns-clause-legal : goal.returns-clause-legal
 returns-clause-legal g c =
-    let desk = c.in-Ok.desk in
-    let made = c.in-Ok-new.ensures in
+    let desk = c.desk_on-desk.result in
+    let made = c.in-Ok.ensures in
     let known = c.known-2.ensures in
-    subst (λ fixed. HasSeenLegal fixed c.in-Ok-new.counter.1) (sym made.kept) (record {
-      valid = ap is_valid_schema c.in-Ok.ensures.schema ∙ c.known.ensures;
+    subst (λ fixed. HasSeenLegal fixed c.in-Ok.counter.1) (sym made.kept) (record {
+      valid = ap is_valid_schema c.desk_on-desk.ensures.schema ∙ c.known.ensures;
       user_of = known.limits.sentences;
       admits = known.admits;
       legal = subst (λ history. IsLegal (desk_schema desk) (desk_world desk) (desk_user desk) history) (sym made.history) known.legal;

@@ -1,7 +1,7 @@
 use Rattle.std.proofs.Common.{All, sym, subst}
 use Rattle.std.proofs.lemmas.List.Elements.{All-push}
 use Rattle.log_journal.specs.Opening.{IsRecord}
-use Rattle.desk_tests.proofs.shown.records_of.Goals as goal
+use Rattle.desk_tests.proofs.shown.records_in.Goals as goal
 
 pub loop-line-preserved-in_ok-push : goal.loop-line-preserved-in_ok-push
 loop-line-preserved-in_ok-push g c =
