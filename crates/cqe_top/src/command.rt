@@ -50,8 +50,9 @@ use std::thread::Threads;
 /// What can't be done is said to the complaints; where they fail too, nothing else changes.
 ///
 /// No clause speaks of the gate, and none says that users of a batch or connections are served side
-/// by side. Of a standby they say whom the dials call and of whose records they tell, and not that
-/// it was told at all.
+/// by side. Of a standby they say whom the dials call, that each exchange gives a record that lies
+/// in the journal of its user as the call ends, and that no user has more entries then than the
+/// standby answered for him; not that an exchange came before its mark was told.
 pub fn top<
     R: Threads + Wait + Sync,
     F: Shelf,
