@@ -5,6 +5,10 @@ use Rattle.std.specs.declared.alloc.Global.{Global}
 use Rattle.std.specs.Borrow.{Bor}
 use Rattle.cqe_base.specs.declared.user.User.{User}
 use Rattle.user_desk.specs.declared.standing.DeskError.{DeskError}
+use Rattle.log_journal.specs.declared.header.OpenError.{OpenError}
+use Rattle.log_journal.specs.declared.header.OpenError.TheVariants as open_error
+use Rattle.desk_crew.specs.Refusals.{is_disk_fault, SomeFaulted}
+use Rattle.audit_engine.specs.Ends as auditing
 use Rattle.audit_engine.specs.declared.end.AuditEnd.{AuditEnd}
 use Rattle.audit_engine.specs.declared.end.AuditEnd.TheVariants as audit_end
 use Rattle.batch_engine.specs.Batch as batch
@@ -12,6 +16,7 @@ use Rattle.batch_engine.specs.declared.run.BatchEnd.{BatchEnd}
 use Rattle.batch_engine.specs.declared.run.BatchEnd.TheVariants as batch_end
 use Rattle.case_engine.specs.declared.case.CaseEnd.{CaseEnd}
 use Rattle.case_engine.specs.declared.case.CaseEnd.TheVariants as case_end
+use Rattle.dossier_engine.specs.Ends as dossiers
 use Rattle.dossier_engine.specs.declared.end.CheckEnd.{CheckEnd}
 use Rattle.dossier_engine.specs.declared.end.CheckEnd.TheVariants as check_end
 use Rattle.dossier_engine.specs.declared.end.DossierEnd.{DossierEnd}
@@ -38,7 +43,7 @@ use Rattle.cqe_top.specs.declared.report.Report.{Report}
 use Rattle.cqe_top.specs.declared.report.Report.TheVariants as report
 use Rattle.cqe_top.specs.Mirrored.{with_exchange_faults}
 use Rattle.cqe_top.specs.Promise.{OfReading, Does, Always}
-use Rattle.cqe_top.specs.Reports.{report_of, answers_report, copies_report, has_refusal, FaultsHaveCauses}
+use Rattle.cqe_top.specs.Reports.{report_of, answers_report, copies_report, has_refusal, IsDiskRefusal, FaultsHaveCauses}
 use Rattle.cqe_top.specs.Scene.{Scene, HasRisen}
 use Rattle.cqe_top.specs.Steps.{IsShelfFault}
 
@@ -50,7 +55,29 @@ module _ (s : Scene) where
   CauseOf report.ShelfFault = HasRisen s.shelf.faults
   CauseOf report.DiskFault = SomeRose s.shelf.disk_faults s.shelf.disk_faults'
   CauseOf report.LinksFault = HasRisen s.links.faults
+  CauseOf (report.Journal name why) = is_disk_fault why ≡ true → SomeRose s.shelf.disk_faults s.shelf.disk_faults'
+  CauseOf (report.JournalAt users number why) = why ≡ open_error.DiskFault → SomeRose s.shelf.disk_faults s.shelf.disk_faults'
+  CauseOf (report.Journals users refusals) = SomeFaulted refusals.items → SomeRose s.shelf.disk_faults s.shelf.disk_faults'
   CauseOf report = Unit {0}
+
+  refused_so : (told : Report) → CauseOf told → IsDiskRefusal told → SomeRose s.shelf.disk_faults s.shelf.disk_faults'
+  refused_so (report.Journal name why) cause is = cause is
+  refused_so (report.JournalAt users number why) cause is = cause is
+  refused_so (report.Journals users refusals) cause is = cause is
+  refused_so report.Done cause is = absurd is
+  refused_so report.Usage cause is = absurd is
+  refused_so (report.Policy why) cause is = absurd is
+  refused_so (report.Facts why) cause is = absurd is
+  refused_so (report.Script refusal) cause is = absurd is
+  refused_so (report.Dossier why) cause is = absurd is
+  refused_so report.ReadFault cause is = absurd is
+  refused_so report.WriteFault cause is = absurd is
+  refused_so (report.Missing name) cause is = absurd is
+  refused_so report.ShelfFault cause is = absurd is
+  refused_so (report.TargetAt users number) cause is = absurd is
+  refused_so report.DiskFault cause is = absurd is
+  refused_so report.LinksFault cause is = absurd is
+  refused_so report.Memory cause is = absurd is
 
   pub has_cause : (end : CommandEnd) → CauseOf (report_of end) → FaultsHaveCauses s end
   has_cause end cause = record {
@@ -58,6 +85,7 @@ module _ (s : Scene) where
     write = λ is. subst CauseOf is cause;
     shelf = λ is. subst CauseOf is cause;
     disk = λ is. subst CauseOf is cause;
+    journal = λ is. refused_so (report_of end) cause is;
     links = λ is. subst CauseOf is cause;
   }
 
@@ -77,73 +105,80 @@ module _ (s : Scene) where
   case_cause case_end.Memory read write = has_cause _ tt
 
   pub init_cause : (users : Vec User Global) (end : InitEnd) → (end ≡ init_end.ShelfFault → HasRisen s.shelf.faults)
-      → (end ≡ init_end.DiskFault → SomeRose s.shelf.disk_faults s.shelf.disk_faults') → FaultsHaveCauses s (ends.Init users end)
-  init_cause users init_end.Done shelf disk = has_cause _ tt
-  init_cause users (init_end.Refused user why) shelf disk = has_cause _ tt
-  init_cause users init_end.DiskFault shelf disk = has_cause _ (disk refl)
-  init_cause users init_end.ShelfFault shelf disk = has_cause _ (shelf refl)
-  init_cause users init_end.Memory shelf disk = has_cause _ tt
+      → (end ≡ init_end.DiskFault → SomeRose s.shelf.disk_faults s.shelf.disk_faults')
+      → ((user : ℕ) (why : OpenError) → end ≡ init_end.Refused user why → why ≡ open_error.DiskFault → SomeRose s.shelf.disk_faults s.shelf.disk_faults')
+      → FaultsHaveCauses s (ends.Init users end)
+  init_cause users init_end.Done shelf disk refused = has_cause _ tt
+  init_cause users (init_end.Refused user why) shelf disk refused = has_cause _ (refused user why refl)
+  init_cause users init_end.DiskFault shelf disk refused = has_cause _ (disk refl)
+  init_cause users init_end.ShelfFault shelf disk refused = has_cause _ (shelf refl)
+  init_cause users init_end.Memory shelf disk refused = has_cause _ tt
 
   pub migrate_cause : (users : Vec User Global) (end : MigrateEnd) → (end ≡ migrate_end.ShelfFault → HasRisen s.shelf.faults)
-      → (end ≡ migrate_end.DiskFault → SomeRose s.shelf.disk_faults s.shelf.disk_faults') → FaultsHaveCauses s (ends.Migrate users end)
-  migrate_cause users migrate_end.Done shelf disk = has_cause _ tt
-  migrate_cause users (migrate_end.Refused user why) shelf disk = has_cause _ tt
-  migrate_cause users (migrate_end.NotEmpty user) shelf disk = has_cause _ tt
-  migrate_cause users migrate_end.DiskFault shelf disk = has_cause _ (disk refl)
-  migrate_cause users migrate_end.ShelfFault shelf disk = has_cause _ (shelf refl)
-  migrate_cause users migrate_end.Memory shelf disk = has_cause _ tt
+      → (end ≡ migrate_end.DiskFault → SomeRose s.shelf.disk_faults s.shelf.disk_faults')
+      → ((user : ℕ) (why : OpenError) → end ≡ migrate_end.Refused user why → why ≡ open_error.DiskFault → SomeRose s.shelf.disk_faults s.shelf.disk_faults')
+      → FaultsHaveCauses s (ends.Migrate users end)
+  migrate_cause users migrate_end.Done shelf disk refused = has_cause _ tt
+  migrate_cause users (migrate_end.Refused user why) shelf disk refused = has_cause _ (refused user why refl)
+  migrate_cause users (migrate_end.NotEmpty user) shelf disk refused = has_cause _ tt
+  migrate_cause users migrate_end.DiskFault shelf disk refused = has_cause _ (disk refl)
+  migrate_cause users migrate_end.ShelfFault shelf disk refused = has_cause _ (shelf refl)
+  migrate_cause users migrate_end.Memory shelf disk refused = has_cause _ tt
 
   -- asks that were answered to their end
   answers_cause : (users : Vec User Global) (refusals : Vec (Option DeskError) Global) (is_refused is_broken : Bool) → has_refusal refusals.items ≡ is_refused
-      → (is_broken ≡ true → SomeRose s.shelf.disk_faults s.shelf.disk_faults') → CauseOf (answers_report users refusals is_broken)
-  answers_cause users refusals true is_broken is disk =
-      subst (λ b. CauseOf (if b then report.Journals users refusals else if is_broken then report.DiskFault else report.Done)) (sym is) tt
-  answers_cause users refusals false true is disk = subst (λ b. CauseOf (if b then report.Journals users refusals else report.DiskFault)) (sym is) (disk refl)
-  answers_cause users refusals false false is disk = subst (λ b. CauseOf (if b then report.Journals users refusals else report.Done)) (sym is) tt
+      → (is_broken ≡ true → SomeRose s.shelf.disk_faults s.shelf.disk_faults')
+      → (SomeFaulted refusals.items → SomeRose s.shelf.disk_faults s.shelf.disk_faults') → CauseOf (answers_report users refusals is_broken)
+  answers_cause users refusals true is_broken is disk journal =
+      subst (λ b. CauseOf (if b then report.Journals users refusals else if is_broken then report.DiskFault else report.Done)) (sym is) journal
+  answers_cause users refusals false true is disk journal =
+      subst (λ b. CauseOf (if b then report.Journals users refusals else report.DiskFault)) (sym is) (disk refl)
+  answers_cause users refusals false false is disk journal = subst (λ b. CauseOf (if b then report.Journals users refusals else report.Done)) (sym is) tt
 
   -- and frames that were answered to the end
   copies_cause : (users : Vec User Global) (refusals : Vec (Option DeskError) Global) (is_refused is_broken is_wanting : Bool)
       → has_refusal refusals.items ≡ is_refused → (is_broken ≡ true → SomeRose s.shelf.disk_faults s.shelf.disk_faults')
+      → (SomeFaulted refusals.items → SomeRose s.shelf.disk_faults s.shelf.disk_faults')
       → CauseOf (copies_report users refusals is_broken is_wanting)
-  copies_cause users refusals true is_broken is_wanting is disk =
+  copies_cause users refusals true is_broken is_wanting is disk journal =
       subst (λ b. CauseOf (if b then report.Journals users refusals else if is_broken then report.DiskFault
-      else if is_wanting then report.Memory else report.Done)) (sym is) tt
-  copies_cause users refusals false true is_wanting is disk =
+      else if is_wanting then report.Memory else report.Done)) (sym is) journal
+  copies_cause users refusals false true is_wanting is disk journal =
       subst (λ b. CauseOf (if b then report.Journals users refusals else report.DiskFault)) (sym is) (disk refl)
-  copies_cause users refusals false false true is disk =
+  copies_cause users refusals false false true is disk journal =
       subst (λ b. CauseOf (if b then report.Journals users refusals else report.Memory)) (sym is) tt
-  copies_cause users refusals false false false is disk =
+  copies_cause users refusals false false false is disk journal =
       subst (λ b. CauseOf (if b then report.Journals users refusals else report.Done)) (sym is) tt
 
   pub batch_cause : (users : Vec User Global) (end : BatchEnd) → (end ≡ batch_end.ReadFault → HasRisen s.input.faults)
       → (end ≡ batch_end.WriteFault → HasRisen s.output.faults)
       → (end ≡ batch_end.ShelfFault → HasRisen s.shelf.faults) → (batch.IsBroken end → SomeRose s.shelf.disk_faults s.shelf.disk_faults')
-      → FaultsHaveCauses s (ends.Batch users end)
-  batch_cause users (batch_end.Done refusals is_broken) read write shelf disk =
-      has_cause _ (answers_cause users refusals (has_refusal refusals.items) is_broken refl disk)
-  batch_cause users (batch_end.Script refusal) read write shelf disk = has_cause _ tt
-  batch_cause users batch_end.ReadFault read write shelf disk = has_cause _ (read refl)
-  batch_cause users batch_end.WriteFault read write shelf disk = has_cause _ (write refl)
-  batch_cause users batch_end.ShelfFault read write shelf disk = has_cause _ (shelf refl)
-  batch_cause users batch_end.Memory read write shelf disk = has_cause _ tt
+      → (batch.IsDiskRefusal end → SomeRose s.shelf.disk_faults s.shelf.disk_faults') → FaultsHaveCauses s (ends.Batch users end)
+  batch_cause users (batch_end.Done refusals is_broken) read write shelf disk journal =
+      has_cause _ (answers_cause users refusals (has_refusal refusals.items) is_broken refl disk journal)
+  batch_cause users (batch_end.Script refusal) read write shelf disk journal = has_cause _ tt
+  batch_cause users batch_end.ReadFault read write shelf disk journal = has_cause _ (read refl)
+  batch_cause users batch_end.WriteFault read write shelf disk journal = has_cause _ (write refl)
+  batch_cause users batch_end.ShelfFault read write shelf disk journal = has_cause _ (shelf refl)
+  batch_cause users batch_end.Memory read write shelf disk journal = has_cause _ tt
 
   pub audit_cause : (name : Bor (List ℕ)) (end : AuditEnd) → (end ≡ audit_end.WriteFault → HasRisen s.output.faults)
-      → (end ≡ audit_end.ShelfFault → HasRisen s.shelf.faults)
+      → (end ≡ audit_end.ShelfFault → HasRisen s.shelf.faults) → (auditing.IsDiskRefusal end → SomeRose s.shelf.disk_faults s.shelf.disk_faults')
       → FaultsHaveCauses s (ends.Audit name end)
-  audit_cause name audit_end.Done write shelf = has_cause _ tt
-  audit_cause name (audit_end.Refused why) write shelf = has_cause _ tt
-  audit_cause name audit_end.WriteFault write shelf = has_cause _ (write refl)
-  audit_cause name audit_end.ShelfFault write shelf = has_cause _ (shelf refl)
-  audit_cause name audit_end.Memory write shelf = has_cause _ tt
+  audit_cause name audit_end.Done write shelf journal = has_cause _ tt
+  audit_cause name (audit_end.Refused why) write shelf journal = has_cause _ journal
+  audit_cause name audit_end.WriteFault write shelf journal = has_cause _ (write refl)
+  audit_cause name audit_end.ShelfFault write shelf journal = has_cause _ (shelf refl)
+  audit_cause name audit_end.Memory write shelf journal = has_cause _ tt
 
   pub dossier_cause : (name : Bor (List ℕ)) (end : DossierEnd) → (end ≡ dossier_end.WriteFault → HasRisen s.output.faults)
-      → (end ≡ dossier_end.ShelfFault → HasRisen s.shelf.faults)
+      → (end ≡ dossier_end.ShelfFault → HasRisen s.shelf.faults) → (dossiers.IsDiskRefusal end → SomeRose s.shelf.disk_faults s.shelf.disk_faults')
       → FaultsHaveCauses s (ends.Dossier name end)
-  dossier_cause name dossier_end.Done write shelf = has_cause _ tt
-  dossier_cause name (dossier_end.Refused why) write shelf = has_cause _ tt
-  dossier_cause name dossier_end.WriteFault write shelf = has_cause _ (write refl)
-  dossier_cause name dossier_end.ShelfFault write shelf = has_cause _ (shelf refl)
-  dossier_cause name dossier_end.Memory write shelf = has_cause _ tt
+  dossier_cause name dossier_end.Done write shelf journal = has_cause _ tt
+  dossier_cause name (dossier_end.Refused why) write shelf journal = has_cause _ journal
+  dossier_cause name dossier_end.WriteFault write shelf journal = has_cause _ (write refl)
+  dossier_cause name dossier_end.ShelfFault write shelf journal = has_cause _ (shelf refl)
+  dossier_cause name dossier_end.Memory write shelf journal = has_cause _ tt
 
   pub check_cause : (end : CheckEnd) → (end ≡ check_end.ReadFault → HasRisen s.input.faults)
       → (end ≡ check_end.WriteFault → HasRisen s.output.faults) → FaultsHaveCauses s (ends.Check end)
@@ -160,21 +195,23 @@ module _ (s : Scene) where
 
   pub serve_cause : (users : Vec User Global) (end : ServeEnd) → (end ≡ serve_end.LinksFault → HasRisen s.links.faults)
       → (end ≡ serve_end.ShelfFault → HasRisen s.shelf.faults)
-      → (serving.IsBroken end → SomeRose s.shelf.disk_faults s.shelf.disk_faults') → FaultsHaveCauses s (ends.Serve users end)
-  serve_cause users (serve_end.Done refusals is_broken) links shelf disk =
-      has_cause _ (answers_cause users refusals (has_refusal refusals.items) is_broken refl disk)
-  serve_cause users serve_end.LinksFault links shelf disk = has_cause _ (links refl)
-  serve_cause users serve_end.ShelfFault links shelf disk = has_cause _ (shelf refl)
-  serve_cause users serve_end.Memory links shelf disk = has_cause _ tt
+      → (serving.IsBroken end → SomeRose s.shelf.disk_faults s.shelf.disk_faults')
+      → (serving.IsDiskRefusal end → SomeRose s.shelf.disk_faults s.shelf.disk_faults') → FaultsHaveCauses s (ends.Serve users end)
+  serve_cause users (serve_end.Done refusals is_broken) links shelf disk journal =
+      has_cause _ (answers_cause users refusals (has_refusal refusals.items) is_broken refl disk journal)
+  serve_cause users serve_end.LinksFault links shelf disk journal = has_cause _ (links refl)
+  serve_cause users serve_end.ShelfFault links shelf disk journal = has_cause _ (shelf refl)
+  serve_cause users serve_end.Memory links shelf disk journal = has_cause _ tt
 
   pub standby_cause : (users : Vec User Global) (end : CopyEnd) → (end ≡ copy_end.LinksFault → HasRisen s.links.faults)
       → (end ≡ copy_end.ShelfFault → HasRisen s.shelf.faults)
-      → (standing.IsBroken end → SomeRose s.shelf.disk_faults s.shelf.disk_faults') → FaultsHaveCauses s (ends.Standby users end)
-  standby_cause users (copy_end.Done refusals is_broken is_wanting) links shelf disk =
-      has_cause _ (copies_cause users refusals (has_refusal refusals.items) is_broken is_wanting refl disk)
-  standby_cause users copy_end.LinksFault links shelf disk = has_cause _ (links refl)
-  standby_cause users copy_end.ShelfFault links shelf disk = has_cause _ (shelf refl)
-  standby_cause users copy_end.Memory links shelf disk = has_cause _ tt
+      → (standing.IsBroken end → SomeRose s.shelf.disk_faults s.shelf.disk_faults')
+      → (standing.IsDiskRefusal end → SomeRose s.shelf.disk_faults s.shelf.disk_faults') → FaultsHaveCauses s (ends.Standby users end)
+  standby_cause users (copy_end.Done refusals is_broken is_wanting) links shelf disk journal =
+      has_cause _ (copies_cause users refusals (has_refusal refusals.items) is_broken is_wanting refl disk journal)
+  standby_cause users copy_end.LinksFault links shelf disk journal = has_cause _ (links refl)
+  standby_cause users copy_end.ShelfFault links shelf disk journal = has_cause _ (shelf refl)
+  standby_cause users copy_end.Memory links shelf disk journal = has_cause _ tt
 
   -- where none are counted, it was done so
   pub plainly : (reading : Option Reading) (end : CommandEnd) → with_exchange_faults s reading ≡ s → OfReading s reading end → FaultsHaveCauses s end → Always s

@@ -57,10 +57,10 @@ since_under since None place = refl
 since_under since (Some d) place = refl
 
 -- a mirror whose dial exchanged nothing told of nothing
-unheard : {C : Type 0} {g : _} {told : Type 0} {exchanged : C → List Exchange} (mirror : Option (Mirror C g))
+unheard : {C : Type 0} {g : _} (told : Type 0) (exchanged : C → List Exchange) (mirror : Option (Mirror C g))
     → (told → length (exchanged_by exchanged mirror) ≡ 0) → HeardNothing (heard_by told exchanged mirror)
-unheard None silent number one heard = heard
-unheard {C} {g} {told} {exchanged} (Some mirror) silent number one heard = silent_heard told exchanged mirror silent number one heard
+unheard told exchanged None silent number one heard = heard
+unheard told exchanged (Some mirror) silent number one heard = silent_heard told exchanged mirror silent number one heard
 
 told_under : {D C : Type 0} {g : _} (answered : C → ℕ) (o : Option D) (place : Option (Place C g))
     → told_on (λ (d : MirroredDisk D C g). told_by answered (mirror_of d)) (mirrored_at o place) ≡ marks_told answered o place
@@ -73,7 +73,7 @@ lie_under : {D C : Type 0} {g : _} (reads : D → List ℕ) (told : Type 0) (exc
     → AreThere (heard_on (λ (d : MirroredDisk D C g). heard_by told exchanged (mirror_of d)) (mirrored_at o place))
     (bytes_on (λ d. reads (inner_of d)) (mirrored_at o place))
     → AreThere (heard_by told exchanged (mirror_in place)) (bytes_on reads o)
-lie_under reads told exchanged None place unused there = λ number one heard. absurd (unheard (mirror_in place) (unused refl) number one heard)
+lie_under reads told exchanged None place unused there = λ number one heard. absurd (unheard told exchanged (mirror_in place) (unused refl) number one heard)
 lie_under reads told exchanged (Some d) place unused there = there
 
 -- what the shelf holds beneath its mirrors
@@ -149,7 +149,8 @@ module _ {F D C : Type 0} {g : _} (Shelf : ShelfGhosts F D) (Disk : DiskGhosts D
           (mirrored_at o (place_at lent_slots name))) (bytes_on (λ d. Disk.reads (inner_of d)) (mirrored_at o (place_at lent_slots name)))
       first None number one heard = absurd heard
       first (Some d) number one heard =
-          absurd (unheard (mirror_in (place_at lent_slots name)) (λ t. ap (λ s. count_in exchanged (place_at s name)) were ∙ silent t name) number one heard)
+          absurd (unheard told exchanged (mirror_in (place_at lent_slots name)) (λ t. ap (λ s. count_in exchanged (place_at s name)) were ∙ silent t name)
+          number one heard)
 
   before : (name : Text) → mirrored_at (Shelf.disk lent name) (place_at lent_slots name) ≡ mirrored_at (Shelf.disk old name) (place_at slots name)
   before name = λ i. mirrored_at (Shelf.disk (was i) name) (place_at (were i) name)

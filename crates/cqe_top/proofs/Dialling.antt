@@ -80,6 +80,7 @@ causes_told s marks end cause = record {
   write = cause.write;
   shelf = cause.shelf;
   disk = cause.disk;
+  journal = cause.journal;
   links = cause.links;
 }
 

@@ -28,6 +28,9 @@ use Rattle.init_engine.specs.Ends.{Change, EndsInit}
 use Rattle.init_engine.specs.declared.end.InitEnd.{InitEnd}
 use Rattle.init_engine.specs.declared.end.InitEnd.TheVariants as init_end
 use Rattle.log_journal.specs.Names.{journal_name}
+use Rattle.log_journal.specs.Opening.{IsRefused, IsRefusedOld}
+use Rattle.log_journal.specs.declared.header.OpenError.{OpenError}
+use Rattle.log_journal.specs.declared.header.OpenError.TheVariants.{DiskFault}
 use Rattle.log_journal.specs.declared.header.Header.{Header}
 use Rattle.migrate_engine.specs.Ends.{EndsMigrate}
 use Rattle.migrate_engine.specs.declared.end.MigrateEnd.{MigrateEnd}
@@ -287,6 +290,16 @@ init_caused told Disk header directory names change made ended = (
   λ is. let stops = subst (λ m. EndsInit told Disk header directory names change m) is ended in (journal_name directory stops.1.name, stops.1.reason),
 )
 
+-- and so where a journal is refused for a fault of its disk
+pub init_refused : {D : Type 0} (told : Type 0) (Disk : DiskGhosts D) (header directory : List ℕ) (names : List Text)
+    (change : Change D) (made : InitEnd)
+    → EndsInit told Disk header directory names change made
+    → (user : ℕ) (why : OpenError) → made ≡ init_end.Refused user why → why ≡ DiskFault → SomeRose change.before change.now
+init_refused told Disk header directory names change made ended user why is fault =
+    let stops = subst (λ m. EndsInit told Disk header directory names change m) is ended in
+    let own = journal_name directory stops.name in
+    (own, subst (IsRefused told header (bytes_on Disk.reads (change.old own)) (change.before own) (change.now own)) fault stops.reason.2)
+
 -- so is one at whose disks the moving of journals stopped
 pub at_one_of : {D : Type 0} (told : Type 0) (Disk : DiskGhosts D) (header from to : List ℕ) (users others : List User)
     (change : Change D) (made : MigrateEnd)
@@ -309,3 +322,12 @@ migrate_caused told Disk header from to names change made ended = (
   λ is. (subst (λ m. EndsMigrate told Disk header from to names change m) is ended).1.reason,
   λ is. let stops = subst (λ m. EndsMigrate told Disk header from to names change m) is ended in (journal_name to stops.1.name, stops.1.reason.1),
 )
+
+pub migrate_refused : {D : Type 0} (told : Type 0) (Disk : DiskGhosts D) (header from to : List ℕ) (names : List Text)
+    (change : Change D) (made : MigrateEnd)
+    → EndsMigrate told Disk header from to names change made
+    → (user : ℕ) (why : OpenError) → made ≡ migrate_end.Refused user why → why ≡ DiskFault → SomeRose change.before change.now
+migrate_refused told Disk header from to names change made ended user why is fault =
+    let stops = subst (λ m. EndsMigrate told Disk header from to names change m) is ended in
+    let own = journal_name from stops.name in
+    (own, subst (IsRefusedOld told header (bytes_on Disk.reads (change.old own)) (change.before own) (change.now own)) fault stops.reason.1)

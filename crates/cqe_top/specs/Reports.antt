@@ -1,10 +1,12 @@
 -- What is told of an end: its report, and the status of that. `Complaints` has the text of each
 -- report. Where a report may tell a fault stands here too.
-use Rattle.std.specs.Prelude.{◌≡◌, ◌⊎◌, ℕ, Bool, List, Option, Vec, is_some, if◌then◌else◌}
+use Rattle.std.specs.Prelude.{◌≡◌, ◌⊎◌, ℕ, Bool, true, List, Option, Vec, is_some, if◌then◌else◌}
 use Rattle.std.specs.List.{list_any}
 use Rattle.std.specs.declared.alloc.Global.{Global}
 use Rattle.cqe_base.specs.declared.user.User.{User}
+use Rattle.log_journal.specs.declared.header.OpenError.TheVariants as open_error
 use Rattle.user_desk.specs.declared.standing.DeskError.{DeskError}
+use Rattle.desk_crew.specs.Refusals.{is_disk_fault, SomeFaulted}
 use Rattle.audit_engine.specs.declared.end.AuditEnd.TheVariants as audit_end
 use Rattle.batch_engine.specs.declared.run.BatchEnd.TheVariants as batch_end
 use Rattle.case_engine.specs.declared.case.CaseEnd.TheVariants as case_end
@@ -137,10 +139,18 @@ report_of (command_end.Check check_end.Memory) = Memory
 abbrev pub IsDoneUnlessMemory : CommandEnd → Type 0
 IsDoneUnlessMemory end = (report_of end ≡ Done) ⊎ (report_of end ≡ Memory)
 
+-- what is told is that a journal is refused for a fault of its disk
+abbrev pub IsDiskRefusal : Report → Type 0
+IsDiskRefusal (Journal name why) = is_disk_fault why ≡ true
+IsDiskRefusal (JournalAt users number why) = why ≡ open_error.DiskFault
+IsDiskRefusal (Journals users refusals) = SomeFaulted refusals.items
+IsDiskRefusal report = ⊥
+
 -- a fault is told only where its count rose in the call
 pub record FaultsHaveCauses (s : Scene) (end : CommandEnd) : Type 0 where
   pub read : report_of end ≡ ReadFault → HasRisen s.input.faults
   pub write : report_of end ≡ WriteFault → HasRisen s.output.faults
   pub shelf : report_of end ≡ ShelfFault → HasRisen s.shelf.faults
   pub disk : report_of end ≡ DiskFault → SomeRose s.shelf.disk_faults s.shelf.disk_faults'
+  pub journal : IsDiskRefusal (report_of end) → SomeRose s.shelf.disk_faults s.shelf.disk_faults'
   pub links : report_of end ≡ LinksFault → HasRisen s.links.faults

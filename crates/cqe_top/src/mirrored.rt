@@ -214,6 +214,8 @@ where
         → Rose (F.faults shelf.old) (F.faults shelf.new) }
     ensures disk_cause { batch.IsBroken result → SomeRose (F.disk_faults shelf.old)
         (mirrored_counts (F.disk_faults shelf.new) (dial_faults C.faults mirrors.new)) }
+    ensures journal_cause { batch.IsDiskRefusal result → SomeRose (F.disk_faults shelf.old)
+        (mirrored_counts (F.disk_faults shelf.new) (dial_faults C.faults mirrors.new)) }
 {
     let mut mirrored = MirroredShelf::new(shelf, mirrors);
     run_batch(
@@ -325,6 +327,8 @@ where
     ensures links_cause { result ≡ ServeEnd.LinksFault
         → Rose (L.faults links.old) (L.faults links.new) }
     ensures disk_cause { serving.IsBroken result → SomeRose (F.disk_faults shelf.old)
+        (mirrored_counts (F.disk_faults shelf.new) (dial_faults C.faults mirrors.new)) }
+    ensures journal_cause { serving.IsDiskRefusal result → SomeRose (F.disk_faults shelf.old)
         (mirrored_counts (F.disk_faults shelf.new) (dial_faults C.faults mirrors.new)) }
 {
     let mut mirrored = MirroredShelf::new(shelf, mirrors);

@@ -127,6 +127,19 @@ returns-clause-disk_cause g c broken =
     (ap slots_of c.new-mirrored.ensures.mirrors) c.requires.fresh
     (c.run_batch.ensures.disk_cause broken))
 
+pub returns-clause-journal_cause : goal.returns-clause-journal_cause
+returns-clause-journal_cause g c refused =
+    lent_two (λ shelf mirrors. SomeRose (g.F.Shelf.disk_faults c.args.shelf.now)
+    (mirrored_counts (g.F.Shelf.disk_faults shelf) (dial_faults g.C.Dial.faults mirrors)))
+    _ c.run_batch.new.shelf.shelf.now c.mirrors-1.given.0 c.run_batch.new.shelf.mirrors.now
+    (shelf_back _ c.run_batch.new.shelf.shelf.now _ _ c.run_batch.ensures.lent (search rules))
+    (mirrors_back c.mirrors-1.given.0 c.run_batch.new.shelf.mirrors.now _ _ c.run_batch.ensures.lent (search rules))
+    (some_rose_under g.F.Shelf g.F.D.Disk g.C.Dial.faults c.new-mirrored.result.shelf.now c.args.shelf.now c.run_batch.new.shelf.shelf.now
+    c.new-mirrored.ensures.shelf
+    (slots_of c.new-mirrored.result.mirrors.now) (slots_of c.args.mirrors.now) (slots_of c.run_batch.new.shelf.mirrors.now)
+    (ap slots_of c.new-mirrored.ensures.mirrors) c.requires.fresh
+    (c.run_batch.ensures.journal_cause refused))
+
 pub returns-clause-shelf_later : goal.returns-clause-shelf_later
 returns-clause-shelf_later g c =
     lent_one (λ shelf. g.F.Shelf.faults c.args.shelf.now ≤ g.F.Shelf.faults shelf) _ c.run_batch.new.shelf.shelf.now

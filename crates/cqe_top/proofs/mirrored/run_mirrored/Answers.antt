@@ -182,7 +182,8 @@ returns-in-Batch g c = record {
       let new = c.mirrored_batch-end.new.shelf in
       let cause = batch_cause scene inputs.policy.users c.mirrored_batch-end.result ran.read_cause ran.write_cause
       (λ is. rose_since (g.F.Shelf.faults old) (g.F.Shelf.faults mid) (g.F.Shelf.faults new) read.later (ran.shelf_cause is))
-      (λ is. some_rose_counted g.F.Shelf g.F.D.Disk old mid new read.disks read.counts failed files (ran.disk_cause is)) in
+      (λ is. some_rose_counted g.F.Shelf g.F.D.Disk old mid new read.disks read.counts failed files (ran.disk_cause is))
+      (λ is. some_rose_counted g.F.Shelf g.F.D.Disk old mid new read.disks read.counts failed files (ran.journal_cause is)) in
       let runs : RunsBatch marked.shelf scene.input scene.output files inputs.policy.users c.mirrored_batch-end.result = record {
         over_files = λ told. (
           policy_value_of inputs.policy,
@@ -305,7 +306,8 @@ returns g c = record {
       let doors = served_between g.L.Links c.args.links.now c.mirrors_for.new.links links c.hang_up_all-in-Serve.new.links made.doors hung.doors in
       let cause = serve_cause scene inputs.policy.users c.mirrored_serve-end.result (λ is. doors.rose (ran.links_cause is))
       (λ is. rose_since (g.F.Shelf.faults old) (g.F.Shelf.faults mid) (g.F.Shelf.faults new) read.later (ran.shelf_cause is))
-      (λ is. some_rose_counted g.F.Shelf g.F.D.Disk old mid new read.disks read.counts failed files (ran.disk_cause is)) in
+      (λ is. some_rose_counted g.F.Shelf g.F.D.Disk old mid new read.disks read.counts failed files (ran.disk_cause is))
+      (λ is. some_rose_counted g.F.Shelf g.F.D.Disk old mid new read.disks read.counts failed files (ran.journal_cause is)) in
       let runs : RunsServe marked.shelf scene.links files listening.address.now listening.workers listening.sessions inputs.policy.users
       c.mirrored_serve-end.result = record {
         over_files = λ told. (

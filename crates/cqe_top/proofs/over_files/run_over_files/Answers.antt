@@ -30,6 +30,7 @@ use Rattle.cqe_top.proofs.Causes.{files_cause, init_cause, batch_cause, audit_ca
 use Rattle.cqe_top.proofs.Finding.{is_named, one_named, named_at, nobody_named}
 use Rattle.cqe_top.proofs.Good.{unread, nobody_called, init_succeeds, batch_succeeds, audit_succeeds, dossier_succeeds, check_succeeds, migrate_succeeds}
 use Rattle.cqe_top.proofs.Good.{nobody_there}
+use Rattle.cqe_top.proofs.Over.{init_refused, migrate_refused}
 use Rattle.cqe_top.proofs.Over.{serve_over, init_caused, some_rose, same_journals, touches_over, init_over, others_over, bytes_over, images_over, batch_over}
 use Rattle.cqe_top.proofs.Over.{batch_left, serve_left, one_of, silent_end, silent_dossier, counts_over, counted_over, moments_over}
 use Rattle.cqe_top.proofs.Over.{copies_left, copies_served, durable_over, migrate_over, migrate_caused, counts_both, at_one_of}
@@ -95,6 +96,8 @@ returns-in-Init-clause-cause g c =
     (names_of (map policy_user_of inputs.policy.users.items))
     (change_on scene.shelf) c.run_init-end.result made in
     init_cause scene inputs.policy.users c.run_init-end.result caused.0 caused.1
+    (init_refused g.F.Shelf.tells g.F.D.Disk (header_bytes inputs.header) files.directory (names_of (map policy_user_of inputs.policy.users.items))
+    (change_on scene.shelf) c.run_init-end.result made)
 
 pub returns-in-Init-clause-command : goal.returns-in-Init-clause-command
 returns-in-Init-clause-command g c =
@@ -148,6 +151,7 @@ returns-in-Batch-clause-cause g c =
     (λ is. rose_since (g.F.Shelf.faults c.args.shelf.now) (g.F.Shelf.faults c.read_files.new.shelf) (g.F.Shelf.faults c.run_batch-end.new.shelf) read.later
     (ran.shelf_cause is))
     (λ is. some_rose g.F.Shelf g.F.D.Disk c.args.shelf.now c.read_files.new.shelf c.run_batch-end.new.shelf read.disks read.counts (ran.disk_cause is))
+    (λ is. some_rose g.F.Shelf g.F.D.Disk c.args.shelf.now c.read_files.new.shelf c.run_batch-end.new.shelf read.disks read.counts (ran.journal_cause is))
 
 pub returns-in-Batch-clause-command : goal.returns-in-Batch-clause-command
 returns-in-Batch-clause-command g c =
@@ -230,6 +234,7 @@ returns-in-Audit-clause-cause g c =
     audit_cause scene c.in-OfUser.name c.run_audit.result ran.write_cause
     (λ is. rose_since (g.F.Shelf.faults c.args.shelf.now) (g.F.Shelf.faults c.read_files.new.shelf) (g.F.Shelf.faults c.run_audit.new.shelf) read.later
     (ran.shelf_cause is))
+    (λ is. some_rose g.F.Shelf g.F.D.Disk c.args.shelf.now c.read_files.new.shelf c.run_audit.new.shelf read.disks read.counts (_, ran.journal_cause is))
 
 pub returns-in-Audit-clause-command : goal.returns-in-Audit-clause-command
 returns-in-Audit-clause-command g c =
@@ -308,6 +313,7 @@ returns-in-Dossier-clause-cause g c =
     dossier_cause scene c.in-OfUser.name c.run_dossier.result ran.write_cause
     (λ is. rose_since (g.F.Shelf.faults c.args.shelf.now) (g.F.Shelf.faults c.read_files.new.shelf) (g.F.Shelf.faults c.run_dossier.new.shelf) read.later
     (ran.shelf_cause is))
+    (λ is. some_rose g.F.Shelf g.F.D.Disk c.args.shelf.now c.read_files.new.shelf c.run_dossier.new.shelf read.disks read.counts (_, ran.journal_cause is))
 
 pub returns-in-Dossier-clause-command : goal.returns-in-Dossier-clause-command
 returns-in-Dossier-clause-command g c =
@@ -452,6 +458,8 @@ returns-in-Migrate-clause-cause g c =
     (names_of (map policy_user_of inputs.policy.users.items))
     (change_on scene.shelf) c.run_migrate-end.result moved in
     migrate_cause scene inputs.policy.users c.run_migrate-end.result caused.0 caused.1
+    (migrate_refused g.F.Shelf.tells g.F.D.Disk (header_bytes inputs.header) files.directory to (names_of (map policy_user_of inputs.policy.users.items))
+    (change_on scene.shelf) c.run_migrate-end.result moved)
 
 pub returns-in-Migrate-clause-command : goal.returns-in-Migrate-clause-command
 returns-in-Migrate-clause-command g c =
@@ -506,6 +514,7 @@ returns-in-Serve-clause-cause g c =
     (λ is. rose_since (g.F.Shelf.faults c.args.shelf.now) (g.F.Shelf.faults c.read_files.new.shelf) (g.F.Shelf.faults c.run_serve-end.new.shelf) read.later
     (ran.shelf_cause is))
     (λ is. some_rose g.F.Shelf g.F.D.Disk c.args.shelf.now c.read_files.new.shelf c.run_serve-end.new.shelf read.disks read.counts (ran.disk_cause is))
+    (λ is. some_rose g.F.Shelf g.F.D.Disk c.args.shelf.now c.read_files.new.shelf c.run_serve-end.new.shelf read.disks read.counts (ran.journal_cause is))
 
 pub returns-in-Serve-clause-command : goal.returns-in-Serve-clause-command
 returns-in-Serve-clause-command g c =
@@ -575,6 +584,7 @@ returns-clause-cause g c =
     (λ is. rose_since (g.F.Shelf.faults c.args.shelf.now) (g.F.Shelf.faults c.read_files.new.shelf) (g.F.Shelf.faults c.run_standby-end.new.shelf) read.later
     (ran.shelf_cause is))
     (λ is. some_rose g.F.Shelf g.F.D.Disk c.args.shelf.now c.read_files.new.shelf c.run_standby-end.new.shelf read.disks read.counts (ran.disk_cause is))
+    (λ is. some_rose g.F.Shelf g.F.D.Disk c.args.shelf.now c.read_files.new.shelf c.run_standby-end.new.shelf read.disks read.counts (ran.journal_cause is))
 
 pub returns-clause-command : goal.returns-clause-command
 returns-clause-command g c =
