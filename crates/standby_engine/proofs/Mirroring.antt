@@ -23,7 +23,7 @@ use Rattle.log_journal.specs.Walk.{records}
 use Rattle.log_journal.specs.declared.header.OpenError.{OpenError}
 use Rattle.log_journal.specs.declared.header.OpenError.TheVariants.{NotAJournal, OtherPolicy, Damaged, DiskFault, Memory, OldVersion}
 use Rattle.desk_crew.specs.Registered.{registered_journals}
-use Rattle.desk_crew.specs.Shelved.{journals_by, StandsAllAlong}
+use Rattle.desk_crew.specs.Shelved.{Journals, journals_by, StandsAllAlong}
 use Rattle.desk_crew.proofs.Giving.{AreReturned, AllReturned}
 use Rattle.desk_crew.proofs.Lasting.{taken_moment, stands_along}
 use Rattle.desk_crew.proofs.Shelving.{among-append, among_none_first, among_none_second, by_among, none_out, at_names}
@@ -67,10 +67,14 @@ pub failed_same : {D : Type 0} {g : _} (reads : D → List ℕ) (all : List (Hel
 failed_same reads [] = refl
 failed_same reads (h ∷ all) = ap (λ b. is_broken h.journal || b) (failed_same reads all)
 
+-- the journals of users by what stands under their names as a call began and as it ended
+abbrev own_journals : {D : Type 0} → DiskGhosts D → Text → (Text → Option D) → (Text → Option D) → (Text → ℕ) → (Text → ℕ) → Journals
+own_journals Disk directory disk0 disk1 count0 count1 =
+    journals_by Disk.reads Disk.image Disk.moment Disk.image_since Disk.tellable directory disk0 disk1 count0 count1
+
 -- where the count of a user's disk rose, some count did
-pub rose_of : {D : Type 0} (Disk : DiskGhosts D) (directory : Text) (disk0 disk1 : Text → Option D) (count0 count1 : Text → ℕ) (users : List User)
-    → SomeFailed (journals_by Disk.reads Disk.image Disk.moment Disk.image_since Disk.tellable directory disk0 disk1 count0 count1) users
-    → SomeRose count0 count1
+rose_of : {D : Type 0} (Disk : DiskGhosts D) (directory : Text) (disk0 disk1 : Text → Option D) (count0 count1 : Text → ℕ) (users : List User)
+    → SomeFailed (own_journals Disk directory disk0 disk1 count0 count1) users → SomeRose count0 count1
 rose_of Disk directory disk0 disk1 count0 count1 [] failed = absurd failed
 rose_of Disk directory disk0 disk1 count0 count1 (u ∷ users) (inl rose) = (journal_name directory (string_bytes u.name), rose)
 rose_of Disk directory disk0 disk1 count0 count1 (u ∷ users) (inr later) = rose_of Disk directory disk0 disk1 count0 count1 users later
@@ -140,14 +144,14 @@ module _ (directory header : List ℕ) {D : Type 0} {g : _} (told : Type 0) (Dis
   counts_of (u ∷ users) [] are = []
   counts_of [] places are = []
 
-  pub places_many : (users : List User) (places : List (Place D g)) → Placed users places → length places ≡ length users
+  places_many : (users : List User) (places : List (Place D g)) → Placed users places → length places ≡ length users
   places_many [] [] are = refl
   places_many [] (p ∷ places) are = absurd are
   places_many (u ∷ users) [] are = absurd are
   places_many (u ∷ users) (p ∷ places) are = ap (λ n. suc n) (places_many users places are.1)
 
   -- as it is opened each journal lasts, and is counted
-  pub first_lasts : (t : Disk.tells) (users : List User) (places : List (Place D g)) (are : Placed users places)
+  first_lasts : (t : Disk.tells) (users : List User) (places : List (Place D g)) (are : Placed users places)
       → AllLast Disk header (map held_disk (opened_in places)) (opened_in places)
   first_lasts t [] [] are = tt
   first_lasts t [] (p ∷ places) are = absurd are
@@ -155,7 +159,7 @@ module _ (directory header : List ℕ) {D : Type 0} {g : _} (told : Type 0) (Dis
   first_lasts t (u ∷ users) (Opened journal held ∷ places) are = ((are.0.opened t).1.1, first_lasts t users places are.1)
   first_lasts t (u ∷ users) (Refused journal disk why ∷ places) are = first_lasts t users places are.1
 
-  pub first_counted : (users : List User) (places : List (Place D g)) (are : Placed users places)
+  first_counted : (users : List User) (places : List (Place D g)) (are : Placed users places)
       → CountTheirRecords Disk.faults (counts_of users places are) (opened_in places)
   first_counted [] [] are = tt
   first_counted [] (p ∷ places) are = absurd are
@@ -169,49 +173,13 @@ module _ (directory header : List ℕ) {D : Type 0} {g : _} (told : Type 0) (Dis
   )
   first_counted (u ∷ users) (Refused journal disk why ∷ places) are = first_counted users places are.1
 
-  pub first_sound : (users : List User) (places : List (Place D g)) (are : Placed users places)
+  first_sound : (users : List User) (places : List (Place D g)) (are : Placed users places)
       → AllByRecursion (λ (held : Held D g). held.count ≡ count_of held.journal) (opened_in places)
   first_sound [] [] are = tt
   first_sound [] (p ∷ places) are = absurd are
   first_sound (u ∷ users) [] are = absurd are
   first_sound (u ∷ users) (Opened journal held ∷ places) are = (are.0.sound.1, first_sound users places are.1)
   first_sound (u ∷ users) (Refused journal disk why ∷ places) are = first_sound users places are.1
-
-  -- ---- all can be given back
-
-  module _ (differ : JournalsDiffer) (users : List User) (distinct : has_duplicate (names users) ≡ false) (places : List (Place D g))
-      (are : Placed users places) (all : List (Back D)) (named : map given_journal all ≡ parted places) where
-    pub can_distinct : has_duplicate (map given_journal all) ≡ false
-    can_distinct = ap has_duplicate named
-        ∙ distinct_parted places (ap has_duplicate (place_journals directory header told Disk disk0 count0 users places are)
-        ∙ journals_distinct directory differ (names users) ∙ distinct)
-
-    among_all : (name : Text) → is_among (map given_journal all) name ≡ is_among (map place_journal places) name
-    among_all name = ap (λ ns. is_among ns name) named ∙ among_parted places name
-
-    pub can_out : (is_out : Text → Bool) → AreOut (map place_journal places) is_out → AllOut (map given_journal all) is_out
-    can_out is_out out name among = out name ∙ sym (among_all name) ∙ among
-
-    -- and once they are, no other disk was touched
-    pub all_returned : (disk disk1 : Text → Option D) (is_out is_out1 : Text → Bool) (count count1 : Text → ℕ) → AreOut (map place_journal places) is_out
-        → SameBeside (registered_journals directory users) disk0 disk → SameNames count0 count
-        → AllByRecursion (λ (p : Place D g). count0 (place_journal p) ≤ count1 (place_journal p)) places
-        → AreReturned given_journal (IsGiven told Disk) all disk disk1 is_out is_out1 count count1
-        → AllReturned (registered_journals directory users) disk0 disk1 is_out1 count0 count1
-    all_returned disk disk1 is_out is_out1 count count1 out disks counts fell given = record {
-      disks = λ name none. given.disks name (among name ∙ none) ∙ disks name none;
-      inside = none_out (map given_journal all) is_out is_out1 (λ name. out name ∙ sym (among_all name)) given.inside given.others_out;
-      counts = by_among (λ name. count0 name ≤ count1 name) (map place_journal places)
-          (at_names place_journal (λ name. count0 name ≤ count1 name) places fell)
-          (λ name none.
-          let now = given.counts name (among_all name ∙ none) in
-          let was = counts name in
-          omega (arith, now, was));
-      other_counts = λ name none. given.counts name (among name ∙ none) ∙ counts name;
-    }
-      where
-        among : (name : Text) → is_among (map given_journal all) name ≡ is_among (registered_journals directory users) name
-        among name = among_all name ∙ ap (λ ns. is_among ns name) (place_journals directory header told Disk disk0 count0 users places are)
 
   -- ---- what is left of each
 
@@ -221,7 +189,7 @@ module _ (directory header : List ℕ) {D : Type 0} {g : _} (told : Type 0) (Dis
       pub others : AllByRecursion (λ (b : Back D). IsUnder told Disk disk1 count1 (given_journal b) b.disk) (others_in places)
       pub opened : AllZip (IsUnder told Disk disk1 count1) (names_in places) (map held_disk after)
 
-    pub are_back : (places : List (Place D g)) (after : List (Held D g)) (all : List (Back D)) → map given_journal all ≡ parted places
+    are_back : (places : List (Place D g)) (after : List (Held D g)) (all : List (Back D)) → map given_journal all ≡ parted places
         → map (λ (b : Back D). b.disk) all ≡ map (λ (b : Back D). b.disk) (others_in places) ++ map held_disk after
         → AllByRecursion (IsGiven told Disk disk1 count1) all → AreBack places after
     are_back places after all named disks back =
@@ -230,7 +198,7 @@ module _ (directory header : List ℕ) {D : Type 0} {g : _} (told : Type 0) (Dis
         record { others = both.0; opened = both.1 }
 
     -- no count fell
-    pub fell_all : (users : List User) (places : List (Place D g)) (are : Placed users places) (after : List (Held D g)) → AreBack places after
+    fell_all : (users : List User) (places : List (Place D g)) (are : Placed users places) (after : List (Held D g)) → AreBack places after
         → CountTheirRecords Disk.faults (counts_of users places are) after
         → AllByRecursion (λ (p : Place D g). count0 (place_journal p) ≤ count1 (place_journal p)) places
     fell_all [] [] are after back counted = tt
@@ -255,9 +223,9 @@ module _ (directory header : List ℕ) {D : Type 0} {g : _} (told : Type 0) (Dis
         )
 
     -- where an append failed, the count of that user's disk rose
-    pub some_failed : (users : List User) (places : List (Place D g)) (are : Placed users places) (after : List (Held D g)) → AreBack places after
+    some_failed : (users : List User) (places : List (Place D g)) (are : Placed users places) (after : List (Held D g)) → AreBack places after
         → CountTheirRecords Disk.faults (counts_of users places are) after → has_broken after ≡ true
-        → SomeFailed (journals_by Disk.reads Disk.image Disk.moment Disk.image_since Disk.tellable directory disk0 disk1 count0 count1) users
+        → SomeFailed (own_journals Disk directory disk0 disk1 count0 count1) users
     some_failed [] [] are [] back counted broken = absurd cc
     some_failed [] [] are (h ∷ after) back counted broken = absurd counted
     some_failed [] (p ∷ places) are after back counted broken = absurd are
@@ -269,8 +237,8 @@ module _ (directory header : List ℕ) {D : Type 0} {g : _} (told : Type 0) (Dis
       where
         by : (b : Bool) → is_broken h.journal ≡ b
             → (has_broken after ≡ true
-            → SomeFailed (journals_by Disk.reads Disk.image Disk.moment Disk.image_since Disk.tellable directory disk0 disk1 count0 count1) users)
-            → SomeFailed (journals_by Disk.reads Disk.image Disk.moment Disk.image_since Disk.tellable directory disk0 disk1 count0 count1) (u ∷ users)
+            → SomeFailed (own_journals Disk directory disk0 disk1 count0 count1) users)
+            → SomeFailed (own_journals Disk directory disk0 disk1 count0 count1) (u ∷ users)
         by true is later =
             inl (subst (λ n. Rose n (count1 (journal_name directory (string_bytes u.name)))) are.0.counted
             (subst (λ n. Rose (Disk.faults are.0.taken) n) (sym back.opened.0.counted ∙ ap count1 are.0.journal_is) (counted.0.rose is)))
@@ -315,15 +283,11 @@ module _ (directory header : List ℕ) {D : Type 0} {g : _} (told : Type 0) (Dis
 
       -- and each at the moments since then some first ones, and so what follows from them
       stood_along : (stands : List ℕ → Type 0) → ((c : List ℕ) → HasCopied header (length began_with) (copy_in Disk.reads h) c → stands c)
-          → StandsAllAlong
-          (journals_by Disk.reads Disk.image Disk.moment Disk.image_since Disk.tellable directory disk0 disk1 count0 count1)
-          (string_bytes u.name)
-          true
+          → StandsAllAlong (own_journals Disk directory disk0 disk1 count0 count1) (string_bytes u.name) true
           stands
       stood_along stands weaker =
           let now = held_disk h in
-          stands_along (journals_by Disk.reads Disk.image Disk.moment Disk.image_since Disk.tellable directory disk0 disk1 count0 count1) (string_bytes u.name)
-          false stands
+          stands_along (own_journals Disk directory disk0 disk1 count0 count1) (string_bytes u.name) false stands
           (Disk.moment is.taken) (Disk.moment (held_disk held)) (Disk.moment now) (Disk.moment now) (Disk.image_since is.taken)
           (Disk.image_since (held_disk held)) (Disk.image_since now) (Disk.image is.taken) (Disk.image now)
           (taken_moment Disk.reads Disk.image Disk.moment (disk0 own) is.taken (is.from s))
@@ -334,7 +298,7 @@ module _ (directory header : List ℕ) {D : Type 0} {g : _} (told : Type 0) (Dis
           (λ fine c here. weaker c (lasts.stood c here)) (λ fine c here. weaker c (as_begun c (lasts.leaves_it c here)))
           (λ refused. absurd cc) (λ refused. absurd cc)
 
-      pub has_grown : GrowsJournal header (journals_by Disk.reads Disk.image Disk.moment Disk.image_since Disk.tellable directory disk0 disk1 count0 count1)
+      has_grown : GrowsJournal header (own_journals Disk directory disk0 disk1 count0 count1)
           (string_bytes u.name)
       has_grown = record {
         first = began_with;
@@ -344,10 +308,8 @@ module _ (directory header : List ℕ) {D : Type 0} {g : _} (told : Type 0) (Dis
             (λ c some. begins_with header began_with lasts.more (copy_in Disk.reads h) c lasts.grew some);
       }
 
-      pub has_copied : count_of held.journal ≡ length began_with → held_name h ≡ held_name held
-          → IsCopyOf header
-          (journals_by Disk.reads Disk.image Disk.moment Disk.image_since Disk.tellable directory disk0 disk1 count0 count1)
-          (string_bytes u.name)
+      has_copied : count_of held.journal ≡ length began_with → held_name h ≡ held_name held
+          → IsCopyOf header (own_journals Disk directory disk0 disk1 count0 count1) (string_bytes u.name)
           (copy_in Disk.reads held) (copy_in Disk.reads h)
       has_copied counts names_are =
           let counted : held.count ≡ length began_with = is.sound.1 ∙ counts in
@@ -368,10 +330,10 @@ module _ (directory header : List ℕ) {D : Type 0} {g : _} (told : Type 0) (Dis
           }
 
     -- each journal that was opened grew, and each other is as it was
-    pub all_copied : told → Disk.tells → CountsNow Disk → OnlyNow Disk
+    all_copied : told → Disk.tells → CountsNow Disk → OnlyNow Disk
         → (users : List User) (places : List (Place D g)) (are : Placed users places) (after : List (Held D g))
         → AreBack places after → AllLast Disk header (map held_disk (opened_in places)) after
-        → AreCopied header (journals_by Disk.reads Disk.image Disk.moment Disk.image_since Disk.tellable directory disk0 disk1 count0 count1) users
+        → AreCopied header (own_journals Disk directory disk0 disk1 count0 count1) users
         (map place_refusal places)
     all_copied s t counts_now only_now [] [] are after back lasts = tt
     all_copied s t counts_now only_now [] (p ∷ places) are after back lasts = absurd are
@@ -398,12 +360,12 @@ module _ (directory header : List ℕ) {D : Type 0} {g : _} (told : Type 0) (Dis
         )
 
     -- the copies of those that were opened, as the serving began and as it was left, are those of these users' journals
-    pub all_served : told → Disk.tells → CountsNow Disk → OnlyNow Disk
+    all_served : told → Disk.tells → CountsNow Disk → OnlyNow Disk
         → ((held : Held D g) → is_broken held.journal ≡ false → count_of held.journal ≡ length (records (Disk.reads (disk_of held.journal))))
         → (users : List User) (places : List (Place D g)) (are : Placed users places) (after : List (Held D g))
         → AreBack places after → AllLast Disk header (map held_disk (opened_in places)) after
         → map held_name after ≡ map held_name (opened_in places)
-        → AreCopiesOf header (journals_by Disk.reads Disk.image Disk.moment Disk.image_since Disk.tellable directory disk0 disk1 count0 count1) users
+        → AreCopiesOf header (own_journals Disk directory disk0 disk1 count0 count1) users
         (map place_refusal places) (map (copy_in Disk.reads) (opened_in places)) (map (copy_in Disk.reads) after)
     all_served s t counts_now only_now counts [] [] are [] back lasts named = tt
     all_served s t counts_now only_now counts [] [] are (h ∷ after) back lasts named = absurd lasts
@@ -418,3 +380,102 @@ module _ (directory header : List ℕ) {D : Type 0} {g : _} (told : Type 0) (Dis
     )
     all_served s t counts_now only_now counts (u ∷ users) (Refused journal disk why ∷ places) are after back lasts named =
         all_served s t counts_now only_now counts users places are.1 after (record { others = back.others.1; opened = back.opened }) lasts named
+
+-- the journals of all users are opened, in order, and their names differ
+pub record ArePlaced (directory header : List ℕ) {D : Type 0} {g : _} (told : Type 0) (Disk : DiskGhosts D) (disk0 : Text → Option D) (count0 : Text → ℕ)
+    (users : List User) (places : List (Place D g)) : Type 0 where
+  pub are : ArePlacesOf told Disk header directory disk0 count0 users places
+  pub differ : JournalsDiffer
+  pub distinct : has_duplicate (names users) ≡ false
+
+module _ {directory header : List ℕ} {D : Type 0} {g : _} {told : Type 0} {Disk : DiskGhosts D} {disk0 : Text → Option D} {count0 : Text → ℕ}
+    {users : List User} {places : List (Place D g)} (placed : ArePlaced directory header told Disk disk0 count0 users places) where
+  pub placed_many : length places ≡ length users
+  placed_many = places_many directory header told Disk disk0 count0 users places placed.are
+
+  pub placed_sound : AllByRecursion (λ (held : Held D g). held.count ≡ count_of held.journal) (opened_in places)
+  placed_sound = first_sound directory header told Disk disk0 count0 users places placed.are
+
+  -- ---- all can be given back
+
+  module _ (all : List (Back D)) (named : map given_journal all ≡ parted places) where
+    pub can_distinct : has_duplicate (map given_journal all) ≡ false
+    can_distinct = ap has_duplicate named
+        ∙ distinct_parted places (ap has_duplicate (place_journals directory header told Disk disk0 count0 users places placed.are)
+        ∙ journals_distinct directory placed.differ (names users) ∙ placed.distinct)
+
+    among_all : (name : Text) → is_among (map given_journal all) name ≡ is_among (map place_journal places) name
+    among_all name = ap (λ ns. is_among ns name) named ∙ among_parted places name
+
+    pub can_out : {is_out : Text → Bool} → AreOut (map place_journal places) is_out → AllOut (map given_journal all) is_out
+    can_out out name among = out name ∙ sym (among_all name) ∙ among
+
+-- what was opened is back: the journals, with the counts of their disks and the records that they began with, and the disks of the others
+pub record AreLeft (directory header : List ℕ) {D : Type 0} {g : _} (told : Type 0) (Disk : DiskGhosts D) (disk0 : Text → Option D) (count0 : Text → ℕ)
+    (users : List User) (places : List (Place D g)) (disk1 : Text → Option D) (count1 : Text → ℕ) (after : List (Held D g)) : Type 0 where
+  pub placed : ArePlaced directory header told Disk disk0 count0 users places
+  pub back : AreBack directory header told Disk disk0 count0 disk1 count1 places after
+  pub counted : CountTheirRecords Disk.faults (counts_of directory header told Disk disk0 count0 users places placed.are) after
+  pub lasts : Disk.tells → AllLast Disk header (map held_disk (opened_in places)) after
+
+pub are_left : {directory header : List ℕ} {D : Type 0} {g : _} {told : Type 0} {Disk : DiskGhosts D} {disk0 : Text → Option D} {count0 : Text → ℕ}
+    {users : List User} {places : List (Place D g)} {disk1 : Text → Option D} {count1 : Text → ℕ} {after : List (Held D g)}
+    → ArePlaced directory header told Disk disk0 count0 users places → (all : List (Back D)) → map given_journal all ≡ parted places
+    → map (λ (b : Back D). b.disk) all ≡ map (λ (b : Back D). b.disk) (others_in places) ++ map held_disk after
+    → AllByRecursion (IsGiven told Disk disk1 count1) all
+    → ((counts : List ℕ) → CountTheirRecords Disk.faults counts (opened_in places) → CountTheirRecords Disk.faults counts after)
+    → (Disk.tells → (disks : List D) → AllLast Disk header disks (opened_in places) → AllLast Disk header disks after)
+    → AreLeft directory header told Disk disk0 count0 users places disk1 count1 after
+are_left {directory} {header} {told} {Disk} {disk0} {count0} {users} {places} {disk1} {count1} {after} placed all named disks back counted lasts =
+    record {
+      placed = placed;
+      back = are_back directory header told Disk disk0 count0 disk1 count1 places after all named disks back;
+      counted = counted (counts_of directory header told Disk disk0 count0 users places placed.are)
+          (first_counted directory header told Disk disk0 count0 users places placed.are);
+      lasts = λ t. lasts t (map held_disk (opened_in places)) (first_lasts directory header told Disk disk0 count0 t users places placed.are);
+    }
+
+module _ {directory header : List ℕ} {D : Type 0} {g : _} {told : Type 0} {Disk : DiskGhosts D} {disk0 : Text → Option D} {count0 : Text → ℕ}
+    {users : List User} {places : List (Place D g)} {disk1 : Text → Option D} {count1 : Text → ℕ} {after : List (Held D g)}
+    (left : AreLeft directory header told Disk disk0 count0 users places disk1 count1 after) where
+  pub left_failed : has_broken after ≡ true → SomeFailed (own_journals Disk directory disk0 disk1 count0 count1) users
+  left_failed = some_failed directory header told Disk disk0 count0 disk1 count1 users places left.placed.are after left.back left.counted
+
+  pub left_rose : has_broken after ≡ true → SomeRose count0 count1
+  left_rose broken = rose_of Disk directory disk0 disk1 count0 count1 users (left_failed broken)
+
+  pub left_copied : told → Disk.tells → CountsNow Disk → OnlyNow Disk
+      → AreCopied header (own_journals Disk directory disk0 disk1 count0 count1) users (map place_refusal places)
+  left_copied s t counts_now only_now =
+      all_copied directory header told Disk disk0 count0 disk1 count1 s t counts_now only_now users places left.placed.are after left.back (left.lasts t)
+
+  pub left_served : told → Disk.tells → CountsNow Disk → OnlyNow Disk
+      → ((held : Held D g) → is_broken held.journal ≡ false → count_of held.journal ≡ length (records (Disk.reads (disk_of held.journal))))
+      → map held_name after ≡ map held_name (opened_in places)
+      → AreCopiesOf header (own_journals Disk directory disk0 disk1 count0 count1) users (map place_refusal places)
+      (map (copy_in Disk.reads) (opened_in places)) (map (copy_in Disk.reads) after)
+  left_served s t counts_now only_now counts =
+      all_served directory header told Disk disk0 count0 disk1 count1 s t counts_now only_now counts users places left.placed.are after left.back (left.lasts t)
+
+  -- no other disk was touched
+  pub left_returned : {all : List (Back D)} → map given_journal all ≡ parted places
+      → {disk : Text → Option D} {is_out is_out1 : Text → Bool} {count : Text → ℕ} → AreOut (map place_journal places) is_out
+      → SameBeside (registered_journals directory users) disk0 disk → SameNames count0 count
+      → AreReturned given_journal (IsGiven told Disk) all disk disk1 is_out is_out1 count count1
+      → AllReturned (registered_journals directory users) disk0 disk1 is_out1 count0 count1
+  left_returned {all} named {disk} {is_out} {is_out1} {count} out disks counts given = record {
+    disks = λ name none. given.disks name (among name ∙ none) ∙ disks name none;
+    inside = none_out (map given_journal all) is_out is_out1 (λ name. out name ∙ sym (among_all left.placed all named name)) given.inside given.others_out;
+    counts = by_among (λ name. count0 name ≤ count1 name) (map place_journal places)
+        (at_names place_journal (λ name. count0 name ≤ count1 name) places
+        (fell_all directory header told Disk disk0 count0 disk1 count1 users places left.placed.are after left.back left.counted))
+        (λ name none.
+        let now = given.counts name (among_all left.placed all named name ∙ none) in
+        let was = counts name in
+        omega (arith, now, was));
+    other_counts = λ name none. given.counts name (among name ∙ none) ∙ counts name;
+  }
+    where
+      among : (name : Text) → is_among (map given_journal all) name ≡ is_among (registered_journals directory users) name
+      among name = among_all left.placed all named name
+          ∙ ap (λ ns. is_among ns name) (place_journals directory header told Disk disk0 count0 users places left.placed.are)

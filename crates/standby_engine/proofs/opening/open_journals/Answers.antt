@@ -1,21 +1,18 @@
-use Rattle.std.proofs.Common.{◌≡◌, ◌+◌, length, refl, sym, ap, subst, ◌∙◌, arith}
-use Rattle.std.specs.Prelude.{Err, string_bytes}
-use Rattle.std.proofs.lemmas.List.{take_all}
-use Rattle.outside.specs.Shelf.{Lent, AllOut}
+use Rattle.std.proofs.Common.{◌≡◌, ◌∙◌, length, refl, sym, ap, subst, arith}
+use Rattle.std.specs.Prelude.{Err}
+use Rattle.outside.specs.Shelf.{Lent}
 use Rattle.outside.proofs.Rises.{rose_wide}
 use Rattle.cqe_base.specs.Schema.{has_duplicate}
-use Rattle.log_journal.specs.Names.{journal_name}
-use Rattle.log_journal.specs.Opening.{header_bytes}
 use Rattle.desk_crew.specs.Registered.{registered_journals}
-use Rattle.standby_engine.specs.Opened.{place_journal, ArePlacesOf, AreOwn, PlacesOwn}
+use Rattle.standby_engine.specs.Opened.{place_journal, AreOwn, PlacesOwn}
 use Rattle.standby_engine.proofs.Owning.{place_more, own_disks}
 use Rattle.standby_engine.specs.declared.opening.NotOpened.TheVariants.{Shelf}
-use Rattle.standby_engine.proofs.Places.{NoneOpened, Opening, StaysBut, opening_none, opening_distinct, opening_out}
-use Rattle.standby_engine.proofs.Places.{opening_beside, opening_in, opening_more, opening_back}
+use Rattle.standby_engine.proofs.Places.{NoneOpened, opening_none, opening_distinct, opening_out, opening_beside}
+use Rattle.standby_engine.proofs.Places.{opening_all, opening_in, opening_more, opening_back}
 use Rattle.standby_engine.proofs.Returning.{stays_same}
 use Rattle.standby_engine.proofs.opening.open_journals.Given.{Over}
 use Rattle.standby_engine.proofs.opening.open_journals.Goals as goal
-use Rattle.standby_engine.proofs.opening.open_journals.Goals.{After-give_back, In-Err}
+use Rattle.standby_engine.proofs.opening.open_journals.Goals.{After-give_back}
 
 pub returns-in_default-clause-refused : goal.returns-in_default-clause-refused
 returns-in_default-clause-refused g c = λ told.
@@ -26,50 +23,24 @@ returns-in_default-clause-fell g c name = omega arith
 
 pub open_one-requires : goal.open_one-requires
 open_one-requires g c =
-    opening_in c.args.directory.now (header_bytes c.args.header.now) g.F.Shelf.tells g.F.D.Disk (g.F.Shelf.disk c.args.shelf.now)
-    (g.F.Shelf.disk_faults c.args.shelf.now)
-    c.law_journals_differ.ensures c.args.users.now c.requires.distinct c.loop-user.user-index c.loop-user.places.items
-    (g.F.Shelf.disk c.loop-user.shelf) (g.F.Shelf.is_out c.loop-user.shelf) (g.F.Shelf.disk_faults c.loop-user.shelf) c.loop-user.invariant.opening
-    c.user-item.result c.loop-user-test.true c.user-item.is
+    opening_in c.loop-user.invariant.opening c.law_journals_differ.ensures c.requires.distinct c.loop-user-test.true c.user-item.is
 
 -- ---- a journal wasn't opened
 
-stays : (g : Over) (c : In-Err g)
-    → StaysBut g.F.Shelf.tells g.F.D.Disk (journal_name c.args.directory.now (string_bytes c.user-item.result.name)) (g.F.Shelf.disk c.loop-user.shelf)
-    (g.F.Shelf.disk c.open_one.new.shelf) (g.F.Shelf.is_out c.loop-user.shelf) (g.F.Shelf.is_out c.open_one.new.shelf)
-    (g.F.Shelf.disk_faults c.loop-user.shelf) (g.F.Shelf.disk_faults c.open_one.new.shelf)
-stays g c = record {
-  same = c.in-Err.ensures.refused;
-  out = c.in-Err.ensures.refused_out;
-  disks = c.open_one.ensures.disks;
-  fell = c.open_one.ensures.fell;
-  other_counts = c.open_one.ensures.other_counts;
-}
-
 pub disks_of-back-requires-clause-room : goal.disks_of-back-requires-clause-room
 disks_of-back-requires-clause-room g c =
-    let room = c.in-Ok-Ok.ensures'.room in
-    let count = c.loop-user.invariant.count in
-    let len = c.loop-user.places.ok.0 in
-    let low = c.loop-user-test.true in
-    omega (arith, room, count, len, low)
+    omega (arith, c.in-Ok-Ok.ensures'.room, c.loop-user.invariant.count, c.loop-user.places.ok.0, c.loop-user-test.true)
 
 pub give_back-requires-clause-distinct : goal.give_back-requires-clause-distinct
 give_back-requires-clause-distinct g c =
     ap has_duplicate c.disks_of-back.ensures.names
-    ∙ opening_distinct c.args.directory.now (header_bytes c.args.header.now) g.F.Shelf.tells g.F.D.Disk (g.F.Shelf.disk c.args.shelf.now)
-    (g.F.Shelf.disk_faults c.args.shelf.now)
-    c.law_journals_differ.ensures c.args.users.now c.requires.distinct c.loop-user.user-index c.loop-user.places.items
-    (g.F.Shelf.disk c.loop-user.shelf) (g.F.Shelf.is_out c.loop-user.shelf) (g.F.Shelf.disk_faults c.loop-user.shelf) c.loop-user.invariant.opening
+    ∙ opening_distinct c.loop-user.invariant.opening c.law_journals_differ.ensures c.requires.distinct
 
 pub give_back-requires-clause-out : goal.give_back-requires-clause-out
 give_back-requires-clause-out g c =
-    subst (λ ns. AllOut ns (g.F.Shelf.is_out c.open_one.new.shelf)) (sym c.disks_of-back.ensures.names)
-    (opening_out c.args.directory.now (header_bytes c.args.header.now) g.F.Shelf.tells g.F.D.Disk (g.F.Shelf.disk c.args.shelf.now)
-    (g.F.Shelf.disk_faults c.args.shelf.now)
-    c.law_journals_differ.ensures c.args.users.now c.requires.distinct c.loop-user.user-index c.loop-user.places.items
-    (g.F.Shelf.disk c.loop-user.shelf) (g.F.Shelf.is_out c.loop-user.shelf) (g.F.Shelf.disk_faults c.loop-user.shelf) c.loop-user.invariant.opening
-    (g.F.Shelf.is_out c.open_one.new.shelf) (stays g (goal.at.give_back-requires-clause-out g c).In-Err).out)
+    rw c.disks_of-back.ensures.names
+    (opening_out c.loop-user.invariant.opening c.law_journals_differ.ensures c.requires.distinct (g.F.Shelf.is_out c.open_one.new.shelf)
+    c.in-Err.ensures.refused_out)
 
 pub give_back-requires-clause-own : goal.give_back-requires-clause-own
 give_back-requires-clause-own g c =
@@ -78,50 +49,41 @@ give_back-requires-clause-own g c =
     (own_disks g.F.D.Disk.origin (g.F.Shelf.lent c.args.shelf.now).origin c.loop-user.places.items c.disks_of-back.result.items
     c.disks_of-back.ensures.names c.disks_of-back.ensures.disks c.loop-user.invariant.own)
 
--- and then all disks are as they were
+-- all disks are as they were
 left : (g : Over) (c : After-give_back g)
-    → StaysBut g.F.Shelf.tells g.F.D.Disk (journal_name c.args.directory.now (string_bytes c.user-item.result.name)) (g.F.Shelf.disk c.loop-user.shelf)
-    (g.F.Shelf.disk c.open_one.new.shelf) (g.F.Shelf.is_out c.loop-user.shelf) (g.F.Shelf.is_out c.open_one.new.shelf)
-    (g.F.Shelf.disk_faults c.loop-user.shelf) (g.F.Shelf.disk_faults c.open_one.new.shelf)
     → NoneOpened g.F.Shelf.tells g.F.D.Disk (registered_journals c.args.directory.now c.args.users.now) (g.F.Shelf.disk c.args.shelf.now)
     (g.F.Shelf.disk c.give_back.new.shelf) (g.F.Shelf.is_out c.give_back.new.shelf) (g.F.Shelf.disk_faults c.args.shelf.now)
     (g.F.Shelf.disk_faults c.give_back.new.shelf)
-left g c as_it_was =
+left g c =
+    let tried = c.open_one.ensures in
     let given = c.give_back.ensures in
-    opening_back c.args.directory.now (header_bytes c.args.header.now) g.F.Shelf.tells g.F.D.Disk (g.F.Shelf.disk c.args.shelf.now)
-    (g.F.Shelf.disk_faults c.args.shelf.now)
-    c.law_journals_differ.ensures c.args.users.now c.requires.distinct c.loop-user.user-index c.loop-user.places.items
-    (g.F.Shelf.disk c.loop-user.shelf) (g.F.Shelf.is_out c.loop-user.shelf) (g.F.Shelf.disk_faults c.loop-user.shelf) c.loop-user.invariant.opening
-    c.user-item.result c.loop-user-test.true c.user-item.is g.met.F.D.Disk.only_now
-    (g.F.Shelf.disk c.open_one.new.shelf) (g.F.Shelf.disk c.give_back.new.shelf) (g.F.Shelf.is_out c.open_one.new.shelf)
-    (g.F.Shelf.is_out c.give_back.new.shelf) (g.F.Shelf.disk_faults c.open_one.new.shelf) (g.F.Shelf.disk_faults c.give_back.new.shelf) as_it_was
+    opening_back c.loop-user.invariant.opening c.law_journals_differ.ensures c.requires.distinct c.loop-user-test.true c.user-item.is
+    g.met.F.D.Disk.only_now (g.F.Shelf.disk c.open_one.new.shelf) (g.F.Shelf.is_out c.open_one.new.shelf) (g.F.Shelf.disk_faults c.open_one.new.shelf)
+    (record {
+      same = c.in-Err.ensures.refused;
+      out = c.in-Err.ensures.refused_out;
+      disks = tried.disks;
+      fell = tried.fell;
+      other_counts = tried.other_counts;
+    })
     c.disks_of-back.result.items c.disks_of-back.ensures.names c.disks_of-back.ensures.disks
     (record { back = given.back; inside = given.inside; others_out = given.others_out; disks = given.disks; counts = given.counts })
 
 pub returns-in-Err-clause-refused_out : goal.returns-in-Err-clause-refused_out
-returns-in-Err-clause-refused_out g c =
-    let at = goal.at.returns-in-Err-clause-refused_out g c in
-    (left g at.After-give_back (stays g at.In-Err)).inside
+returns-in-Err-clause-refused_out g c = (left g (goal.at.returns-in-Err-clause-refused_out g c).After-give_back).inside
 
 pub returns-in-Err-clause-disks : goal.returns-in-Err-clause-disks
-returns-in-Err-clause-disks g c =
-    let at = goal.at.returns-in-Err-clause-disks g c in
-    (left g at.After-give_back (stays g at.In-Err)).disks
+returns-in-Err-clause-disks g c = (left g (goal.at.returns-in-Err-clause-disks g c).After-give_back).disks
 
 pub returns-in-Err-clause-other_counts : goal.returns-in-Err-clause-other_counts
-returns-in-Err-clause-other_counts g c =
-    let at = goal.at.returns-in-Err-clause-other_counts g c in
-    (left g at.After-give_back (stays g at.In-Err)).other_counts
+returns-in-Err-clause-other_counts g c = (left g (goal.at.returns-in-Err-clause-other_counts g c).After-give_back).other_counts
 
 pub returns-in-Err-clause-fell : goal.returns-in-Err-clause-fell
-returns-in-Err-clause-fell g c =
-    let at = goal.at.returns-in-Err-clause-fell g c in
-    (left g at.After-give_back (stays g at.In-Err)).counts
+returns-in-Err-clause-fell g c = (left g (goal.at.returns-in-Err-clause-fell g c).After-give_back).counts
 
 pub returns-in-Err-clause-refused : goal.returns-in-Err-clause-refused
 returns-in-Err-clause-refused g c = λ told.
-    let at = goal.at.returns-in-Err-clause-refused g c in
-    let same = (left g at.After-give_back (stays g at.In-Err)).same told in
+    let same = (left g (goal.at.returns-in-Err-clause-refused g c).After-give_back).same told in
     (λ name. (same name).0, λ name. (same name).1, λ name. (same name).2)
 
 pub returns-in-Err-clause-files : goal.returns-in-Err-clause-files
@@ -140,59 +102,39 @@ returns-in-Err-clause-cause g c = λ is.
 pub loop-user-preserved : goal.loop-user-preserved
 loop-user-preserved g c =
     let so_far = c.loop-user.invariant in
-    let grown = c.push_reserved.ensures.len in
-    let space = c.push_reserved.ensures.capacity in
-    let room = so_far.room in
-    let count = so_far.count in
-    let before = so_far.later in
-    let on = c.in-Ok.ensures.later in
+    let tried = c.in-Ok.ensures in
     record {
-      opening = subst (λ l.
-          Opening c.args.directory.now (header_bytes c.args.header.now) g.F.Shelf.tells g.F.D.Disk (g.F.Shelf.disk c.args.shelf.now)
-          (g.F.Shelf.disk_faults c.args.shelf.now) c.args.users.now (c.loop-user.user-index + 1) l (g.F.Shelf.disk c.open_one.new.shelf)
-          (g.F.Shelf.is_out c.open_one.new.shelf) (g.F.Shelf.disk_faults c.open_one.new.shelf)) (sym c.push_reserved.ensures.items)
-          (opening_more c.args.directory.now (header_bytes c.args.header.now) g.F.Shelf.tells g.F.D.Disk (g.F.Shelf.disk c.args.shelf.now)
-          (g.F.Shelf.disk_faults c.args.shelf.now) c.law_journals_differ.ensures c.args.users.now c.requires.distinct c.loop-user.user-index
-          c.loop-user.places.items (g.F.Shelf.disk c.loop-user.shelf) (g.F.Shelf.is_out c.loop-user.shelf) (g.F.Shelf.disk_faults c.loop-user.shelf)
-          so_far.opening c.user-item.result c.loop-user-test.true c.user-item.is c.in-Ok.place (g.F.Shelf.disk c.open_one.new.shelf)
-          (g.F.Shelf.is_out c.open_one.new.shelf) (g.F.Shelf.disk_faults c.open_one.new.shelf) c.in-Ok.ensures.opened c.in-Ok.ensures.out
-          c.in-Ok.ensures.others_out c.in-Ok.ensures.disks c.in-Ok.ensures.counts);
-      room = omega (arith, room, space);
-      count = omega (arith, count, grown);
-      later = omega (arith, before, on);
-      own = subst (PlacesOwn g.F.D.Disk.origin (g.F.Shelf.lent c.args.shelf.now).origin) (sym c.push_reserved.ensures.items)
+      opening = rw c.push_reserved.ensures.items
+          (opening_more so_far.opening c.law_journals_differ.ensures c.requires.distinct c.loop-user-test.true c.user-item.is tried.opened tried.out
+          tried.others_out tried.disks tried.counts);
+      room = omega (arith, so_far.room, c.push_reserved.ensures.capacity);
+      count = omega (arith, so_far.count, c.push_reserved.ensures.len);
+      later = omega (arith, so_far.later, tried.later);
+      own = rw c.push_reserved.ensures.items
           (place_more g.F.D.Disk.origin (g.F.Shelf.lent c.args.shelf.now).origin c.loop-user.places.items c.in-Ok.place so_far.own
-          (c.in-Ok.ensures.own ∙ ap (λ (l : Lent). l.origin (place_journal c.in-Ok.place)) so_far.lent));
+          (tried.own ∙ ap (λ (l : Lent). l.origin (place_journal c.in-Ok.place)) so_far.lent));
       lent = c.open_one.ensures.lent ∙ so_far.lent;
       looked = c.open_one.ensures.looked ∙ so_far.looked;
       files = λ name. c.open_one.ensures.files name ∙ so_far.files name;
     }
 
 pub loop-user-init : goal.loop-user-init
-loop-user-init g c =
-    let len = c.in-Ok-Ok.empty.ok.0 in
-    let none = ap length c.in-Ok-Ok.ensures.empty in
-    let room = c.in-Ok-Ok.ensures.room in
-    record {
-      opening = opening_none c.args.directory.now (header_bytes c.args.header.now) g.F.Shelf.tells g.F.D.Disk (g.F.Shelf.disk c.args.shelf.now)
-          (g.F.Shelf.disk_faults c.args.shelf.now) c.args.users.now c.in-Ok-Ok.empty.items (g.F.Shelf.is_out c.args.shelf.now)
-          c.in-Ok-Ok.ensures.empty c.requires.inside;
-      room = omega (arith, room);
-      count = omega (arith, len, none);
-      later = omega arith;
-      own = subst (PlacesOwn g.F.D.Disk.origin (g.F.Shelf.lent c.args.shelf.now).origin) (sym c.in-Ok-Ok.ensures.empty) refl;
-      lent = refl;
-      looked = refl;
-      files = λ name. refl;
-    }
+loop-user-init g c = record {
+  opening = opening_none _ _ _ _ _ _ c.in-Ok-Ok.ensures.empty c.requires.inside;
+  room = omega (arith, c.in-Ok-Ok.ensures.room);
+  count = omega (arith, c.in-Ok-Ok.empty.ok.0, ap length c.in-Ok-Ok.ensures.empty);
+  later = omega arith;
+  own = subst (PlacesOwn g.F.D.Disk.origin (g.F.Shelf.lent c.args.shelf.now).origin) (sym c.in-Ok-Ok.ensures.empty) refl;
+  lent = refl;
+  looked = refl;
+  files = λ name. refl;
+}
 
 -- ---- all journals are opened
 
 pub returns-clause-opened : goal.returns-clause-opened
 returns-clause-opened g c =
-    subst (λ us. ArePlacesOf g.F.Shelf.tells g.F.D.Disk (header_bytes c.args.header.now) c.args.directory.now (g.F.Shelf.disk c.args.shelf.now)
-    (g.F.Shelf.disk_faults c.args.shelf.now) us c.loop-user.places.items)
-    (take_all c.loop-user.user-index c.args.users.now (omega (arith, c.loop-user-test.false))) c.loop-user.invariant.opening.are
+    opening_all c.loop-user.invariant.opening c.law_journals_differ.ensures c.requires.distinct (omega (arith, c.loop-user-test.false))
 
 pub returns-clause-own : goal.returns-clause-own
 returns-clause-own g c =
@@ -207,15 +149,10 @@ returns-clause-counts g c = c.loop-user.invariant.opening.counts
 pub returns-clause-disks : goal.returns-clause-disks
 returns-clause-disks g c = λ name none.
     c.loop-user.invariant.opening.disks name
-    (opening_beside c.args.directory.now (header_bytes c.args.header.now) g.F.Shelf.tells g.F.D.Disk (g.F.Shelf.disk c.args.shelf.now)
-    (g.F.Shelf.disk_faults c.args.shelf.now)
-    c.law_journals_differ.ensures c.args.users.now c.requires.distinct c.loop-user.user-index c.loop-user.places.items
-    (g.F.Shelf.disk c.loop-user.shelf) (g.F.Shelf.is_out c.loop-user.shelf) (g.F.Shelf.disk_faults c.loop-user.shelf) c.loop-user.invariant.opening name none)
+    (opening_beside c.loop-user.invariant.opening c.law_journals_differ.ensures c.requires.distinct name none)
 
 pub returns-clause-other_counts : goal.returns-clause-other_counts
 returns-clause-other_counts g c = λ name none. c.loop-user.invariant.opening.counts name
 
 pub returns-clause-fell : goal.returns-clause-fell
-returns-clause-fell g c = λ name.
-    let same = c.loop-user.invariant.opening.counts name in
-    omega (arith, same)
+returns-clause-fell g c = λ name. omega (arith, c.loop-user.invariant.opening.counts name)
