@@ -9,7 +9,7 @@ use Rattle.cqe_base.specs.Refutation.{RefutationLine, is_refutation}
 use Rattle.entailment.specs.Certificates.{clauses_of_probe}
 use Rattle.dossier.specs.Fields.{is_alone}
 use Rattle.dossier.specs.Words.{line_in, facts_listed}
-use Rattle.dossier.specs.Checked.{Showing, Awaited, block, step, behind_block, refutation_end, refutation_line, at_end}
+use Rattle.dossier.specs.Checked.{Showing, Awaited, block, step, behind_block, refutation_end, refutation_line, history_at_end}
 use Rattle.dossier.specs.Promised.{IsButMemory}
 use Rattle.dossier.specs.Reading.{Unread, next_line, field_said, PassesLine, TakesLine, answer, ReadsOn}
 use Rattle.dossier.specs.Blocks.{Probed, reason_of, MayFollow, open_answer}
@@ -32,7 +32,7 @@ confirmed-is schema schema' told told' premise goal probe lines confirmed s t sa
 module _ (schema : DatabaseSchema) (world : FactSet) (name : Text) (user : UserProfile) where
   -- a line that has to be there is missing
   pub missing : (awaited : Awaited) (old new : Unread) (why : DossierError)
-      → at_end schema world name user awaited (next_line old) ≡ Err (refused.Form (next_line old)) → TakesLine old (Err why) new
+      → history_at_end schema world name user awaited (next_line old) ≡ Err (refused.Form (next_line old)) → TakesLine old (Err why) new
       → answer schema world name user (Ok awaited) old ≡ Err why
   missing awaited old new why at (passed, is) = answer-end schema world name user awaited old new passed ∙ at ∙ ap Err (sym is)
 

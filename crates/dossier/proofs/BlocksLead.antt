@@ -20,8 +20,8 @@ use Rattle.entailment.specs.Certificates.{clauses_of_probe}
 use Rattle.audit_text.specs.Text.{world_text}
 use Rattle.audit_print.specs.Said.{world_said}
 use Rattle.entailment.specs.Small.{is_small_literal, is_small_number, is_small_line}
-use Rattle.dossier.specs.Words.{line_in, world_of}
-use Rattle.dossier.specs.Written.{literal_text, number_text, line_text, follows_text, open_text, IsRightBlock}
+use Rattle.dossier.specs.Words.{line_in, listed_world}
+use Rattle.dossier.specs.Written.{literal_text, number_text, refutation_line_text, follows_text, open_text, IsRightBlock}
 use Rattle.dossier.specs.Right.{AreRightBlocks}
 use Rattle.dossier.specs.Checked.{Task, admitting, asking, adding, Showing, Awaited, block, step, is_countermodel, behind_task, awaited_for, behind_block}
 use Rattle.dossier.specs.Checked.{open_block, follows_block, refutation_line, block_line, step_line}
@@ -71,17 +71,17 @@ module _ (schema : DatabaseSchema) (world : FactSet) (name : Text) (user : UserP
   refutation-shows probe lines right =
       Entails-entails schema probe.premises probe.goal (refutation_entails schema probe.premises probe.goal lines right)
 
-  of-schema : (facts : List Fact) → list_all (is_fact_of schema) facts ≡ true → IsWorldOf schema (world_of facts)
+  of-schema : (facts : List Fact) → list_all (is_fact_of schema) facts ≡ true → IsWorldOf schema (listed_world facts)
   of-schema facts all fact has = list_all-Member (is_fact_of schema) facts all fact (from_list-Member facts fact has)
 
-  counter-shows : (probe : Probe) (facts : List Fact) → list_all (is_fact_of schema) facts ≡ true → is_countermodel schema probe (world_of facts) ≡ true
+  counter-shows : (probe : Probe) (facts : List Fact) → list_all (is_fact_of schema) facts ≡ true → is_countermodel schema probe (listed_world facts) ≡ true
       → follows probe ≡ false
   counter-shows probe facts all is =
       false_if_not_true (follows probe)
       (λ yes.
-      let holds : holds_in schema (world_of facts) probe.goal ≡ true =
-      entails-true schema probe.premises probe.goal yes (world_of facts) (of-schema facts all) (and_first _ _ is) in
-      let fails : not (holds_in schema (world_of facts) probe.goal) ≡ true = and_second _ _ is in
+      let holds : holds_in schema (listed_world facts) probe.goal ≡ true =
+      entails-true schema probe.premises probe.goal yes (listed_world facts) (of-schema facts all) (and_first _ _ is) in
+      let fails : not (holds_in schema (listed_world facts) probe.goal) ≡ true = and_second _ _ is in
       true_is_not_false (sym fails ∙ ap not holds))
 
   -- ---- a block
@@ -89,7 +89,7 @@ module _ (schema : DatabaseSchema) (world : FactSet) (name : Text) (user : UserP
   module _ (valid : is_valid_schema schema ≡ true) (s : Showing) where
     -- one that lists a world
     open-leads : (facts : List Fact) → list_all (is_fact_of schema) facts ≡ true → length facts ≤ 100000 → IsStrictlySortedBy fact_cmp facts
-        → is_countermodel schema s.probe (world_of facts) ≡ true
+        → is_countermodel schema s.probe (listed_world facts) ≡ true
         → LeadsOn (Ok (block s)) (open_text schema facts) (behind_block schema world name user s false)
     open-leads facts all few sorted counter =
         leads-one schema world name user (block s) (codes "open" ++ 32 ∷ listed_text schema facts) (behind_block schema world name user s false)
@@ -111,7 +111,7 @@ module _ (schema : DatabaseSchema) (world : FactSet) (name : Text) (user : UserP
 
     step-leads : (clauses : List (List Literal)) (done : List RefutationLine) (line : RefutationLine) → is_small_line line ≡ true
         → is_result line.clause (chain_result clauses line.chain) ≡ true
-        → LeadsOn (Ok (step s done)) (line_text line) (Ok (step s (done ++ line ∷ [])))
+        → LeadsOn (Ok (step s done)) (refutation_line_text line) (Ok (step s (done ++ line ∷ [])))
     step-leads clauses done line small right =
         let clause_small = and_first (list_all is_small_literal line.clause) (list_all is_small_number line.chain) small in
         let chain_small = and_second (list_all is_small_literal line.clause) (list_all is_small_number line.chain) small in
@@ -121,13 +121,13 @@ module _ (schema : DatabaseSchema) (world : FactSet) (name : Text) (user : UserP
         ∙ ap (refutation_line schema world name user n s done) (read-by clauses line.clause line.chain clause_small chain_small right))
 
     steps-lead : (clauses : List (List Literal)) (done lines : List RefutationLine) → list_all is_small_line lines ≡ true → lines_right clauses lines ≡ true
-        → LeadsOn (Ok (step s done)) (flat_map line_text lines) (Ok (step s (done ++ lines)))
+        → LeadsOn (Ok (step s done)) (flat_map refutation_line_text lines) (Ok (step s (done ++ lines)))
     steps-lead clauses done [] small right =
         subst (λ all. LeadsOn (Ok (step s done)) [] (Ok (step s all))) (sym (append-nil done)) (leads-none schema world name user (Ok (step s done)))
     steps-lead clauses done (line ∷ lines) small right =
-        subst (λ all. LeadsOn (Ok (step s done)) (flat_map line_text (line ∷ lines)) (Ok (step s all))) (append_assoc done (line ∷ []) lines)
-        (leads-both schema world name user (Ok (step s done)) (Ok (step s (done ++ line ∷ []))) (Ok (step s (done ++ line ∷ [] ++ lines))) (line_text line)
-        (flat_map line_text lines)
+        subst (λ all. LeadsOn (Ok (step s done)) (flat_map refutation_line_text (line ∷ lines)) (Ok (step s all))) (append_assoc done (line ∷ []) lines)
+        (leads-both schema world name user (Ok (step s done)) (Ok (step s (done ++ line ∷ []))) (Ok (step s (done ++ line ∷ [] ++ lines)))
+        (refutation_line_text line) (flat_map refutation_line_text lines)
         (step-leads clauses done line (and_first _ _ small) (and_first _ _ right))
         (steps-lead (clauses ++ line.clause ∷ []) (done ++ line ∷ []) lines (and_second _ _ small) (and_second _ _ right)))
 
@@ -136,8 +136,8 @@ module _ (schema : DatabaseSchema) (world : FactSet) (name : Text) (user : UserP
         → LeadsOn (Ok (block s)) (follows_text lines) (behind_block schema world name user s true)
     follows-leads lines is small right =
         leads-both schema world name user (Ok (block s)) (Ok (step s lines)) (behind_block schema world name user s true)
-        (codes "follows\n" ++ flat_map line_text lines) (codes "end\n")
-        (leads-both schema world name user (Ok (block s)) (Ok (step s [])) (Ok (step s lines)) (codes "follows\n") (flat_map line_text lines)
+        (codes "follows\n" ++ flat_map refutation_line_text lines) (codes "end\n")
+        (leads-both schema world name user (Ok (block s)) (Ok (step s [])) (Ok (step s lines)) (codes "follows\n") (flat_map refutation_line_text lines)
         (leads-one schema world name user (block s) (codes "follows") (Ok (step s [])) refl
         (λ n. ap (block_line schema world name user s) (field-alone n (codes "follows") refl) ∙ follows-asked n s.task is))
         (steps-lead (clauses_of_probe schema s.probe.premises s.probe.goal) [] lines small (and_first _ _ right)))

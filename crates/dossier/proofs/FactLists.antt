@@ -15,7 +15,7 @@ use Rattle.cqe_base.proofs.Truths.{and_first, and_second}
 use Rattle.audit_text.specs.Text.{world_text, more_facts}
 use Rattle.audit_print.specs.Said.{world_said, fact_text}
 use Rattle.dossier.specs.Fields.{ended_parts}
-use Rattle.dossier.specs.Words.{with_first, fact_in, facts_in, ascends, is_listing, facts_listed}
+use Rattle.dossier.specs.Words.{with_first, short_fact, facts_in, ascends, is_listing, facts_listed}
 use Rattle.dossier.proofs.Ended.{ended-at, kind-lacks, none-both}
 use Rattle.dossier.proofs.FactTexts.{is_inside, front, front-inside, front-short, isnt-none, states, states-behind}
 use Rattle.dossier.proofs.Listings.{listed-so}
@@ -59,14 +59,14 @@ module _ (schema : DatabaseSchema) (valid : is_valid_schema schema ≡ true) whe
   test-few : (text : Text) → length text ≤ 4096 → nat_le (length text) 4096 ≡ true
   test-few text few = grind (arith, nat_tests)
 
-  read-first : (fact : Fact) → is_fact_of schema fact ≡ true → fact_in schema (front schema fact ++ codes ")") ≡ Some fact
+  read-first : (fact : Fact) → is_fact_of schema fact ≡ true → short_fact schema (front schema fact ++ codes ")") ≡ Some fact
   read-first fact is =
       let few = front-short schema valid fact is in
       ap (λ b. if b then stated_fact schema (front schema fact ++ codes ")") else None)
       (test-few (front schema fact ++ codes ")") (omega (arith, few, length-append (front schema fact) (codes ")"))))
       ∙ states schema valid fact is
 
-  read-behind : (fact : Fact) → is_fact_of schema fact ≡ true → fact_in schema ((32 ∷ front schema fact) ++ codes ")") ≡ Some fact
+  read-behind : (fact : Fact) → is_fact_of schema fact ≡ true → short_fact schema ((32 ∷ front schema fact) ++ codes ")") ≡ Some fact
   read-behind fact is =
       let few = front-short schema valid fact is in
       ap (λ b. if b then stated_fact schema ((32 ∷ front schema fact) ++ codes ")") else None)

@@ -10,7 +10,7 @@ use Rattle.cqe_base.specs.Censor.{guarded, probes_against, knows_truth_by}
 use Rattle.dossier.specs.Fields.{FieldSaid, first_word, is_alone}
 use Rattle.dossier.specs.Words.{mark_named}
 use Rattle.dossier.specs.Checked.{Awaited, admission, item, nothing, admitting, head_rest, head_line, admission_line, item_line, ask_line, protect_line}
-use Rattle.dossier.specs.Checked.{awaited_for, after_line, at_end}
+use Rattle.dossier.specs.Checked.{awaited_for, after_line, history_at_end}
 use Rattle.dossier.specs.Reading.{Unread, next_line, field_said, TakesLine, answer, ReadsOn}
 use Rattle.dossier.specs.declared.cut.Field.{Field}
 use Rattle.dossier.specs.declared.error.DossierError.{DossierError}
@@ -31,7 +31,7 @@ module _ (schema : DatabaseSchema) (world : FactSet) (name : Text) (user : UserP
 
   -- the next line is missing where more is awaited
   pub line-missing : {X : Type 0} (awaited : Awaited) (old new : Unread) (onward : X → Result Awaited DossierError) (why : DossierError)
-      → at_end schema world name user awaited (next_line old) ≡ Err (refused.Form (next_line old)) → TakesLine old (Err why) new
+      → history_at_end schema world name user awaited (next_line old) ≡ Err (refused.Form (next_line old)) → TakesLine old (Err why) new
       → ReadsOn schema world name user (Ok awaited) old new onward (Err why)
   line-missing awaited old new onward why ends (passes, is) =
       reads-err schema world name user (Ok awaited) old new onward why

@@ -10,7 +10,7 @@ use Rattle.cqe_base.specs.FactText.{stated_fact}
 use Rattle.audit_text.specs.Text.{world_text}
 use Rattle.audit_print.specs.Said.{world_said}
 use Rattle.dossier.specs.Fields.{ended_parts}
-use Rattle.dossier.specs.Words.{fact_in, facts_in, ascends, is_listing, if_listed, facts_listed}
+use Rattle.dossier.specs.Words.{short_fact, facts_in, ascends, is_listing, if_listed, facts_listed}
 
 module _ (schema : DatabaseSchema) (text : Text) (facts : List Fact) (of_schema : list_all (is_fact_of schema) facts ≡ true) where
   by-parts : (few ascend : Bool) → nat_le (length facts) 100000 ≡ few → ascends facts ≡ ascend
@@ -56,12 +56,12 @@ module _ (schema : DatabaseSchema) (text : Text) where
       listed-otherwise other = sym (by-facts ∙ ap (if_listed schema text) (sym read) ∙ ap (λ b. if b then Some facts else None) other)
 
 -- the fact of a text that isn't too long
-pub fact-long : (schema : DatabaseSchema) (text : Text) → nat_lt 4096 (length text) ≡ true → None ≡ fact_in schema text
+pub fact-long : (schema : DatabaseSchema) (text : Text) → nat_lt 4096 (length text) ≡ true → None ≡ short_fact schema text
 fact-long schema text long =
     let test : nat_le (length text) 4096 ≡ false = grind (arith, nat_tests) in
     sym (ap (λ b. if b then stated_fact schema text else None) test)
 
-pub fact-short : (schema : DatabaseSchema) (text : Text) → nat_lt 4096 (length text) ≡ false → stated_fact schema text ≡ fact_in schema text
+pub fact-short : (schema : DatabaseSchema) (text : Text) → nat_lt 4096 (length text) ≡ false → stated_fact schema text ≡ short_fact schema text
 fact-short schema text short =
     let test : nat_le (length text) 4096 ≡ true = grind (arith, nat_tests) in
     sym (ap (λ b. if b then stated_fact schema text else None) test)

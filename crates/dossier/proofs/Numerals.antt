@@ -13,7 +13,7 @@ use Rattle.cqe_base.specs.Schema.{Text}
 use Rattle.line_protocol.specs.Words.{decimal_value, number_in}
 use Rattle.dossier.proofs.Ended.{kind-lacks}
 use Rattle.entailment.specs.Small.{greatest_number}
-use Rattle.dossier.specs.Words.{has_leading_zero, up_to_greatest, number_of}
+use Rattle.dossier.specs.Words.{has_leading_zero, up_to_greatest, read_number}
 
 -- digits from the left, behind a number
 abbrev read_on : ℕ → List ℕ → ℕ
@@ -67,7 +67,7 @@ leads-not n small = no-leading (decimal n) (λ more. first_decimal n (some more)
     ]
 
 -- the number that is written in decimal
-pub number-read : (n : ℕ) → n ≤ greatest_number → number_of (decimal n) ≡ Some n
+pub number-read : (n : ℕ) → n ≤ greatest_number → read_number (decimal n) ≡ Some n
 number-read n small =
     ap (λ b. if b then None else up_to_greatest (number_in (decimal n))) (leads-not n small)
     ∙ ap up_to_greatest (in-word n small)
@@ -85,7 +85,7 @@ one-zero (b ∷ []) some leads zero_first = refl
 one-zero (b ∷ c ∷ word) some leads zero_first = let first : b ≡ 48 = zero_first in absurd (grind (arith, nat_tests))
 
 -- a word that writes a number is its decimal
-pub number-back : (word : Text) (n : ℕ) → number_of word ≡ Some n → (word ≡ decimal n) × (n ≤ greatest_number)
+pub number-back : (word : Text) (n : ℕ) → read_number word ≡ Some n → (word ≡ decimal n) × (n ≤ greatest_number)
 number-back word n is = by_first (has_leading_zero word) refl is
   where
     by_size : (v : ℕ) → has_leading_zero word ≡ false → (nat_le 1 (length word) && nat_le (length word) 10) ≡ true → list_all is_ascii_digit word ≡ true

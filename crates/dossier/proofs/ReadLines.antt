@@ -13,9 +13,9 @@ use Rattle.cqe_base.specs.Censor.{probes_against}
 use Rattle.cqe_base.specs.Refutation.{RefutationLine, is_refutation}
 use Rattle.entailment.specs.Certificates.{clauses_of_probe}
 use Rattle.dossier.specs.Fields.{FieldSaid, is_alone}
-use Rattle.dossier.specs.Words.{line_in, world_of, facts_listed}
+use Rattle.dossier.specs.Words.{line_in, listed_world, facts_listed}
 use Rattle.dossier.specs.Checked.{Task, admitting, asking, adding, Showing, Awaited, block, step, is_countermodel, awaited_for, behind_block, open_block}
-use Rattle.dossier.specs.Checked.{follows_block, refutation_end, refutation_line, block_line, step_line, after_line, at_end, checked_from}
+use Rattle.dossier.specs.Checked.{follows_block, refutation_end, refutation_line, block_line, step_line, after_line, history_at_end, checked_from}
 use Rattle.dossier.specs.Promised.{IsButMemory}
 use Rattle.dossier.specs.Reading.{Unread, next_line, fields_left, field_said, PassesLine, answer, ReadsOn}
 use Rattle.dossier.specs.Blocks.{Probed, reason_of, MayFollow, open_answer}
@@ -39,7 +39,7 @@ module _ (schema : DatabaseSchema) (world : FactSet) (name : Text) (user : UserP
 
   -- where there is none, something is missing or all was read
   pub answer-end : (awaited : Awaited) (old new : Unread) → PassesLine old None new
-      → answer schema world name user (Ok awaited) old ≡ at_end schema world name user awaited (next_line old)
+      → answer schema world name user (Ok awaited) old ≡ history_at_end schema world name user awaited (next_line old)
   answer-end awaited old new (none, same) = ap (checked_from schema world name user (Ok awaited) (next_line old)) none
 
   -- ---- joining
@@ -103,7 +103,7 @@ module _ (schema : DatabaseSchema) (world : FactSet) (name : Text) (user : UserP
   pub open-shows : (line : ℕ) (showing : Showing) (found : Option (List Fact)) → Ok tt ≡ open_answer schema line showing.probe found
       → open_block schema world name user line showing found ≡ behind_block schema world name user showing false
   open-shows line showing None is = absurd cc
-  open-shows line showing (Some facts) is = by (is_countermodel schema showing.probe (world_of facts)) is
+  open-shows line showing (Some facts) is = by (is_countermodel schema showing.probe (listed_world facts)) is
     where
       by : (b : Bool) → ◌≡◌ {A = Result (Unit {0}) DossierError} (Ok tt) (if b then Ok tt else Err (refused.Verdict line))
           → (if b then behind_block schema world name user showing false else Err (refused.Verdict line)) ≡ behind_block schema world name user showing false
@@ -114,7 +114,7 @@ module _ (schema : DatabaseSchema) (world : FactSet) (name : Text) (user : UserP
   pub open-refused : (line : ℕ) (showing : Showing) (found : Option (List Fact)) (why : DossierError) → Err why ≡ open_answer schema line showing.probe found
       → open_block schema world name user line showing found ≡ Err why
   open-refused line showing None why is = cc
-  open-refused line showing (Some facts) why is = by (is_countermodel schema showing.probe (world_of facts)) is
+  open-refused line showing (Some facts) why is = by (is_countermodel schema showing.probe (listed_world facts)) is
     where
       by : (b : Bool) → ◌≡◌ {A = Result (Unit {0}) DossierError} (Err why) (if b then Ok tt else Err (refused.Verdict line))
           → (if b then behind_block schema world name user showing false else Err (refused.Verdict line)) ≡ Err why

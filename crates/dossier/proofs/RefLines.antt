@@ -8,7 +8,7 @@ use Rattle.std.proofs.lemmas.Bool.{leb-true}
 use Rattle.cqe_base.specs.Schema.{Text}
 use Rattle.cqe_base.specs.Literal.{Literal, Positive, Negative, variable_of}
 use Rattle.cqe_base.proofs.Truths.{and_first, and_second}
-use Rattle.dossier.specs.Words.{with_first, all_some, number_of, literal_of, is_colon, line_by, line_of_words, words_of, line_in}
+use Rattle.dossier.specs.Words.{with_first, all_some, read_number, read_literal, is_colon, line_by, line_of_words, words_of, line_in}
 use Rattle.entailment.specs.Small.{greatest_number, is_small_literal, is_small_number}
 use Rattle.dossier.specs.Written.{sign_text, literal_text, number_text}
 use Rattle.dossier.proofs.Ended.{before-at, after-at, split-at, split-none, none-both}
@@ -44,7 +44,7 @@ no-colon : (literal : Literal) → is_colon (word_of literal) ≡ false
 no-colon (Positive v) = refl
 no-colon (Negative v) = refl
 
-literal-read : (literal : Literal) → is_small_literal literal ≡ true → literal_of (word_of literal) ≡ Some literal
+literal-read : (literal : Literal) → is_small_literal literal ≡ true → read_literal (word_of literal) ≡ Some literal
 literal-read (Positive v) small = ap (option_map Positive) (number-read v (small_variable (Positive v) small))
 literal-read (Negative v) small = ap (option_map Negative) (number-read v (small_variable (Negative v) small))
 
@@ -99,11 +99,11 @@ no-colons : (clause : List Literal) → list_any is_colon (map word_of clause) �
 no-colons [] = refl
 no-colons (literal ∷ clause) = λ i. no-colon literal i || no-colons clause i
 
-literals-read : (clause : List Literal) → AreSmallLiterals clause → all_some (map literal_of (map word_of clause)) ≡ Some clause
+literals-read : (clause : List Literal) → AreSmallLiterals clause → all_some (map read_literal (map word_of clause)) ≡ Some clause
 literals-read [] small = refl
 literals-read (literal ∷ clause) small = λ i. with_first (literal-read literal (and_first _ _ small) i) (literals-read clause (and_second _ _ small) i)
 
-numbers-read : (chain : List ℕ) → AreSmallNumbers chain → all_some (map number_of (map decimal chain)) ≡ Some chain
+numbers-read : (chain : List ℕ) → AreSmallNumbers chain → all_some (map read_number (map decimal chain)) ≡ Some chain
 numbers-read [] small = refl
 numbers-read (n ∷ chain) small = λ i. with_first (number-read n (small_number n (and_first _ _ small)) i) (numbers-read chain (and_second _ _ small) i)
 
@@ -114,8 +114,8 @@ line-read clause n chain small few =
     let words : List Text = map word_of clause in
     let others : List Text = map decimal (n ∷ chain) in
     ap line_of_words (words-of-line clause n chain small few)
-    ∙ (λ i. line_by (some-colon words others i) (all_some (map literal_of (before-at is_colon words (codes ":") others (no-colons clause) refl i)))
-    (all_some (map number_of (after-at is_colon words (codes ":") others (no-colons clause) refl i))))
+    ∙ (λ i. line_by (some-colon words others i) (all_some (map read_literal (before-at is_colon words (codes ":") others (no-colons clause) refl i)))
+    (all_some (map read_number (after-at is_colon words (codes ":") others (no-colons clause) refl i))))
     ∙ (λ i. line_by true (literals-read clause small i) (numbers-read (n ∷ chain) few i))
 
 -- no line feed stands in it

@@ -11,7 +11,7 @@ use Rattle.cqe_base.specs.Schema.{Text}
 use Rattle.cqe_base.specs.Literal.{Literal, Positive, Negative}
 use Rattle.cqe_base.specs.Refutation.{RefutationLine}
 use Rattle.entailment.specs.Small.{greatest_number, is_small_literal, is_small_number, is_small_line}
-use Rattle.dossier.specs.Words.{with_first, all_some, number_of, literal_of, is_colon, line_by, line_of_words, words_of, line_in}
+use Rattle.dossier.specs.Words.{with_first, all_some, read_number, read_literal, is_colon, line_by, line_of_words, words_of, line_in}
 use Rattle.dossier.specs.Written.{literal_text, number_text}
 use Rattle.dossier.proofs.LinesBack.{first-within}
 use Rattle.dossier.proofs.Numerals.{number-back}
@@ -19,14 +19,14 @@ use Rattle.dossier.proofs.RefLines.{word_of}
 
 -- ---- words
 
-number-word : (word : Text) (n : ℕ) → number_of word ≡ Some n → (word ≡ decimal n) × (is_small_number n ≡ true)
+number-word : (word : Text) (n : ℕ) → read_number word ≡ Some n → (word ≡ decimal n) × (is_small_number n ≡ true)
 number-word word n is = let (written, low) = number-back word n is in (written, le-leb n greatest_number low)
 
-literal-word : (word : Text) (l : Literal) → literal_of word ≡ Some l → (word ≡ word_of l) × (is_small_literal l ≡ true)
+literal-word : (word : Text) (l : Literal) → read_literal word ≡ Some l → (word ≡ word_of l) × (is_small_literal l ≡ true)
 literal-word [] l is = absurd cc
 literal-word (sign ∷ digits) l is = by_plus (sign == 43) refl is
   where
-    positive : sign ≡ 43 → (o : Option ℕ) → number_of digits ≡ o → option_map Positive o ≡ Some l
+    positive : sign ≡ 43 → (o : Option ℕ) → read_number digits ≡ o → option_map Positive o ≡ Some l
         → ((sign ∷ digits) ≡ word_of l) × (is_small_literal l ≡ true)
     positive plus None read is = absurd cc
     positive plus (Some n) read is =
@@ -34,7 +34,7 @@ literal-word (sign ∷ digits) l is = by_plus (sign == 43) refl is
         let (written, low) = number-word digits n read in
         subst (λ m. ((sign ∷ digits) ≡ word_of m) × (is_small_literal m ≡ true)) same ((λ i. plus i ∷ written i), low)
 
-    negative : sign ≡ 45 → (o : Option ℕ) → number_of digits ≡ o → option_map Negative o ≡ Some l
+    negative : sign ≡ 45 → (o : Option ℕ) → read_number digits ≡ o → option_map Negative o ≡ Some l
         → ((sign ∷ digits) ≡ word_of l) × (is_small_literal l ≡ true)
     negative minus None read is = absurd cc
     negative minus (Some n) read is =
@@ -42,15 +42,15 @@ literal-word (sign ∷ digits) l is = by_plus (sign == 43) refl is
         let (written, low) = number-word digits n read in
         subst (λ m. ((sign ∷ digits) ≡ word_of m) × (is_small_literal m ≡ true)) same ((λ i. minus i ∷ written i), low)
 
-    by_minus : (b : Bool) → (sign == 45) ≡ b → (if b then option_map Negative (number_of digits) else None) ≡ Some l
+    by_minus : (b : Bool) → (sign == 45) ≡ b → (if b then option_map Negative (read_number digits) else None) ≡ Some l
         → ((sign ∷ digits) ≡ word_of l) × (is_small_literal l ≡ true)
-    by_minus true minus is = negative (eqb-true sign 45 minus) (number_of digits) refl is
+    by_minus true minus is = negative (eqb-true sign 45 minus) (read_number digits) refl is
     by_minus false minus is = absurd cc
 
     by_plus : (b : Bool) → (sign == 43) ≡ b
-        → (if b then option_map Positive (number_of digits) else if sign == 45 then option_map Negative (number_of digits) else None) ≡ Some l
+        → (if b then option_map Positive (read_number digits) else if sign == 45 then option_map Negative (read_number digits) else None) ≡ Some l
         → ((sign ∷ digits) ≡ word_of l) × (is_small_literal l ≡ true)
-    by_plus true plus is = positive (eqb-true sign 43 plus) (number_of digits) refl is
+    by_plus true plus is = positive (eqb-true sign 43 plus) (read_number digits) refl is
     by_plus false plus is = by_minus (sign == 45) refl is
 
 -- words of which each writes something
@@ -81,8 +81,8 @@ abbrev AreLine : List Text → RefutationLine → Type 0
 AreLine words line = (words ≡ map word_of line.clause ++ codes ":" ∷ map decimal line.chain) × (is_small_line line ≡ true)
 
 module _ (words : List Text) (line : RefutationLine) where
-  by-parts : list_any is_colon words ≡ true → (clause : Option (List Literal)) → all_some (map literal_of (before_first is_colon words)) ≡ clause
-      → (chain : Option (List ℕ)) → all_some (map number_of (after_first is_colon words)) ≡ chain → line_by true clause chain ≡ Some line
+  by-parts : list_any is_colon words ≡ true → (clause : Option (List Literal)) → all_some (map read_literal (before_first is_colon words)) ≡ clause
+      → (chain : Option (List ℕ)) → all_some (map read_number (after_first is_colon words)) ≡ chain → line_by true clause chain ≡ Some line
       → AreLine words line
   by-parts some None clause_is chain chain_is e = absurd cc
   by-parts some (Some clause) clause_is None chain_is e = absurd cc
@@ -90,8 +90,8 @@ module _ (words : List Text) (line : RefutationLine) where
   by-parts some (Some clause) clause_is (Some (n ∷ chain)) chain_is e =
       let own : RefutationLine = record { clause = clause; chain = n ∷ chain } in
       let same : own ≡ line = cc in
-      let (literals, lows) = words-back literal_of word_of is_small_literal literal-word (before_first is_colon words) clause clause_is in
-      let (numbers, few) = words-back number_of decimal is_small_number number-word (after_first is_colon words) (n ∷ chain) chain_is in
+      let (literals, lows) = words-back read_literal word_of is_small_literal literal-word (before_first is_colon words) clause clause_is in
+      let (numbers, few) = words-back read_number decimal is_small_number number-word (after_first is_colon words) (n ∷ chain) chain_is in
       let within : position_or_len is_colon words < length words = first-within is_colon words some in
       let colon : get_or words (position_or_len is_colon words) [] ≡ codes ":" =
       same_text (get_or words (position_or_len is_colon words) []) (codes ":") (sym (passes_at_first is_colon words [] within)) in
@@ -101,11 +101,11 @@ module _ (words : List Text) (line : RefutationLine) where
       )
 
   by-colon : (b : Bool) → list_any is_colon words ≡ b
-      → line_by b (all_some (map literal_of (before_first is_colon words))) (all_some (map number_of (after_first is_colon words))) ≡ Some line
+      → line_by b (all_some (map read_literal (before_first is_colon words))) (all_some (map read_number (after_first is_colon words))) ≡ Some line
       → AreLine words line
   by-colon false some e = absurd cc
   by-colon true some e =
-      by-parts some (all_some (map literal_of (before_first is_colon words))) refl (all_some (map number_of (after_first is_colon words))) refl e
+      by-parts some (all_some (map read_literal (before_first is_colon words))) refl (all_some (map read_number (after_first is_colon words))) refl e
 
   line-words : line_of_words words ≡ Some line → AreLine words line
   line-words e = by-colon (list_any is_colon words) refl e
@@ -139,7 +139,7 @@ join-chain (n ∷ chain) some = ap (λ t. codes ":" ++ 32 ∷ t) (join-numbers n
 
 some-chain : (words : List Text) (line : RefutationLine) → line_of_words words ≡ Some line → line.chain ≡ [] → ⊥
 some-chain words line e none =
-    by (list_any is_colon words) (all_some (map literal_of (before_first is_colon words))) (all_some (map number_of (after_first is_colon words))) e
+    by (list_any is_colon words) (all_some (map read_literal (before_first is_colon words))) (all_some (map read_number (after_first is_colon words))) e
   where
     by : (b : Bool) (clause : Option (List Literal)) (chain : Option (List ℕ)) → line_by b clause chain ≡ Some line → ⊥
     by false clause chain e = absurd cc

@@ -25,11 +25,11 @@ use Rattle.user_desk.specs.Entries.{kind_of, mark_of}
 use Rattle.soundness.specs.Sound.{IsSoundItem, IsSound, EmptyHistoryIsSound, SoundHistoriesGrow}
 use Rattle.soundness.specs.Verdicts.{VerdictsGiveMarks}
 use Rattle.dossier.specs.Fields.{ended_parts, FieldSaid, first_word, is_alone, fields_of}
-use Rattle.dossier.specs.Words.{line_in, mark_named, world_of, is_listing, facts_in, facts_listed, if_listed}
+use Rattle.dossier.specs.Words.{line_in, mark_named, listed_world, is_listing, facts_in, facts_listed, if_listed}
 use Rattle.dossier.specs.Checked.{Task, admitting, asking, adding, Showing, Awaited, head, admission, block, step, item, nothing, addition_probe}
 use Rattle.dossier.specs.Checked.{is_countermodel, behind_item, mark_shown, behind_task, awaited_for, behind_block, open_block, follows_block}
 use Rattle.dossier.specs.Checked.{refutation_end, refutation_line, sentence_in, asked, ask_line, added, protect_line, head_rest, head_line, admission_line}
-use Rattle.dossier.specs.Checked.{block_line, step_line, item_line, after_line, at_end, checked_from}
+use Rattle.dossier.specs.Checked.{block_line, step_line, item_line, after_line, history_at_end, checked_from}
 use Rattle.dossier.specs.Promised.{CheckedAreSound}
 use Rattle.dossier.specs.declared.error.DossierError.{DossierError}
 use Rattle.dossier.specs.declared.error.DossierError.TheVariants as refused
@@ -71,7 +71,7 @@ facts_of_schema schema text facts e = by (bytes_eq text (codes "-")) e
     by true e = let none : [] ≡ facts = cc in subst (λ fs. list_all (is_fact_of schema) fs ≡ true) none refl
     by false e = listed-of_schema schema text (facts_in schema (ended_parts 41 text)) facts e
 
-world_of_schema : (schema : DatabaseSchema) (facts : List Fact) → list_all (is_fact_of schema) facts ≡ true → IsWorldOf schema (world_of facts)
+world_of_schema : (schema : DatabaseSchema) (facts : List Fact) → list_all (is_fact_of schema) facts ≡ true → IsWorldOf schema (listed_world facts)
 world_of_schema schema facts all fact has = list_all-Member (is_fact_of schema) facts all fact (from_list-Member facts fact has)
 
 module _ (test : TestIsEntailment) (refutes : RefutationEntails) (empty : EmptyHistoryIsSound) (grows : SoundHistoriesGrow) (verdicts_give : VerdictsGiveMarks)
@@ -253,13 +253,13 @@ module _ (test : TestIsEntailment) (refutes : RefutationEntails) (empty : EmptyH
   open_good : (line : ℕ) (s : Showing) (text : Text) (found : Option (List Fact)) → facts_listed schema text ≡ found
       → IsOwed s.entries s.task (s.probe ∷ s.more) s.shown → IsGoodResult (open_block schema world name user line s found)
   open_good line s text None is owing = tt
-  open_good line s text (Some facts) is owing = by (is_countermodel schema s.probe (world_of facts)) refl
+  open_good line s text (Some facts) is owing = by (is_countermodel schema s.probe (listed_world facts)) refl
     where
-      by : (b : Bool) → is_countermodel schema s.probe (world_of facts) ≡ b
+      by : (b : Bool) → is_countermodel schema s.probe (listed_world facts) ≡ b
           → IsGoodResult (if b then behind_block schema world name user s false else Err (refused.Verdict line))
       by true counter =
           block_good s false owing
-          (counter_shows s.probe (world_of facts) (world_of_schema schema facts (facts_of_schema schema text facts is)) counter)
+          (counter_shows s.probe (listed_world facts) (world_of_schema schema facts (facts_of_schema schema text facts is)) counter)
           (still_quiet s.task s.shown owing.quiet)
       by false counter = tt
 
@@ -427,7 +427,7 @@ module _ (test : TestIsEntailment) (refutes : RefutationEntails) (empty : EmptyH
   after_good (item entries) field good = item_line_good entries field good
   after_good (nothing entries) field good = tt
 
-  end_shown : (awaited : Awaited) (number : ℕ) (entries : History) → IsGood awaited → at_end schema world name user awaited number ≡ Ok entries
+  end_shown : (awaited : Awaited) (number : ℕ) (entries : History) → IsGood awaited → history_at_end schema world name user awaited number ≡ Ok entries
       → IsShown entries
   end_shown (nothing shown) number entries good e = let same : shown ≡ entries = cc in subst IsShown same good
   end_shown head number entries good e = absurd cc

@@ -15,8 +15,8 @@ use Rattle.cqe_base.specs.Refutation.{RefutationLine, is_refutation}
 use Rattle.entailment.specs.Small.{is_small_line}
 use Rattle.entailment.specs.Certificates.{clauses_of_probe}
 use Rattle.dossier.specs.Fields.{is_alone, first_word, field_of, fields_from}
-use Rattle.dossier.specs.Words.{line_in, world_of, facts_listed}
-use Rattle.dossier.specs.Written.{line_text, open_text, IsRightBlock}
+use Rattle.dossier.specs.Words.{line_in, listed_world, facts_listed}
+use Rattle.dossier.specs.Written.{refutation_line_text, open_text, IsRightBlock}
 use Rattle.dossier.specs.Right.{AreRightBlocks}
 use Rattle.dossier.specs.Checked.{Task, admitting, asking, adding, Showing, Awaited, block, step, is_countermodel, behind_task, awaited_for, behind_block}
 use Rattle.dossier.specs.Checked.{open_block, follows_block, refutation_end, refutation_line, checked_from}
@@ -146,9 +146,9 @@ module _ (schema : DatabaseSchema) (world : FactSet) (name : Text) (user : UserP
         → (found : Option (List Fact)) → facts_listed schema (rest_of_line line) ≡ found
         → Runs (open_block schema world name user n s found) (n + 1) lines → IsShownIn (line ∷ lines)
     open-shown n line lines is None found runs = absurd cc
-    open-shown n line lines is (Some facts) found runs = by (is_countermodel schema s.probe (world_of facts)) refl runs
+    open-shown n line lines is (Some facts) found runs = by (is_countermodel schema s.probe (listed_world facts)) refl runs
       where
-        by : (b : Bool) → is_countermodel schema s.probe (world_of facts) ≡ b
+        by : (b : Bool) → is_countermodel schema s.probe (listed_world facts) ≡ b
             → Runs (if b then behind_block schema world name user s false else Err (refused.Verdict n)) (n + 1) lines → IsShownIn (line ∷ lines)
         by false counter runs = absurd cc
         by true counter runs =
@@ -163,10 +163,10 @@ module _ (schema : DatabaseSchema) (world : FactSet) (name : Text) (user : UserP
       more : List RefutationLine
       right : is_refutation clauses (done ++ more) ≡ true
       small : list_all is_small_line more ≡ true
-      goes : GoesOn (λ text. text ≡ flat_map line_text more ++ codes "end\n") (behind_block schema world name user s true) lines
+      goes : GoesOn (λ text. text ≡ flat_map refutation_line_text more ++ codes "end\n") (behind_block schema world name user s true) lines
 
     step-text : (line : Text) (next : RefutationLine) → bytes_eq (word_of_line line) (codes "line") ≡ true → line_in (rest_of_line line) ≡ Some next
-        → (line ++ codes "\n" ≡ line_text next) × (is_small_line next ≡ true)
+        → (line ++ codes "\n" ≡ refutation_line_text next) × (is_small_line next ≡ true)
     step-text line next is read =
         let (written, low) = line-back (rest_of_line line) next read in (
           ap (λ l. l ++ codes "\n")
@@ -192,9 +192,10 @@ module _ (schema : DatabaseSchema) (world : FactSet) (name : Text) (user : UserP
           more = next ∷ rest.more;
           right = subst (λ ls. is_refutation clauses ls ≡ true) (append_assoc done (next ∷ []) rest.more) rest.right;
           small = and_from (is_small_line next) (list_all is_small_line rest.more) low rest.small;
-          goes = goes-behind (λ text. text ≡ flat_map line_text rest.more ++ codes "end\n")
-              (λ text. text ≡ flat_map line_text (next ∷ rest.more) ++ codes "end\n") (behind_block schema world name user s true) line lines
-              (λ text same. (λ i. written i ++ same i) ∙ sym (append_assoc (line_text next) (flat_map line_text rest.more) (codes "end\n")))
+          goes = goes-behind (λ text. text ≡ flat_map refutation_line_text rest.more ++ codes "end\n")
+              (λ text. text ≡ flat_map refutation_line_text (next ∷ rest.more) ++ codes "end\n") (behind_block schema world name user s true) line lines
+              (λ text same. (λ i. written i ++ same i)
+              ∙ sym (append_assoc (refutation_line_text next) (flat_map refutation_line_text rest.more) (codes "end\n")))
               rest.goes;
         }
 
@@ -209,7 +210,7 @@ module _ (schema : DatabaseSchema) (world : FactSet) (name : Text) (user : UserP
           more = [];
           right = ap (is_refutation clauses) (append-nil done) ∙ right;
           small = refl;
-          goes = goes-line (λ text. text ≡ flat_map line_text [] ++ codes "end\n") (behind_block schema world name user s true) (n + 1) line lines
+          goes = goes-line (λ text. text ≡ flat_map refutation_line_text [] ++ codes "end\n") (behind_block schema world name user s true) (n + 1) line lines
               (ap (λ l. l ++ codes "\n") is) runs;
         }
 
@@ -238,13 +239,13 @@ module _ (schema : DatabaseSchema) (world : FactSet) (name : Text) (user : UserP
     follows-shown n line lines is (asking at mark query size) runs =
         let steps = steps-shown [] (n + 1) lines runs in (
           true,
-          goes-behind (λ text. text ≡ flat_map line_text steps.more ++ codes "end\n") (IsRightBlock schema s.probe)
+          goes-behind (λ text. text ≡ flat_map refutation_line_text steps.more ++ codes "end\n") (IsRightBlock schema s.probe)
               (behind_block schema world name user s true) line lines
               (λ text same. inr (
                 steps.more,
                 steps.right,
                 steps.small,
-                (λ i. (is i ++ codes "\n") ++ same i) ∙ sym (append_assoc (codes "follows\n") (flat_map line_text steps.more) (codes "end\n")),
+                (λ i. (is i ++ codes "\n") ++ same i) ∙ sym (append_assoc (codes "follows\n") (flat_map refutation_line_text steps.more) (codes "end\n")),
               ))
               steps.goes,
         )

@@ -8,7 +8,7 @@ use Rattle.cqe_base.specs.Censor as censor
 use Rattle.entailment.specs.Probes.{premise_of, goal_of}
 use Rattle.entailment.specs.declared.probes.Probe.{Probe}
 use Rattle.dossier.specs.Checked.{Task, admitting, asking, adding, is_countermodel}
-use Rattle.dossier.specs.Words.{world_of}
+use Rattle.dossier.specs.Words.{listed_world}
 use Rattle.dossier.specs.declared.blocks.Reason.{Reason}
 use Rattle.dossier.specs.declared.blocks.Reason.TheVariants.{Admitting, Asking, Adding}
 use Rattle.dossier.specs.declared.error.DossierError.{DossierError}
@@ -41,4 +41,4 @@ abbrev pub open_answer : DatabaseSchema → ℕ → Probed → Option (List Fact
     → Result (Unit {0}) DossierError
 open_answer schema line probe None = Err (refused.Form line)
 open_answer schema line probe (Some facts) =
-    if is_countermodel schema probe (world_of facts) then Ok tt else Err (refused.Verdict line)
+    if is_countermodel schema probe (listed_world facts) then Ok tt else Err (refused.Verdict line)

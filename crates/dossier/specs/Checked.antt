@@ -24,7 +24,7 @@ use Rattle.user_desk.specs.Entries.{kind_of}
 use Rattle.user_desk.specs.Causes.{is_beyond}
 use Rattle.soundness.specs.Verdicts.{mark_found}
 use Rattle.dossier.specs.Fields.{FieldSaid, first_word, is_alone, fields_of}
-use Rattle.dossier.specs.Words.{line_in, mark_named, world_of, facts_listed}
+use Rattle.dossier.specs.Words.{line_in, mark_named, listed_world, facts_listed}
 use Rattle.dossier.specs.declared.error.DossierError.{DossierError}
 use Rattle.dossier.specs.declared.error.DossierError.TheVariants as refused
 
@@ -137,7 +137,7 @@ module _ (schema : DatabaseSchema) (world : FactSet) (name : Text) (user : UserP
   abbrev pub open_block : ℕ → Showing → Option (List Fact) → Result Awaited DossierError
   open_block line showing None = Err (refused.Form line)
   open_block line showing (Some facts) =
-      if is_countermodel schema showing.probe (world_of facts) then behind_block showing false
+      if is_countermodel schema showing.probe (listed_world facts) then behind_block showing false
       else Err (refused.Verdict line)
 
   -- a block says that the goal follows, which only those of an ask may say
@@ -254,16 +254,16 @@ module _ (schema : DatabaseSchema) (world : FactSet) (name : Text) (user : UserP
 
   -- the history that was shown where the lines end; where something is awaited, the line of this
   -- number is missing
-  abbrev pub at_end : Awaited → ℕ → Result History DossierError
-  at_end (nothing entries) number = Ok entries
-  at_end awaited number = Err (refused.Form number)
+  abbrev pub history_at_end : Awaited → ℕ → Result History DossierError
+  history_at_end (nothing entries) number = Ok entries
+  history_at_end awaited number = Err (refused.Form number)
 
   -- the history that these lines show, numbered on from this number, or the first one that is
   -- refused
   abbrev pub checked_from : Result Awaited DossierError → ℕ → List FieldSaid
       → Result History DossierError
   checked_from (Err why) number fields = Err why
-  checked_from (Ok awaited) number [] = at_end awaited number
+  checked_from (Ok awaited) number [] = history_at_end awaited number
   checked_from (Ok awaited) number (field ∷ fields) =
       checked_from (after_line awaited field) (number + 1) fields
 

@@ -45,15 +45,15 @@ up_to_greatest None = None
 up_to_greatest (Some n) = if nat_le n greatest_number then Some n else None
 
 -- the number that a word writes in decimal
-abbrev pub number_of : Text → Option ℕ
-number_of word = if has_leading_zero word then None else up_to_greatest (number_in word)
+abbrev pub read_number : Text → Option ℕ
+read_number word = if has_leading_zero word then None else up_to_greatest (number_in word)
 
 -- the literal that a word writes: `+` or `-`, and the number of the variable
-abbrev pub literal_of : Text → Option Literal
-literal_of [] = None
-literal_of (sign ∷ digits) =
-    if sign == 43 then option_map Positive (number_of digits)
-    else if sign == 45 then option_map Negative (number_of digits)
+abbrev pub read_literal : Text → Option Literal
+read_literal [] = None
+read_literal (sign ∷ digits) =
+    if sign == 43 then option_map Positive (read_number digits)
+    else if sign == 45 then option_map Negative (read_number digits)
     else None
 
 -- ---- lines of a refutation
@@ -71,8 +71,8 @@ line_by _ _ _ = None
 -- the line that words write: literals, a colon, and the numbers of the chain
 abbrev pub line_of_words : List Text → Option RefutationLine
 line_of_words words =
-    line_by (list_any is_colon words) (all_some (map literal_of (before_first is_colon words)))
-    (all_some (map number_of (after_first is_colon words)))
+    line_by (list_any is_colon words) (all_some (map read_literal (before_first is_colon words)))
+    (all_some (map read_number (after_first is_colon words)))
 
 -- the words of a text, with one blank between two
 abbrev pub words_of : Text → List Text
@@ -96,16 +96,16 @@ mark_named word =
 -- ---- the facts of a world
 
 -- the fact that a text of at most 4,096 bytes states
-abbrev pub fact_in : DatabaseSchema → Text → Option Fact
-fact_in schema text = if nat_le (length text) 4096 then stated_fact schema text else None
+abbrev pub short_fact : DatabaseSchema → Text → Option Fact
+short_fact schema text = if nat_le (length text) 4096 then stated_fact schema text else None
 
 -- the facts that texts state, each with its closing parenthesis behind it
 abbrev pub facts_in : DatabaseSchema → List Text → Option (List Fact)
-facts_in schema texts = all_some (map (λ text. fact_in schema (text ++ codes ")")) texts)
+facts_in schema texts = all_some (map (λ text. short_fact schema (text ++ codes ")")) texts)
 
 -- the world that has these facts and no other
-abbrev pub world_of : List Fact → FactSet
-world_of facts = set.from_list facts
+abbrev pub listed_world : List Fact → FactSet
+listed_world facts = set.from_list facts
 
 -- whether each fact stands behind the one before it in the order of facts
 abbrev pub ascends : List Fact → Bool

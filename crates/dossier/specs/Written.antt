@@ -25,7 +25,7 @@ use Rattle.entailment.specs.Small.{is_small_line}
 use Rattle.audit_text.specs.Text.{world_text}
 use Rattle.audit_print.specs.Said.{IsListing, world_said, method_word}
 use Rattle.user_desk.specs.Entries.{entry_of}
-use Rattle.dossier.specs.Words.{world_of}
+use Rattle.dossier.specs.Words.{listed_world}
 use Rattle.dossier.specs.Checked.{is_countermodel, addition_probe}
 
 -- ---- blocks
@@ -44,14 +44,14 @@ abbrev pub number_text : ℕ → Text
 number_text n = codes " " ++ decimal n
 
 -- a line of a refutation
-abbrev pub line_text : RefutationLine → Text
-line_text line =
+abbrev pub refutation_line_text : RefutationLine → Text
+refutation_line_text line =
     codes "line " ++ flat_map literal_text line.clause ++ codes ":"
     ++ flat_map number_text line.chain ++ codes "\n"
 
 -- a block with these lines of a refutation
 abbrev pub follows_text : List RefutationLine → Text
-follows_text lines = codes "follows\n" ++ flat_map line_text lines ++ codes "end\n"
+follows_text lines = codes "follows\n" ++ flat_map refutation_line_text lines ++ codes "end\n"
 
 -- a block that lists these facts
 abbrev pub open_text : DatabaseSchema → List Fact → Text
@@ -63,7 +63,7 @@ abbrev pub IsOpenBlock : DatabaseSchema → Probe → Text → Type 0
 IsOpenBlock schema probe text =
     (facts : List Fact) × IsStrictlySortedBy fact_cmp facts × (length facts ≤ 100000)
     × (list_all (is_fact_of schema) facts ≡ true)
-    × (is_countermodel schema probe (world_of facts) ≡ true)
+    × (is_countermodel schema probe (listed_world facts) ≡ true)
     × (text ≡ open_text schema facts)
 
 -- a block lists the facts of this world, in their order

@@ -7,7 +7,7 @@ ghost use Rattle.cqe_base.specs.Facts.{is_fact_of, fact_cmp};
 ghost use Rattle.audit_text.specs.Text.{world_text};
 ghost use Rattle.audit_print.specs.Said.{world_said};
 ghost use Rattle.dossier.specs.Fields.{ended_parts};
-ghost use Rattle.dossier.specs.Words.{fact_in, facts_in, ascends, is_listing, world_of};
+ghost use Rattle.dossier.specs.Words.{short_fact, facts_in, ascends, is_listing, listed_world};
 ghost use Rattle.dossier.specs.Words.{facts_listed};
 
 use crate::cut::first_part;
@@ -67,7 +67,7 @@ fn facts_in(alloc: Global, schema: &Schema, text: &str) -> Result<Option<Vec<Fac
 
 /// The fact that a text states which lacks its closing parenthesis.
 fn fact_in(alloc: Global, schema: &Schema, part: &str) -> Result<Option<Fact>, AllocError>
-    ensures fact { IfOk result (λ fact. fact ≡ fact_in schema.now (part.now ++ codes ")")) }
+    ensures fact { IfOk result (λ fact. fact ≡ short_fact schema.now (part.now ++ codes ")")) }
     ensures of_schema { IfOk result (λ fact. IfSome fact
         (λ f. is_fact_of schema.now f ≡ true)) }
 {
@@ -166,7 +166,7 @@ fn texts_of(alloc: Global, schema: &Schema, facts: &[Fact]) -> Result<Vec<String
 /// The world that has these facts and no other. They are of the schema and no more than a world
 /// holds, so that only memory can be wanting.
 pub(crate) fn world_of(alloc: Global, schema: &Schema, facts: &[Fact]) -> Result<World, AllocError>
-    ensures { IfOk result (λ world. world ≡ world_of facts.now) }
+    ensures { IfOk result (λ world. world ≡ listed_world facts.now) }
 {
     let mut world = World::new(alloc);
     for fact in facts {

@@ -13,7 +13,7 @@ ghost use Rattle.entailment.specs.GroundSentences.{IsGroundOver};
 ghost use Rattle.entailment.specs.Probes.{premise_of, goal_of, IsGroundPremise};
 ghost use Rattle.dossier.specs.Blocks.{probe_over};
 ghost use Rattle.audit_text.specs.Text.{world_text};
-ghost use Rattle.dossier.specs.Written.{sign_text, literal_text, number_text, line_text};
+ghost use Rattle.dossier.specs.Written.{sign_text, literal_text, number_text, refutation_line_text};
 ghost use Rattle.dossier.specs.Written.{follows_text};
 ghost use Rattle.dossier.specs.Written.{IsOpenListing, IsBlock};
 ghost use Rattle.dossier.specs.Adding.{Grows};
@@ -80,7 +80,7 @@ fn push_follows(text: &mut String, refutation: &Refutation) -> Result<(), AllocE
 /// Appends these lines.
 fn push_lines(text: &mut String, lines: &[Line]) -> Result<(), AllocError>
     ensures { OnOk result (string_bytes text.new
-        ≡ string_bytes text.old ++ flat_map line_text (map line_of lines.now)) }
+        ≡ string_bytes text.old ++ flat_map refutation_line_text (map line_of lines.now)) }
 {
     for line in lines {
         push_line(text, line)?;
@@ -91,7 +91,7 @@ fn push_lines(text: &mut String, lines: &[Line]) -> Result<(), AllocError>
 /// Appends a line: its literals, a colon, and the numbers of its chain.
 fn push_line(text: &mut String, line: &Line) -> Result<(), AllocError>
     ensures { OnOk result (string_bytes text.new
-        ≡ string_bytes text.old ++ line_text (line_of line.now)) }
+        ≡ string_bytes text.old ++ refutation_line_text (line_of line.now)) }
 {
     text.push_str("line ")?;
     push_literals(text, &line.clause)?;

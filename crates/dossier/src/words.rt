@@ -2,8 +2,9 @@
 ghost use Rattle.std.specs.Prelude.{◌≡◌, ◌<◌, ◌≤◌, ◌+◌, ◌^◌, true, nat_lt, length, map, position};
 ghost use Rattle.std.specs.Prelude.{option_map, Some, IfOk, IfSome, IsTrue, ◌↔◌};
 ghost use Rattle.clause_store.specs.PlainLines.{line_of};
-ghost use Rattle.dossier.specs.Words.{all_some, has_leading_zero, number_of, literal_of, is_colon};
-ghost use Rattle.dossier.specs.Words.{words_of, line_by, line_of_words, line_in, mark_named};
+ghost use Rattle.dossier.specs.Words.{all_some, has_leading_zero, read_number, read_literal};
+ghost use Rattle.dossier.specs.Words.{is_colon, words_of, line_by, line_of_words, line_in};
+ghost use Rattle.dossier.specs.Words.{mark_named};
 ghost use Rattle.dossier.specs.Told.{is_undecided};
 
 use clause_store::literal::Lit;
@@ -69,7 +70,7 @@ pub(crate) fn is_same(first: Mark, second: Mark) -> bool
 
 /// The number that a word writes in decimal, without leading zeros.
 fn number_of(word: &[u8]) -> Option<u32>
-    ensures value { result ≡ number_of word.now }
+    ensures value { result ≡ read_number word.now }
     ensures fits { IfSome result (λ n. n + 1 < 2 ^ 31) }
 {
     if has_leading_zero(word) {
@@ -95,7 +96,7 @@ fn has_leading_zero(digits: &[u8]) -> bool
 
 /// The literal that a word writes: a sign, and the number of the variable.
 fn literal_of(word: &[u8]) -> Option<Lit>
-    ensures { result ≡ literal_of word.now }
+    ensures { result ≡ read_literal word.now }
 {
     let [sign, digits @ ..] = word else {
         return None;
@@ -126,7 +127,7 @@ fn is_colon(word: &[u8]) -> bool
 /// The literals that these words write, where each writes one.
 fn literals_in(alloc: Global, words: &[&[u8]]) -> Result<Option<Vec<Lit>>, AllocError>
     ensures { IfOk result (λ read. option_map (λ clause. clause.items) read
-        ≡ all_some (map literal_of (map (λ word. word.now) words.now))) }
+        ≡ all_some (map read_literal (map (λ word. word.now) words.now))) }
 {
     let mut clause = Vec::new(alloc);
     for word in words {
@@ -141,7 +142,7 @@ fn literals_in(alloc: Global, words: &[&[u8]]) -> Result<Option<Vec<Lit>>, Alloc
 /// The numbers that these words write, where each writes one.
 fn numbers_in(alloc: Global, words: &[&[u8]]) -> Result<Option<Vec<u32>>, AllocError>
     ensures { IfOk result (λ read. option_map (λ chain. chain.items) read
-        ≡ all_some (map number_of (map (λ word. word.now) words.now))) }
+        ≡ all_some (map read_number (map (λ word. word.now) words.now))) }
 {
     let mut chain = Vec::new(alloc);
     for word in words {

@@ -2,7 +2,7 @@ use Rattle.std.proofs.Common.{◌≡◌, Some, None, Ok, Err, map, sym, ap, ◌�
 use Rattle.std.specs.Prelude.{if◌then◌else◌}
 use Rattle.std.proofs.lemmas.Result.{err_from_is_err_and}
 use Rattle.cqe_base.specs.History.{profile_of, answered_query_of, log}
-use Rattle.dossier.specs.Words.{world_of, facts_listed}
+use Rattle.dossier.specs.Words.{listed_world, facts_listed}
 use Rattle.dossier.specs.Checked.{is_countermodel}
 use Rattle.dossier.specs.Blocks.{probe_over, open_answer}
 use Rattle.dossier.specs.declared.error.DossierError.TheVariants as refused
@@ -20,7 +20,7 @@ shown c =
     let line = c.args.field.now.line in
     let probe = probe_over (log (profile_of c.args.told.user.now) (map answered_query_of c.args.told.entries.now)) c.args.probe.now in
     let listed : Some c.in-Some.facts.items ≡ facts_listed schema c.args.field.now.rest.now = rw c.in-Some.is at c.in_ok-facts.ensures in
-    let world : c.in_ok-world.world ≡ world_of c.in-Some.facts.items = c.in_ok-world.ensures ∙ ap world_of c.deref.ensures.value in
+    let world : c.in_ok-world.world ≡ listed_world c.in-Some.facts.items = c.in_ok-world.ensures ∙ ap listed_world c.deref.ensures.value in
     ap (λ b. if b then Ok tt else Err (refused.Verdict line)) (c.is_countermodel.ensures ∙ ap (is_countermodel schema probe) world)
     ∙ ap (open_answer schema line probe) listed
 

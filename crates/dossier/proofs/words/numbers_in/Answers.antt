@@ -1,28 +1,28 @@
 use Rattle.std.proofs.Common.{sym, ap, ◌∙◌, ◌+◌, arith}
-use Rattle.dossier.specs.Words.{number_of}
+use Rattle.dossier.specs.Words.{read_number}
 use Rattle.dossier.proofs.Spelling.{behind, behind-none, from, one-read, none-read, all-read}
 use Rattle.dossier.proofs.words.numbers_in.Goals as goal
 
 pub loop-word-init : goal.loop-word-init
 loop-word-init c =
-    behind-none (from (λ word. word.now) number_of c.args.words.now 0)
-    ∙ ap (λ read. behind read (from (λ word. word.now) number_of c.args.words.now 0)) (sym c.new-chain.ensures.items)
+    behind-none (from (λ word. word.now) read_number c.args.words.now 0)
+    ∙ ap (λ read. behind read (from (λ word. word.now) read_number c.args.words.now 0)) (sym c.new-chain.ensures.items)
 
 pub loop-word-preserved : goal.loop-word-preserved
 loop-word-preserved c =
     c.loop-word.invariant
-    ∙ one-read (λ word. word.now) number_of c.args.words.now c.loop-word.word-index _ c.loop-word-test.true
+    ∙ one-read (λ word. word.now) read_number c.args.words.now c.loop-word.word-index _ c.loop-word-test.true
     c.loop-word.chain.items c.in-Some.number (sym c.number_of.ensures.value ∙ c.in-Some.is)
-    ∙ ap (λ read. behind read (from (λ word. word.now) number_of c.args.words.now (c.loop-word.word-index + 1))) (sym c.in_ok-push-in-Some.ensures.items)
+    ∙ ap (λ read. behind read (from (λ word. word.now) read_number c.args.words.now (c.loop-word.word-index + 1))) (sym c.in_ok-push-in-Some.ensures.items)
 
 -- a word that says nothing
 pub returns-in-None : goal.returns-in-None
 returns-in-None c =
     sym (c.loop-word.invariant
-    ∙ none-read (λ word. word.now) number_of c.args.words.now c.loop-word.word-index _ c.loop-word-test.true
+    ∙ none-read (λ word. word.now) read_number c.args.words.now c.loop-word.word-index _ c.loop-word-test.true
     c.loop-word.chain.items (sym c.number_of.ensures.value ∙ c.in-None.is))
 
 pub returns : goal.returns
 returns c =
     sym (c.loop-word.invariant
-    ∙ all-read (λ word. word.now) number_of c.args.words.now c.loop-word.chain.items c.loop-word.word-index (omega (arith, c.loop-word-test.false)))
+    ∙ all-read (λ word. word.now) read_number c.args.words.now c.loop-word.chain.items c.loop-word.word-index (omega (arith, c.loop-word-test.false)))
