@@ -52,7 +52,8 @@ use std::thread::Threads;
 /// No clause speaks of the gate, and none says that users of a batch or connections are served side
 /// by side. Of a standby they say whom the dials call, that each exchange gives a record that lies
 /// in the journal of its user as the call ends, and that no user has more entries then than the
-/// standby answered for him; not that an exchange came before its mark was told.
+/// standby answered for him, of a batch where an opening of his journal held; not that an exchange
+/// came before its mark was told.
 pub fn top<
     R: Threads + Wait + Sync,
     F: Shelf,
