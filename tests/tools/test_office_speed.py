@@ -9,9 +9,16 @@ import program
 from told import InDirectory
 
 SPEED = program.TOP / "tests/office_speed"
-# It answers each ask with `yes`, and keeps the lines of a user as his journal.
+# It answers each ask with `yes`, and keeps the lines of a user as his journal. A standby is given the directory of the
+# journals, and copies them.
 STAND_IN = """#!{python}
 import pathlib, socket, sys
+
+
+def address(word):
+    host, _, port = words[word].partition(":")
+    return host, int(port)
+
 
 command, words = sys.argv[1], dict(zip(sys.argv[2::2], sys.argv[3::2]))
 users = [line.split('"')[1] for line in open(words["--policy"]) if line.startswith("name = ")]
@@ -25,8 +32,20 @@ elif command == "batch":
         user, session, _, text = line.split(" ", 3)
         opened[user].write(text)
         print(user, session, "yes")
+    if "--standby" in words:
+        with socket.create_connection(address("--standby")) as standby:
+            standby.sendall(words["--journals"].encode())
+            standby.recv(99)
+elif command == "standby":
+    with socket.create_server(address("--listen")) as listener:
+        while True:
+            with listener.accept()[0] as client:
+                given = client.recv(999).decode()
+                for user, journal in journals.items() if given else ():
+                    journal.write_text((pathlib.Path(given) / journal.name).read_text() + {lost})
+                client.sendall(b"ok")
 elif command == "serve":
-    with socket.create_server((words["--listen"].split(":")[0], int(words["--listen"].split(":")[1]))) as listener:
+    with socket.create_server(address("--listen")) as listener:
         while True:
             with listener.accept()[0] as client:
                 client.recv(99)
@@ -48,8 +67,8 @@ class Measured(InDirectory):
         self.assertEqual([path.name for path in self.directory.iterdir() if path.is_dir()], [])
         return done.stdout
 
-    def stand_in(self, checked=0):
-        path = self.file("cqe", STAND_IN.format(python=sys.executable, checked=checked))
+    def stand_in(self, checked=0, lost=""):
+        path = self.file("cqe", STAND_IN.format(python=sys.executable, checked=checked, lost=repr(lost)))
         path.chmod(0o755)
         return path
 
@@ -77,6 +96,14 @@ class Measured(InDirectory):
         for user in ("u0", "u1", "u2"):
             self.assertTrue(rows[f"{user}, 11 items: the asks"].endswith("11 yes"))
             self.assertEqual(rows[f"{user}, 11 items: `check`"], "sound 11")
+            self.assertIn(f"{user}, 11 items: what `batch` takes more that brings them to a standby", rows)
+            self.assertIn(f"{user}, 11 items: what a takeover's `batch` takes more", rows)
+
+    def test_another_journal_at_the_standby_ends_it(self):
+        done = subprocess.run([sys.executable, SPEED, *SIZES, "--of", "u1"], capture_output=True, text=True, timeout=300,
+                              env={**os.environ, "CQE": str(self.stand_in(lost="more"))})
+        self.assertEqual(done.returncode, 1)
+        self.assertEqual(done.stderr, "office_speed: the standby has other journals than the primary\n")
 
     def test_scripts_have_so_many_lines_as_are_allowed(self):
         rows = self.rows(self.measured(self.stand_in(), "--users", "26", "--asks", "4000", "--of", "", "--workers", "2"))
