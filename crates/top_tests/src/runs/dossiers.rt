@@ -4,7 +4,7 @@ use super::failing::CALLS;
 use super::ward::{
     BATCH, JOURNALS, check_empty, check_told, init, stage_of, told, ward_by, ward_with,
 };
-use super::{Stage, failing_at, failing_sink, failing_source, front};
+use super::{Stage, counted, failing_at, failing_sink, failing_source, front};
 use outside::{MemorySource, Plan};
 use std::alloc::{AllocError, Global};
 use std::process::Abort;
@@ -170,7 +170,7 @@ fn a_long_text(
     let mut stage = ward_by(alloc, Plan::Never)?;
     stage.run_from(rt, alloc, &CHECK, source)?;
     stage.check(rt, 14, "", complaint, "a long text");
-    assert_eq!(rt; stage.source.left().len(), left);
+    counted(rt, stage.source.left().len(), left, "bytes that are left");
     Ok(())
 }
 
@@ -202,7 +202,7 @@ fn asked(rt: &(impl Threads + Wait + Sync + Abort), alloc: Global) -> Result<Sta
     init(rt, alloc, &mut stage)?;
     let source = MemorySource::new(made.script.clone()?);
     stage.run_from(rt, alloc, &BATCH, source)?;
-    assert_eq!(rt; stage.status, 0);
+    stage.check_status(rt, 0);
     Ok(stage)
 }
 
@@ -216,7 +216,7 @@ fn shown_of(
     let mut words = DOSSIER;
     words[8] = user;
     stage.run(rt, alloc, &words, "")?;
-    assert_eq!(rt; stage.status, 0);
+    stage.check_status(rt, 0);
     stage.sink.bytes().to_vec(alloc)
 }
 

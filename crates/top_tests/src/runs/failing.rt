@@ -5,7 +5,7 @@
 use super::ward::{
     BATCH, batch, check_empty, check_told, check_told_first, journal, ward_by, ward_with,
 };
-use super::{Stage, failing_at, failing_sink, failing_source, front};
+use super::{Stage, counted, failing_at, failing_sink, failing_source, front, holds};
 use outside::Plan;
 use std::alloc::{AllocError, Global};
 use std::process::Abort;
@@ -82,13 +82,13 @@ fn a_read_fails(
     stage.run_from(rt, alloc, &BATCH, source)?;
     if stage.source.faults() == 0 {
         // the 58 bytes take 20 reads
-        assert!(rt; call >= 20);
+        holds(rt, call >= 20, "reads of 58 bytes");
         let replies = "eve 1 no\neve 1 no\nkim 1 no\n";
         stage.check(rt, 0, replies, "", "no read failed");
     } else {
         stage.check(rt, 6, "", "cqe: read fault\n", "a read failed");
-        assert_eq!(rt; calls_of(&stage, "d/eve.log"), 0);
-        assert_eq!(rt; calls_of(&stage, "d/kim.log"), 0);
+        counted(rt, calls_of(&stage, "d/eve.log"), 0, "calls of eve's disk");
+        counted(rt, calls_of(&stage, "d/kim.log"), 0, "calls of kim's disk");
     }
     Ok(())
 }

@@ -66,8 +66,8 @@ fn a_journal_is_made_by_the_next_init(rt: HostRuntime) -> Result<(), Fail> {
 fn check_made(rt: &impl Abort, alloc: Global, stage: &Stage, call: u64) -> Result<(), AllocError> {
     if call < 4 {
         stage.check(rt, 11, "", "cqe: disk fault\n", "kim's disk");
-        assert!(rt; !stage.has_disk("d/lou.log"));
-        assert!(rt; !stage.has_disk("d/tom.log"));
+        stage.check_no_disk(rt, "d/lou.log");
+        stage.check_no_disk(rt, "d/tom.log");
     } else {
         stage.check(rt, 0, "", "", "no call failed");
     }
@@ -110,7 +110,9 @@ fn check_kept(rt: &impl Abort, stage: &Stage, call: u64) {
         _ => (0, ""),
     };
     stage.check(rt, status, "", complaint, complaint);
-    assert!(rt; call >= 6 || !stage.has_disk("d/ron.log"));
+    if call < 6 {
+        stage.check_no_disk(rt, "d/ron.log");
+    }
 }
 
 // The calls of the shelf are the reading of both files, and the taking of each disk. What wasn't

@@ -22,7 +22,7 @@ fn init_stops_at_the_first_disk_that_fails(rt: HostRuntime) -> Result<(), Fail> 
         )?;
         init(&rt, alloc, &mut stage)?;
         stage.check(&rt, 11, "", "cqe: disk fault\n", "kim's disk");
-        assert!(rt; !stage.has_disk("d/lou.log"));
+        stage.check_no_disk(&rt, "d/lou.log");
     }
     Ok(())
 }
