@@ -1,68 +1,87 @@
 -- Items that are added behind those that were read.
-use Rattle.std.proofs.Common.{◌≡◌, ◌++◌, ◌∷◌, [], ℕ, List, true, false, sym, subst, ◌∙◌, append-nil}
-use Rattle.std.proofs.lemmas.Bool.{both_ways}
+use Rattle.std.proofs.Common.{◌≡◌, ◌≤◌, ◌++◌, ◌∷◌, [], ℕ, Some, length, true, false, sym, subst, ◌∙◌, arith}
+use Rattle.std.proofs.lemmas.Bool.{both_ways, or_parts}
 use Rattle.cqe_base.specs.declared.user.Mark.{Mark}
 use Rattle.cqe_base.specs.declared.user.Mark.TheVariants.{Protected}
-use Rattle.cqe_base.specs.Schema.{DatabaseSchema}
+use Rattle.cqe_base.specs.declared.user.Purpose.TheVariants.{Asking, Protecting}
+use Rattle.cqe_base.specs.Schema.{DatabaseSchema, Text}
 use Rattle.cqe_base.specs.Formula.{Formula, is_sentence_of}
-use Rattle.cqe_base.specs.Entailment.{Signed}
 use Rattle.cqe_base.specs.History.{UserProfile, AnsweredQuery, History, is_added, log, user_at}
-use Rattle.cqe_base.specs.Censor.{guarded_with}
-use Rattle.cqe_base.specs.Limits.{KeepsSizesAt}
-use Rattle.cqe_base.specs.Run.{is_full, is_too_large, is_too_large_secret, has_all_secrets}
-use Rattle.dossier.specs.Checked.{addition_probe}
-use Rattle.dossier.specs.Items.{goal_probe}
+use Rattle.cqe_base.specs.Limits.{KeepsLimits, KeepsSizes, KeepsSizesAt, FitsLog, FitsAddition, SmallQueriesFit, SmallSecretsFit}
+use Rattle.cqe_base.specs.Reading.{ReadingsAreSentences}
+use Rattle.cqe_base.specs.Run.{is_too_large}
+use Rattle.entailment.specs.Logs.{log_nodes}
+use Rattle.dossier.specs.Checked.{sentence_in}
+use Rattle.dossier.specs.Logs.{past_schema, past_user, past_history, IsSamePast}
+use Rattle.dossier.specs.declared.past.Past.{Past}
+use Rattle.dossier.proofs.SamePasts.{at-same}
+use Rattle.dossier.proofs.Asks.{some-within, asked-within, added-within}
 
--- an item that was asked came within the limits
-pub asked-fits : (schema : DatabaseSchema) (user : UserProfile) (entries : History) (query : Formula) (mark : Mark) (size : ℕ)
-    → is_sentence_of schema query ≡ true → is_added mark ≡ false → (is_full entries size ≡ false) × (is_too_large schema user entries query ≡ false)
-    → KeepsSizesAt schema user entries (record { query = query; mark = mark; length = size })
-asked-fits schema user entries query mark size sentence asked (room, small) = record {
-  sentence = sentence;
-  room = room;
-  small = small;
-  small_secret = λ added. absurd (both_ways (is_added mark) asked added);
-  secret_room = λ added. absurd (both_ways (is_added mark) asked added);
-}
+-- what is known of a query that was read behind these items
+pub record IsAskable (schema : DatabaseSchema) (user : UserProfile) (entries : History) (query : Formula) (size : ℕ) : Type 0 where
+  pub short : size ≤ 4096
+  pub sentence : is_sentence_of schema query ≡ true
+  pub fits : FitsLog schema user entries query
+  pub sizes : (mark : Mark) → is_added mark ≡ false → KeepsSizesAt schema user entries (record { query = query; mark = mark; length = size })
 
--- and so did one that was added
-pub added-fits : (schema : DatabaseSchema) (user : UserProfile) (entries : History) (secret : Formula) (size : ℕ)
-    → is_sentence_of schema secret ≡ true → is_too_large schema user entries secret ≡ false
-    → (is_full entries size ≡ false) × (is_too_large_secret schema user entries secret ≡ false) × (has_all_secrets user entries ≡ false)
-    → KeepsSizesAt schema user entries (record { query = secret; mark = Protected; length = size })
-added-fits schema user entries secret size sentence small (room, small_secret, secret_room) = record {
-  sentence = sentence;
-  room = room;
-  small = small;
-  small_secret = λ added. small_secret;
-  secret_room = λ added. secret_room;
-}
+pub read-askable : ReadingsAreSentences → SmallQueriesFit → {schema : DatabaseSchema} {user : UserProfile} {entries : History} (text : Text)
+    {query : Formula} → KeepsLimits schema user → Some query ≡ sentence_in schema user entries Asking text
+    → IsAskable schema user entries query (length text)
+read-askable of_schema queries {schema} {user} {entries} text {query} limits read =
+    let stands = some-within schema user entries Asking text query read in
+    let within = asked-within schema user entries (length text) query stands.2 in
+    let reads = of_schema schema text query stands.1 in
+    record {
+      short = stands.0;
+      sentence = reads;
+      fits = queries schema user entries query limits within.1;
+      sizes = λ mark asked. record {
+        sentence = reads;
+        room = within.0;
+        small = within.1;
+        small_secret = λ added. absurd (both_ways (is_added mark) asked added);
+        secret_room = λ added. absurd (both_ways (is_added mark) asked added);
+      };
+    }
 
--- what came within the limits of the items that are kept came within those of the items that they are
-pub fits-at : (schema schema' : DatabaseSchema) (user user' : UserProfile) (entries entries' : History) (item item' : AnsweredQuery)
-    → schema' ≡ schema → user' ≡ user → entries' ≡ entries → item' ≡ item → KeepsSizesAt schema user entries item
-    → KeepsSizesAt schema' user' entries' item'
-fits-at schema schema' user user' entries entries' item item' s u e i fits =
-    subst (λ x. KeepsSizesAt x user' entries' item') (sym s)
-    (subst (λ x. KeepsSizesAt schema x entries' item') (sym u)
-    (subst (λ x. KeepsSizesAt schema user x item') (sym e)
-    (subst (KeepsSizesAt schema user entries) (sym i) fits)))
+-- and of a sentence that was read to be added
+pub record IsAddable (schema : DatabaseSchema) (user : UserProfile) (entries : History) (secret : Formula) (size : ℕ) : Type 0 where
+  pub short : size ≤ 4096
+  pub sizes : KeepsSizesAt schema user entries (record { query = secret; mark = Protected; length = size })
+  pub told_nodes : log_nodes schema (log user entries) ≤ 60000
+  pub fits : FitsAddition schema (user_at user entries) secret
+
+pub read-addable : ReadingsAreSentences → SmallQueriesFit → SmallSecretsFit → {schema : DatabaseSchema} {user : UserProfile}
+    {entries : History} (text : Text) {secret : Formula} → KeepsLimits schema user → KeepsSizes schema user entries
+    → Some secret ≡ sentence_in schema user entries Protecting text → IsAddable schema user entries secret (length text)
+read-addable of_schema queries additions {schema} {user} {entries} text {secret} limits sizes read =
+    let stands = some-within schema user entries Protecting text secret read in
+    let within = added-within schema user entries (length text) secret stands.2 in
+    let reads = of_schema schema text secret stands.1 in
+    let small = (or_parts (is_too_large schema user entries secret) _ within.1).0 in
+    let room = (queries schema user entries secret limits small).log_nodes true in
+    record {
+      short = stands.0;
+      sizes = record {
+        sentence = reads;
+        room = within.0;
+        small = small;
+        small_secret = λ added. within.1;
+        secret_room = λ added. within.2;
+      };
+      told_nodes = omega (arith, room);
+      fits = additions schema user entries secret limits sizes reads within.1;
+    }
+
+-- an item that came within the limits of what is kept did so of what is the same, with parts that are the same
+pub fits-at : (old new : Past) (item : AnsweredQuery) {item' : AnsweredQuery} → IsSamePast old new → item' ≡ item
+    → KeepsSizesAt (past_schema old) (past_user old) (past_history old) item
+    → KeepsSizesAt (past_schema new) (past_user new) (past_history new) item'
+fits-at old new item {item'} same is fits =
+    at-same (λ s u h. KeepsSizesAt s u h item') old new same (subst (KeepsSizesAt (past_schema old) (past_user old) (past_history old)) (sym is) fits)
 
 -- the items with one more, whose parts are these
-pub one-behind : (before before' after : History) (query query' : Formula) (mark : Mark) (size size' : ℕ)
+pub one-behind : {before before' after : History} {query query' : Formula} (mark : Mark) {size size' : ℕ}
     → after ≡ before' ++ record { query = query'; mark = mark; length = size' } ∷ [] → before' ≡ before → query' ≡ query → size' ≡ size
     → before ++ record { query = query; mark = mark; length = size } ∷ [] ≡ after
-one-behind before before' after query query' mark size size' is b q s =
-    sym (is ∙ (λ i. b i ++ record { query = q i; mark = mark; length = s i } ∷ []))
-
--- what is guarded with one more secret, by the user who is kept
-pub guard-at : (current user : UserProfile) (entries : History) (secret made : Formula) → current ≡ user_at user entries
-    → made ≡ guarded_with current secret → made ≡ guarded_with (user_at user entries) secret
-guard-at current user entries secret made is made_is = made_is ∙ (λ i. guarded_with (is i) secret)
-
--- the probe of an addition is that of the log against what is guarded
-pub addition-shown : (user : UserProfile) (entries : History) (secret goal : Formula) (told : List Signed) → told ≡ log user entries
-    → goal ≡ guarded_with (user_at user entries) secret
-    → addition_probe user entries secret ≡ goal_probe (told ++ []) (goal, true)
-addition-shown user entries secret goal told told_is goal_is =
-    λ i. record { premises = sym (append-nil told ∙ told_is) i; goal = (sym goal_is i, true) }
+one-behind mark is b q s = sym (is ∙ (λ i. b i ++ record { query = q i; mark = mark; length = s i } ∷ []))

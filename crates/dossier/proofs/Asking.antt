@@ -18,6 +18,7 @@ use Rattle.dossier.specs.Reading.{Unread, answer, ReadsOn}
 use Rattle.dossier.specs.Items.{ReadsFindings}
 use Rattle.dossier.specs.declared.error.DossierError.{DossierError}
 use Rattle.dossier.specs.declared.error.DossierError.TheVariants as refused
+use Rattle.dossier.proofs.ReadLines.{refused-on}
 
 -- ---- marks
 
@@ -79,22 +80,10 @@ module _ (schema : DatabaseSchema) (world : FactSet) (name : Text) (user : UserP
     pub shown-refused : {X : Type 0} (onward : X → Result Awaited DossierError) (why : DossierError)
         → ReadsFindings schema world name user before (asking line mark query size) query old new (Err why)
         → ReadsOn schema world name user (asked schema world name user line before mark size (Some query)) old new onward (Err why)
-    shown-refused onward why next = by why next
-      where
-        start : answer schema world name user (asked schema world name user line before mark size (Some query)) old
-            ≡ answer schema world name user (awaited_for schema world name user before (asking line mark query size)
-            (probes (user_at user before) (log user before) query) []) old
-        start = ap (λ x. answer schema world name user x old) (asked-shown mark isnt)
-
-        by : (why : DossierError) → ReadsFindings schema world name user before (asking line mark query size) query old new (Err why)
-            → ReadsOn schema world name user (asked schema world name user line before mark size (Some query)) old new onward (Err why)
-        by refused.Memory next = tt
-        by (refused.Form at) next = start ∙ next
-        by (refused.Text at) next = start ∙ next
-        by (refused.Verdict at) next = start ∙ next
-        by (refused.Mark at) next = start ∙ next
-        by (refused.Admission at) next = start ∙ next
-        by (refused.Unsafe at) next = start ∙ next
+    shown-refused onward why next =
+        refused-on schema world name user (asked schema world name user line before mark size (Some query))
+        (awaited_for schema world name user before (asking line mark query size) (probes (user_at user before) (log user before) query) []) old old why
+        (ap (λ x. answer schema world name user x old) (asked-shown mark isnt)) next
 
     -- the same where the query is the same
     pub shown-refused-at : {X : Type 0} (onward : X → Result Awaited DossierError) (why : DossierError) (other : Formula) → other ≡ query

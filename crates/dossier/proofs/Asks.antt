@@ -11,7 +11,7 @@ use Rattle.cqe_base.specs.declared.user.Purpose.TheVariants.{Asking, Protecting}
 use Rattle.cqe_base.specs.Schema.{DatabaseSchema, Text}
 use Rattle.cqe_base.specs.Facts.{FactSet}
 use Rattle.cqe_base.specs.Formula.{Formula}
-use Rattle.cqe_base.specs.History.{UserProfile, History, is_added}
+use Rattle.cqe_base.specs.History.{UserProfile, History, is_added, log}
 use Rattle.cqe_base.specs.Limits.{KeepsSizesAt}
 use Rattle.cqe_base.specs.Reading.{Refusal, reading}
 use Rattle.cqe_base.specs.Run.{is_full, is_too_large, is_too_large_secret, has_all_secrets}
@@ -20,8 +20,12 @@ use Rattle.user_desk.specs.Entries.{purpose_by}
 use Rattle.dossier.specs.Adding.{IsWithin}
 use Rattle.dossier.specs.Fields.{FieldSaid, first_word}
 use Rattle.dossier.specs.Words.{mark_named}
-use Rattle.dossier.specs.Checked.{within_limits, sentence_in, asked, added, ask_line, protect_line, item_line, awaited_for, adding, addition_probe}
+use Rattle.dossier.specs.Checked.{Awaited, within_limits, sentence_in, asked, added, ask_line, protect_line, item_line, awaited_for, adding, addition_probe}
+use Rattle.dossier.specs.Items.{goal_probe}
+use Rattle.dossier.specs.Reading.{Unread, answer, IsRefusedSo}
+use Rattle.dossier.specs.declared.error.DossierError.{DossierError}
 use Rattle.dossier.specs.declared.error.DossierError.TheVariants as refused
+use Rattle.dossier.proofs.ReadLines.{refused-on}
 use Rattle.dossier.proofs.ItemLines.{item-ask, item-protect}
 
 -- a mark that a word names is that of an ask
@@ -170,7 +174,25 @@ module _ (schema : DatabaseSchema) (user : UserProfile) (entries : History) wher
         let (large, most) = or_parts (is_too_large_secret schema user entries sentence) (has_all_secrets user entries) others in
         (full, large, most)
 
+-- the line of an item leads on to what is awaited then
+pub record LeadsTo (schema : DatabaseSchema) (world : FactSet) (name : Text) (user : UserProfile) (entries : History) (field : FieldSaid)
+    (next : Result Awaited DossierError) : Type 0 where
+  pub on : (lines : Unread)
+      → answer schema world name user (item_line schema world name user entries field) lines ≡ answer schema world name user next lines
+
+-- a refusal of that is one of the line
+pub refused-behind : {schema : DatabaseSchema} {world : FactSet} {name : Text} {user : UserProfile} {entries : History} {field : FieldSaid}
+    {next : Result Awaited DossierError} → LeadsTo schema world name user entries field next → (lines : Unread) (why : DossierError)
+    → IsRefusedSo schema world name user next lines why
+    → IsRefusedSo schema world name user (item_line schema world name user entries field) lines why
+refused-behind {schema} {world} {name} {user} {entries} {field} {next} leads lines why =
+    refused-on schema world name user (item_line schema world name user entries field) next lines lines why (leads.on lines)
+
 module _ (schema : DatabaseSchema) (world : FactSet) (name : Text) (user : UserProfile) (entries : History) (field : FieldSaid) where
+  leads : {next : Result Awaited DossierError} → item_line schema world name user entries field ≡ next
+      → LeadsTo schema world name user entries field next
+  leads is = record { on = λ lines. ap (λ x. answer schema world name user x lines) is }
+
   -- ---- the line of an ask
 
   -- without a sentence it is refused, whatever its mark
@@ -181,7 +203,7 @@ module _ (schema : DatabaseSchema) (world : FactSet) (name : Text) (user : UserP
   asked-none line Undecided size = refl
   asked-none line Protected size = refl
 
-  module _ (is : field.word ≡ codes "ask") (word text : Text) (word_is : word ≡ (first_word field.rest).0)
+  module _ (is : field.word ≡ codes "ask") {word text : Text} (word_is : word ≡ (first_word field.rest).0)
       (text_is : text ≡ (first_word field.rest).1) where
     ask-at : item_line schema world name user entries field ≡ ask_line schema world name user field.line entries (mark_named word) text
     ask-at =
@@ -189,13 +211,13 @@ module _ (schema : DatabaseSchema) (world : FactSet) (name : Text) (user : UserP
         ∙ (λ i. ask_line schema world name user field.line entries (mark_named (sym word_is i)) (sym text_is i))
 
     -- its word names no mark
-    pub ask-unmarked : None ≡ mark_named word → item_line schema world name user entries field ≡ Err (refused.Form field.line)
-    ask-unmarked none = ask-at ∙ ap (λ m. ask_line schema world name user field.line entries m text) (sym none)
+    pub ask-unmarked : None ≡ mark_named word → LeadsTo schema world name user entries field (Err (refused.Form field.line))
+    ask-unmarked none = leads (ask-at ∙ ap (λ m. ask_line schema world name user field.line entries m text) (sym none))
 
-    module _ (mark : Mark) (named : Some mark ≡ mark_named word) where
+    module _ {mark : Mark} (named : Some mark ≡ mark_named word) where
       -- it has no text
-      pub ask-textless : text ≡ [] → item_line schema world name user entries field ≡ Err (refused.Form field.line)
-      ask-textless none = ask-at ∙ (λ i. ask_line schema world name user field.line entries (sym named i) (none i))
+      pub ask-textless : text ≡ [] → LeadsTo schema world name user entries field (Err (refused.Form field.line))
+      ask-textless none = leads (ask-at ∙ (λ i. ask_line schema world name user field.line entries (sym named i) (none i)))
 
       module _ (some : 1 ≤ length text) where
         with-text : (t : Text) → 1 ≤ length t
@@ -209,16 +231,15 @@ module _ (schema : DatabaseSchema) (world : FactSet) (name : Text) (user : UserP
         to-asked = ask-at ∙ ap (λ m. ask_line schema world name user field.line entries m text) (sym named) ∙ with-text text some
 
         -- its text is no sentence within the limits
-        pub ask-unread : None ≡ sentence_in schema user entries Asking text
-            → item_line schema world name user entries field ≡ Err (refused.Text field.line)
+        pub ask-unread : None ≡ sentence_in schema user entries Asking text → LeadsTo schema world name user entries field (Err (refused.Text field.line))
         ask-unread none =
-            to-asked ∙ ap (asked schema world name user field.line entries mark (length text)) (sym none)
-            ∙ asked-none field.line mark (length text)
+            leads (to-asked ∙ ap (asked schema world name user field.line entries mark (length text)) (sym none)
+            ∙ asked-none field.line mark (length text))
 
         -- or it is one
-        pub ask-read : (query : Formula) → Some query ≡ sentence_in schema user entries Asking text
-            → item_line schema world name user entries field ≡ asked schema world name user field.line entries mark (length text) (Some query)
-        ask-read query read = to-asked ∙ ap (asked schema world name user field.line entries mark (length text)) (sym read)
+        pub ask-read : {query : Formula} → Some query ≡ sentence_in schema user entries Asking text
+            → LeadsTo schema world name user entries field (asked schema world name user field.line entries mark (length text) (Some query))
+        ask-read read = leads (to-asked ∙ ap (asked schema world name user field.line entries mark (length text)) (sym read))
 
   -- ---- the line of an addition
 
@@ -228,8 +249,8 @@ module _ (schema : DatabaseSchema) (world : FactSet) (name : Text) (user : UserP
         item-protect schema world name user field entries (ap (λ w. bytes_eq w (codes "ask")) is) (ap (λ w. bytes_eq w (codes "protect")) is)
 
     -- it has no text
-    pub protect-textless : field.rest ≡ [] → item_line schema world name user entries field ≡ Err (refused.Form field.line)
-    protect-textless none = protect-at ∙ ap (protect_line schema world name user field.line entries) none
+    pub protect-textless : field.rest ≡ [] → LeadsTo schema world name user entries field (Err (refused.Form field.line))
+    protect-textless none = leads (protect-at ∙ ap (protect_line schema world name user field.line entries) none)
 
     module _ (some : 1 ≤ length field.rest) where
       with-secret : (t : Text) → 1 ≤ length t
@@ -240,15 +261,18 @@ module _ (schema : DatabaseSchema) (world : FactSet) (name : Text) (user : UserP
 
       -- its text is no sentence within the limits
       pub protect-unread : None ≡ sentence_in schema user entries Protecting field.rest
-          → item_line schema world name user entries field ≡ Err (refused.Text field.line)
+          → LeadsTo schema world name user entries field (Err (refused.Text field.line))
       protect-unread none =
-          protect-at ∙ with-secret field.rest some
-          ∙ ap (added schema world name user field.line entries (length field.rest)) (sym none)
+          leads (protect-at ∙ with-secret field.rest some
+          ∙ ap (added schema world name user field.line entries (length field.rest)) (sym none))
 
-      -- or it is one: its block is awaited
-      pub protect-read : (secret : Formula) → Some secret ≡ sentence_in schema user entries Protecting field.rest
-          → item_line schema world name user entries field
-          ≡ awaited_for schema world name user entries (adding secret (length field.rest)) (addition_probe user entries secret ∷ []) []
-      protect-read secret read =
-          protect-at ∙ with-secret field.rest some
+      -- or it is one: the block of what is guarded with it is awaited
+      pub protect-read : {secret goal : Formula} → Some secret ≡ sentence_in schema user entries Protecting field.rest
+          → goal ≡ (addition_probe user entries secret).goal.0
+          → LeadsTo schema world name user entries field
+          (awaited_for schema world name user entries (adding secret (length field.rest)) (goal_probe (log user entries) (goal, true) ∷ []) [])
+      protect-read {secret} read goal_is =
+          leads (protect-at ∙ with-secret field.rest some
           ∙ ap (added schema world name user field.line entries (length field.rest)) (sym read)
+          ∙ ap (λ g. awaited_for schema world name user entries (adding secret (length field.rest)) (goal_probe (log user entries) (g, true) ∷ []) [])
+          (sym goal_is))

@@ -17,7 +17,7 @@ use Rattle.dossier.specs.declared.blocks.Reason.{Reason}
 use Rattle.dossier.specs.declared.cut.Field.{Field}
 use Rattle.dossier.specs.declared.error.DossierError.{DossierError}
 use Rattle.dossier.specs.declared.error.DossierError.TheVariants as refused
-use Rattle.dossier.proofs.ReadLines.{answer-line, answer-end, reads-err, reads-refused, block-open, block-follows, block-other, open-shows, open-refused}
+use Rattle.dossier.proofs.ReadLines.{answer-line, answer-end, refused-so, refused-on, block-open, block-follows, block-other, open-shows, open-refused}
 use Rattle.dossier.proofs.ReadLines.{follows-reads, follows-refused, step-line, step-end, step-other, end-shows}
 
 -- what is confirmed of the view's log is of the log that it has
@@ -43,7 +43,7 @@ module _ (schema : DatabaseSchema) (world : FactSet) (name : Text) (user : UserP
     pub block-missing : (why : DossierError) → TakesLine old (Err why) next
         → ReadsOn schema world name user (Ok (block showing)) old next (behind_block schema world name user showing) (Err why)
     block-missing why takes =
-        reads-err schema world name user (Ok (block showing)) old next (behind_block schema world name user showing) why
+        refused-so schema world name user (Ok (block showing)) old why
         (λ isnt. missing (block showing) old next why refl takes)
 
     module _ (field : Field) (passes : PassesLine old (Some field) next) where
@@ -63,7 +63,7 @@ module _ (schema : DatabaseSchema) (world : FactSet) (name : Text) (user : UserP
           → IsButMemory (open_answer schema field.line probe (facts_listed schema (field_said field).rest)) (Err why)
           → ReadsOn schema world name user (Ok (block showing)) old next (behind_block schema world name user showing) (Err why)
       block-open-refused probe why same is opens =
-          reads-err schema world name user (Ok (block showing)) old next (behind_block schema world name user showing) why
+          refused-so schema world name user (Ok (block showing)) old why
           (λ isnt.
           answer-line schema world name user (block showing) old next field passes
           ∙ ap (λ r. answer schema world name user r next)
@@ -84,7 +84,7 @@ module _ (schema : DatabaseSchema) (world : FactSet) (name : Text) (user : UserP
         pub block-may-not : (why : DossierError) → MayFollow reason field.line (Err why)
             → ReadsOn schema world name user (Ok (block showing)) old next (behind_block schema world name user showing) (Err why)
         block-may-not why may =
-            reads-err schema world name user (Ok (block showing)) old next (behind_block schema world name user showing) why
+            refused-so schema world name user (Ok (block showing)) old why
             (λ exact.
             answer-line schema world name user (block showing) old next field passes
             ∙ ap (λ r. answer schema world name user r next)
@@ -105,8 +105,7 @@ module _ (schema : DatabaseSchema) (world : FactSet) (name : Text) (user : UserP
             → ReadsOn schema world name user (Ok (step showing [])) next new onward (Err why)
             → ReadsOn schema world name user (Ok (block showing)) old new (behind_block schema world name user showing) (Err why)
         block-refused new onward why may read =
-            reads-refused schema world name user (Ok (block showing)) old new (behind_block schema world name user showing) next (Ok (step showing [])) onward
-            why (goes-on may) read
+            refused-on schema world name user (Ok (block showing)) (Ok (step showing [])) old next why (goes-on may) read
 
         -- or are, up to their end
         pub block-ended : (new : Unread) (end : ℕ) (lines : List RefutationLine) (confirmed : Bool) → MayFollow reason field.line (Ok tt)

@@ -15,8 +15,7 @@ use Rattle.cqe_base.specs.Censor.{Probe, probes_against}
 use Rattle.dossier.specs.Checked.{Task, Awaited, Showing, block, awaited_for, behind_block}
 use Rattle.dossier.specs.Reading.{Unread, answer, ReadsOn, ReadsAll}
 use Rattle.dossier.specs.declared.error.DossierError.{DossierError}
-use Rattle.dossier.specs.declared.error.DossierError.TheVariants as refused
-use Rattle.dossier.proofs.ReadLines.{any-more}
+use Rattle.dossier.proofs.ReadLines.{refused-on, any-more}
 
 -- what each of the goals passes, this one passes
 pub passes-at : {W : Type 0} (said : W → Formula) (goals : List W) (i : ℕ) (goal : W) → goal ≡ get_or goals i goal → i < length goals
@@ -89,23 +88,10 @@ module _ (schema : DatabaseSchema) (world : FactSet) (name : Text) (user : UserP
         (behind_block schema world name user (showing_at i goal verdicts)) (Err why))
         → ReadsAll schema world name user (awaited_for schema world name user entries task (probes_against premises (map said goals) ++ more) shown) old new
         count then (Err why)
-    one-refused some old at new count then why (verdicts, size, any, so_far) next = by why (next verdicts)
-      where
-        start : answer schema world name user (awaited_for schema world name user entries task (probes_against premises (map said goals) ++ more) shown) old
-            ≡ answer schema world name user (Ok (block (showing_at i goal verdicts))) at
-        start = so_far ∙ ap (λ x. answer schema world name user x at) (splits verdicts)
-
-        by : (why : DossierError) → ReadsOn schema world name user (Ok (block (showing_at i goal verdicts))) at new
-            (behind_block schema world name user (showing_at i goal verdicts)) (Err why)
-            → ReadsAll schema world name user (awaited_for schema world name user entries task (probes_against premises (map said goals) ++ more) shown)
-            old new count then (Err why)
-        by refused.Memory next = tt
-        by (refused.Form line) next = start ∙ next
-        by (refused.Text line) next = start ∙ next
-        by (refused.Verdict line) next = start ∙ next
-        by (refused.Mark line) next = start ∙ next
-        by (refused.Admission line) next = start ∙ next
-        by (refused.Unsafe line) next = start ∙ next
+    one-refused some old at new count then why (verdicts, size, any, so_far) next =
+        refused-on schema world name user
+        (awaited_for schema world name user entries task (probes_against premises (map said goals) ++ more) shown) (Ok (block (showing_at i goal verdicts)))
+        old at why (so_far ∙ ap (λ x. answer schema world name user x at) (splits verdicts)) (next verdicts)
 
   -- all were read
   pub all-read : (i : ℕ) (some : Bool) (old new : Unread) → i ≤ length goals → length goals ≤ i → EachRead i some old new

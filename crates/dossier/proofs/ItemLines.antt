@@ -16,7 +16,7 @@ use Rattle.dossier.specs.declared.cut.Field.{Field}
 use Rattle.dossier.specs.declared.error.DossierError.{DossierError}
 use Rattle.dossier.specs.declared.error.DossierError.TheVariants as refused
 use Rattle.dossier.specs.Items.{ReadsItem, ReadsItems}
-use Rattle.dossier.proofs.ReadLines.{answer-line, answer-end, reads-err, reads-refused}
+use Rattle.dossier.proofs.ReadLines.{answer-line, answer-end, refused-so, refused-on}
 
 -- a reading of an item over the schema and the user that are kept is one over those that they are
 pub item-at : (schema schema' : DatabaseSchema) (world : FactSet) (name : Text) (user user' : UserProfile) (before after : History) (field : FieldSaid)
@@ -34,7 +34,7 @@ module _ (schema : DatabaseSchema) (world : FactSet) (name : Text) (user : UserP
       → history_at_end schema world name user awaited (next_line old) ≡ Err (refused.Form (next_line old)) → TakesLine old (Err why) new
       → ReadsOn schema world name user (Ok awaited) old new onward (Err why)
   line-missing awaited old new onward why ends (passes, is) =
-      reads-err schema world name user (Ok awaited) old new onward why
+      refused-so schema world name user (Ok awaited) old why
       (λ isnt. answer-end schema world name user awaited old new passes ∙ ends ∙ ap Err (sym is))
 
   -- the next line says what is awaited behind it
@@ -130,8 +130,7 @@ module _ (schema : DatabaseSchema) (world : FactSet) (name : Text) (user : UserP
         → ReadsItem schema world name user so_far (field_said field) middle new after (Err why)
         → ReadsItems schema world name user before start new end (Err why)
     items-refused after end new why reads =
-        reads-refused schema world name user {X = Unit {0}} (Ok (item before)) start new (λ _. Ok (nothing end)) {Y = Unit {0}} middle
-        (item_line schema world name user so_far (field_said field)) (λ _. Ok (item after)) why to-item reads
+        refused-on schema world name user (Ok (item before)) (item_line schema world name user so_far (field_said field)) start middle why to-item reads
 
     -- or which is no item's, but the end
     pub items-done : (bytes_eq (field_said field).word (codes "done") && bytes_eq (field_said field).rest (decimal (length so_far))) ≡ true

@@ -1,24 +1,25 @@
 -- The probes of the admission and of a query, as their blocks are read.
-use Rattle.std.proofs.Common.{◌≡◌, ◌≢◌, ◌+◌, ℕ, Bool, true, false, List, [], ◌∷◌, ◌++◌, length, Option, Some, None, Result, Ok, Err}
-use Rattle.std.proofs.Common.{refl, sym, ap, subst, ◌∙◌, append_assoc, append-nil}
+use Rattle.std.proofs.Common.{◌≡◌, ◌≤◌, ◌+◌, ℕ, Bool, true, false, List, [], ◌∷◌, ◌++◌, length, Option, Some, None, Result, Ok, Err}
+use Rattle.std.proofs.Common.{refl, sym, ap, subst, ◌∙◌, arith, append_assoc, append-nil}
 use Rattle.std.specs.Prelude.{codes, if◌then◌else◌}
 use Rattle.cqe_base.specs.declared.user.Method.{Method}
 use Rattle.cqe_base.specs.declared.user.Method.TheVariants.{Lying, Refusal, Combined}
 use Rattle.cqe_base.specs.Schema.{DatabaseSchema, Text}
 use Rattle.cqe_base.specs.Facts.{FactSet}
-use Rattle.cqe_base.specs.Formula.{Formula}
+use Rattle.cqe_base.specs.Formula.{Formula, nodes}
 use Rattle.cqe_base.specs.Entailment.{Signed}
 use Rattle.cqe_base.specs.History.{UserProfile, History, known, log, user_at, EmptyLogIsKnown, EmptyHistoryAddsNone}
 use Rattle.cqe_base.specs.Censor.{Probe, guarded, probes, probes_by, probes_against, knows_truth_by, mark_by}
 use Rattle.cqe_base.specs.Limits.{FitsLog}
+use Rattle.entailment.specs.Logs.{log_nodes}
 use Rattle.dossier.specs.Fields.{is_alone}
 use Rattle.dossier.specs.Checked.{Task, Awaited, admission, admitting, item, awaited_for, behind_task}
-use Rattle.dossier.specs.Reading.{Unread, field_said, TakesLine, answer, ReadsOn, ReadsAll}
+use Rattle.dossier.specs.Reading.{Unread, field_said, TakesLine, answer, IsRefusedSo, ReadsOn, ReadsAll}
 use Rattle.dossier.specs.Items.{goal_probe, implied_probes, ReadsImplied, ReadsFindings}
 use Rattle.dossier.specs.declared.cut.Field.{Field}
 use Rattle.dossier.specs.declared.error.DossierError.{DossierError}
-use Rattle.dossier.specs.declared.error.DossierError.TheVariants as refused
 use Rattle.dossier.proofs.Verdicts.{first_count, found-mark}
+use Rattle.dossier.proofs.ReadLines.{refused-on}
 use Rattle.dossier.proofs.ItemLines.{line-says, admission-true}
 
 -- ---- the admission
@@ -33,20 +34,6 @@ admission-probes empty_log empty_user user entries goals none are =
     append-nil (probes_against (log user entries ++ []) goals) ∙ (λ i. probes_against (premises i) (same i))
 
 module _ (schema : DatabaseSchema) (world : FactSet) (name : Text) (user : UserProfile) where
-  -- a refusal of one of several blocks is one of the whole
-  pub all-refused : {X : Type 0} (awaited between : Result Awaited DossierError) (old middle new : Unread) (count : ℕ)
-      (other : List Bool → Result Awaited DossierError) (onward : X → Result Awaited DossierError) (why : DossierError)
-      → answer schema world name user awaited old ≡ answer schema world name user between middle
-      → ReadsAll schema world name user between middle new count other (Err why)
-      → ReadsOn schema world name user awaited old new onward (Err why)
-  all-refused awaited between old middle new count other onward refused.Memory first next = tt
-  all-refused awaited between old middle new count other onward (refused.Form line) first next = first ∙ next
-  all-refused awaited between old middle new count other onward (refused.Text line) first next = first ∙ next
-  all-refused awaited between old middle new count other onward (refused.Verdict line) first next = first ∙ next
-  all-refused awaited between old middle new count other onward (refused.Mark line) first next = first ∙ next
-  all-refused awaited between old middle new count other onward (refused.Admission line) first next = first ∙ next
-  all-refused awaited between old middle new count other onward (refused.Unsafe line) first next = first ∙ next
-
   -- the line of the admission, where what the user knows is true if it has to be, and then the blocks
   module _ (old middle new : Unread) (field : Field) (taken : TakesLine old (Ok field) middle) (alone : is_alone (field_said field) (codes "admission") ≡ true)
       (knows : knows_truth_by user.method schema world (known user) ≡ true) (count : ℕ) (read : List Probe)
@@ -70,8 +57,7 @@ module _ (schema : DatabaseSchema) (world : FactSet) (name : Text) (user : UserP
         (λ verdicts. awaited_for schema world name user [] admitting [] ([] ++ verdicts)) (Err why)
         → ReadsOn schema world name user {X = Unit {0}} (Ok admission) old new (λ _. Ok (item [])) (Err why)
     admission-refused why next =
-        all-refused {X = Unit {0}} (Ok admission) (awaited_for schema world name user [] admitting read []) old middle new count
-        (λ verdicts. awaited_for schema world name user [] admitting [] ([] ++ verdicts)) (λ _. Ok (item [])) why to-blocks next
+        refused-on schema world name user (Ok admission) (awaited_for schema world name user [] admitting read []) old middle why to-blocks next
 
   -- ---- several blocks
 
@@ -150,23 +136,11 @@ module _ (schema : DatabaseSchema) (world : FactSet) (name : Text) (user : UserP
         ≡ answer schema world name user between middle
         → ReadsOn schema world name user between middle new onward (Err why)
         → ReadsImplied schema world name user before task query more old new (Err why)
-    implied-refused is old middle new between onward why first next = by why next
-      where
-        start : answer schema world name user (awaited_for schema world name user before task
-            (implied_probes user.method (log user before) query ++ more) []) old ≡ answer schema world name user between middle
-        start =
-            ap (λ m. answer schema world name user (awaited_for schema world name user before task
-            (implied_probes m (log user before) query ++ more) []) old) is ∙ first
-
-        by : (why : DossierError) → ReadsOn schema world name user between middle new onward (Err why)
-            → ReadsImplied schema world name user before task query more old new (Err why)
-        by refused.Memory next = tt
-        by (refused.Form line) next = start ∙ next
-        by (refused.Text line) next = start ∙ next
-        by (refused.Verdict line) next = start ∙ next
-        by (refused.Mark line) next = start ∙ next
-        by (refused.Admission line) next = start ∙ next
-        by (refused.Unsafe line) next = start ∙ next
+    implied-refused is old middle new between onward why first next =
+        refused-on schema world name user (awaited_for schema world name user before task (implied_probes user.method (log user before) query ++ more) [])
+        between old middle why
+        (ap (λ m. answer schema world name user (awaited_for schema world name user before task (implied_probes m (log user before) query ++ more) []) old) is
+        ∙ first) next
 
   module _ (before : History) (task : Task) (query : Formula) where
     abbrev told : List Signed
@@ -216,56 +190,30 @@ module _ (schema : DatabaseSchema) (world : FactSet) (name : Text) (user : UserP
     starts old =
         ap (λ ps. answer schema world name user (awaited_for schema world name user before task ps []) old) (query-probes user.method goals told query)
 
-    -- a refusal there is one of the findings
-    findings-err : (old new : Unread) (why : DossierError)
-        → (why ≢ refused.Memory
-        → answer schema world name user (awaited_for schema world name user before task (probes (user_at user before) told query) []) old ≡ Err why)
-        → ReadsFindings schema world name user before task query old new (Err why)
-    findings-err old new refused.Memory is = tt
-    findings-err old new (refused.Form line) is = is (λ e. absurd cc)
-    findings-err old new (refused.Text line) is = is (λ e. absurd cc)
-    findings-err old new (refused.Verdict line) is = is (λ e. absurd cc)
-    findings-err old new (refused.Mark line) is = is (λ e. absurd cc)
-    findings-err old new (refused.Admission line) is = is (λ e. absurd cc)
-    findings-err old new (refused.Unsafe line) is = is (λ e. absurd cc)
-
-    -- what a refusal says of several blocks, but for want of memory
-    all-says : (awaited : Result Awaited DossierError) (old new : Unread) (count : ℕ) (onward : List Bool → Result Awaited DossierError) (why : DossierError)
-        → ReadsAll schema world name user awaited old new count onward (Err why) → why ≢ refused.Memory → answer schema world name user awaited old ≡ Err why
-    all-says awaited old new count onward refused.Memory next isnt = absurd (isnt refl)
-    all-says awaited old new count onward (refused.Form line) next isnt = next
-    all-says awaited old new count onward (refused.Text line) next isnt = next
-    all-says awaited old new count onward (refused.Verdict line) next isnt = next
-    all-says awaited old new count onward (refused.Mark line) next isnt = next
-    all-says awaited old new count onward (refused.Admission line) next isnt = next
-    all-says awaited old new count onward (refused.Unsafe line) next isnt = next
-
-    implied-says : (old new : Unread) (why : DossierError) → ReadsImplied schema world name user before task query (asserted ++ negated) old new (Err why)
-        → why ≢ refused.Memory
-        → answer schema world name user (awaited_for schema world name user before task (implied_probes user.method told query ++ (asserted ++ negated)) []) old
-        ≡ Err why
-    implied-says old new refused.Memory next isnt = absurd (isnt refl)
-    implied-says old new (refused.Form line) next isnt = next
-    implied-says old new (refused.Text line) next isnt = next
-    implied-says old new (refused.Verdict line) next isnt = next
-    implied-says old new (refused.Mark line) next isnt = next
-    implied-says old new (refused.Admission line) next isnt = next
-    implied-says old new (refused.Unsafe line) next isnt = next
+    -- a refusal behind that is one of the findings
+    findings-err : (between : Result Awaited DossierError) (old middle new : Unread) (why : DossierError)
+        → answer schema world name user
+        (awaited_for schema world name user before task (implied_probes user.method told query ++ (asserted ++ negated)) []) old
+        ≡ answer schema world name user between middle
+        → IsRefusedSo schema world name user between middle why → ReadsFindings schema world name user before task query old new (Err why)
+    findings-err between old middle new why first next =
+        refused-on schema world name user (awaited_for schema world name user before task (probes (user_at user before) told query) []) between old middle why
+        (starts old ∙ first) next
 
     -- in the first part, in the second, or in the third
     pub first-refused : (old new : Unread) (why : DossierError)
         → ReadsImplied schema world name user before task query (asserted ++ negated) old new (Err why)
         → ReadsFindings schema world name user before task query old new (Err why)
-    first-refused old new why next = findings-err old new why (λ isnt. starts old ∙ implied-says old new why next isnt)
+    first-refused old new why next =
+        findings-err (awaited_for schema world name user before task (implied_probes user.method told query ++ (asserted ++ negated)) []) old old new why refl
+        next
 
     pub second-refused : (old first new : Unread) (implied : Option Bool) (why : DossierError)
         → ReadsImplied schema world name user before task query (asserted ++ negated) old first (Ok implied)
         → ((shown : List Bool) → ReadsHarm before task (query, true) negated shown first new (Err why))
         → ReadsFindings schema world name user before task query old new (Err why)
     second-refused old first new implied why (verdicts, implied_is, size, start) next =
-        findings-err old new why (λ isnt. starts old ∙ start
-        ∙ all-says (awaited_for schema world name user before task (asserted ++ negated) verdicts) first new (length goals)
-        (λ more. awaited_for schema world name user before task negated (verdicts ++ more)) why (next verdicts) isnt)
+        findings-err (awaited_for schema world name user before task (asserted ++ negated) verdicts) old first new why start (next verdicts)
 
     pub third-refused : (old first second new : Unread) (implied : Option Bool) (yes_harm : Bool) (why : DossierError)
         → ReadsImplied schema world name user before task query (asserted ++ negated) old first (Ok implied)
@@ -274,10 +222,10 @@ module _ (schema : DatabaseSchema) (world : FactSet) (name : Text) (user : UserP
         → ReadsFindings schema world name user before task query old new (Err why)
     third-refused old first second new implied yes_harm why (verdicts, implied_is, size, start) with_it next =
         let (pro, yes_size, yes_is, to_second) = with_it verdicts in
-        findings-err old new why (λ isnt. starts old ∙ start ∙ to_second
-        ∙ ap (λ ps. answer schema world name user (awaited_for schema world name user before task ps (verdicts ++ pro)) second) (sym (append-nil negated))
-        ∙ all-says (awaited_for schema world name user before task (negated ++ []) (verdicts ++ pro)) second new (length goals)
-        (λ more. awaited_for schema world name user before task [] ((verdicts ++ pro) ++ more)) why (next (verdicts ++ pro)) isnt)
+        findings-err (awaited_for schema world name user before task (negated ++ []) (verdicts ++ pro)) old second new why
+        (start ∙ to_second
+        ∙ ap (λ ps. answer schema world name user (awaited_for schema world name user before task ps (verdicts ++ pro)) second) (sym (append-nil negated)))
+        (next (verdicts ++ pro))
 
 -- the same over the schema, the user and the items that are kept
 pub harm-at : (schema schema' : DatabaseSchema) (world : FactSet) (name : Text) (user user' : UserProfile) (before before' : History) (task : Task)
@@ -307,9 +255,7 @@ goal-at schema schema' world name user user' before before' task goal more shown
     (subst (λ x. ReadsGoal schema' world name x before task goal more shown old new result) u
     (subst (λ x. ReadsGoal schema' world name user' x task goal more shown old new result) b reads))
 
--- a query that fits the log fits an equal one
-pub fits-at : (schema schema' : DatabaseSchema) (user user' : UserProfile) (before before' : History) (query : Formula)
-    → schema' ≡ schema → user' ≡ user → before' ≡ before → FitsLog schema user before query → FitsLog schema' user' before' query
-fits-at schema schema' user user' before before' query s u b fits =
-    subst (λ x. FitsLog x user' before' query) (sym s) (subst (λ x. FitsLog schema x before' query) (sym u)
-    (subst (λ x. FitsLog schema user x query) (sym b) fits))
+-- a query that fits the log is small enough for its block
+pub fits-nodes : {schema : DatabaseSchema} {user : UserProfile} {before : History} {query : Formula} → FitsLog schema user before query
+    → log_nodes schema (log user before) + nodes schema query ≤ 100000
+fits-nodes fits = let small = fits.log_nodes false in let few = fits.query_nodes in omega arith

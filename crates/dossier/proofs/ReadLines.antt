@@ -17,7 +17,7 @@ use Rattle.dossier.specs.Words.{line_in, listed_world, facts_listed}
 use Rattle.dossier.specs.Checked.{Task, admitting, asking, adding, Showing, Awaited, block, step, is_countermodel, awaited_for, behind_block, open_block}
 use Rattle.dossier.specs.Checked.{follows_block, refutation_end, refutation_line, block_line, step_line, after_line, history_at_end, checked_from}
 use Rattle.dossier.specs.Promised.{IsButMemory}
-use Rattle.dossier.specs.Reading.{Unread, next_line, fields_left, field_said, PassesLine, answer, ReadsOn}
+use Rattle.dossier.specs.Reading.{Unread, next_line, fields_left, field_said, PassesLine, answer, IsRefusedSo}
 use Rattle.dossier.specs.Blocks.{Probed, reason_of, MayFollow, open_answer}
 use Rattle.dossier.specs.declared.blocks.Reason.{Reason}
 use Rattle.dossier.specs.declared.cut.Field.{Field}
@@ -44,38 +44,28 @@ module _ (schema : DatabaseSchema) (world : FactSet) (name : Text) (user : UserP
 
   -- ---- joining
 
-  module _ {X : Type 0} (awaited : Result Awaited DossierError) (old new : Unread) (onward : X → Result Awaited DossierError) where
-    -- a refusal
-    pub reads-err : (why : DossierError) → (why ≢ refused.Memory → answer schema world name user awaited old ≡ Err why)
-        → ReadsOn schema world name user awaited old new onward (Err why)
-    reads-err refused.Memory is = tt
-    reads-err (refused.Form line) is = is (λ e. absurd cc)
-    reads-err (refused.Text line) is = is (λ e. absurd cc)
-    reads-err (refused.Verdict line) is = is (λ e. absurd cc)
-    reads-err (refused.Mark line) is = is (λ e. absurd cc)
-    reads-err (refused.Admission line) is = is (λ e. absurd cc)
-    reads-err (refused.Unsafe line) is = is (λ e. absurd cc)
+  -- a refusal
+  pub refused-so : (awaited : Result Awaited DossierError) (old : Unread) (why : DossierError)
+      → (why ≢ refused.Memory → answer schema world name user awaited old ≡ Err why) → IsRefusedSo schema world name user awaited old why
+  refused-so awaited old refused.Memory is = tt
+  refused-so awaited old (refused.Form line) is = is (λ e. absurd cc)
+  refused-so awaited old (refused.Text line) is = is (λ e. absurd cc)
+  refused-so awaited old (refused.Verdict line) is = is (λ e. absurd cc)
+  refused-so awaited old (refused.Mark line) is = is (λ e. absurd cc)
+  refused-so awaited old (refused.Admission line) is = is (λ e. absurd cc)
+  refused-so awaited old (refused.Unsafe line) is = is (λ e. absurd cc)
 
-    -- a refusal of the next step is one of the whole
-    pub reads-refused : {Y : Type 0} (middle : Unread) (between : Result Awaited DossierError) (other : Y → Result Awaited DossierError) (why : DossierError)
-        → answer schema world name user awaited old ≡ answer schema world name user between middle
-        → ReadsOn schema world name user between middle new other (Err why)
-        → ReadsOn schema world name user awaited old new onward (Err why)
-    reads-refused middle between other refused.Memory first next = tt
-    reads-refused middle between other (refused.Form line) first next = first ∙ next
-    reads-refused middle between other (refused.Text line) first next = first ∙ next
-    reads-refused middle between other (refused.Verdict line) first next = first ∙ next
-    reads-refused middle between other (refused.Mark line) first next = first ∙ next
-    reads-refused middle between other (refused.Admission line) first next = first ∙ next
-    reads-refused middle between other (refused.Unsafe line) first next = first ∙ next
-
-    -- one step, and onward another
-    pub reads-then : (middle : Unread) (between : Result Awaited DossierError) (result : Result X DossierError)
-        → answer schema world name user awaited old ≡ answer schema world name user between middle
-        → ReadsOn schema world name user between middle new onward result
-        → ReadsOn schema world name user awaited old new onward result
-    reads-then middle between (Ok x) first next = first ∙ next
-    reads-then middle between (Err why) first next = reads-refused middle between onward why first next
+  -- a refusal of the next step is one of the whole
+  pub refused-on : (awaited between : Result Awaited DossierError) (old middle : Unread) (why : DossierError)
+      → answer schema world name user awaited old ≡ answer schema world name user between middle
+      → IsRefusedSo schema world name user between middle why → IsRefusedSo schema world name user awaited old why
+  refused-on awaited between old middle refused.Memory first next = tt
+  refused-on awaited between old middle (refused.Form line) first next = first ∙ next
+  refused-on awaited between old middle (refused.Text line) first next = first ∙ next
+  refused-on awaited between old middle (refused.Verdict line) first next = first ∙ next
+  refused-on awaited between old middle (refused.Mark line) first next = first ∙ next
+  refused-on awaited between old middle (refused.Admission line) first next = first ∙ next
+  refused-on awaited between old middle (refused.Unsafe line) first next = first ∙ next
 
   -- ---- the first line of a block
 

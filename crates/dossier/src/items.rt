@@ -1,12 +1,13 @@
 //! Items: what shows the mark of an ask, or that a sentence can be added.
-ghost use Rattle.std.specs.Prelude.{◌≡◌, ◌≤◌, ◌++◌, [], ◌∷◌, ℕ, Bool, true, false, List, length};
-ghost use Rattle.std.specs.Prelude.{Some, None, OnOk, IfOk, if◌then◌else◌, codes};
+ghost use Rattle.std.specs.Prelude.{◌≡◌, ◌≤◌, ◌+◌, ◌++◌, [], ◌∷◌, ℕ, Bool, true, false, List};
+ghost use Rattle.std.specs.Prelude.{length, Some, None, OnOk, IfOk, if◌then◌else◌, codes};
 ghost use Rattle.cqe_base.specs.Facts.{FactSet};
 ghost use Rattle.cqe_base.specs.Schema.{Text};
-ghost use Rattle.cqe_base.specs.Formula.{formula_of, is_sentence_of};
+ghost use Rattle.cqe_base.specs.Formula.{formula_of, nodes, is_sentence_of};
 ghost use Rattle.cqe_base.specs.History.{log, user_at};
 ghost use Rattle.cqe_base.specs.Censor.{guarded, probes_against};
 ghost use Rattle.cqe_base.specs.Limits.{FitsLog};
+ghost use Rattle.entailment.specs.Logs.{log_nodes};
 ghost use Rattle.entailment.specs.GroundSentences.{sentence_of, IsGroundOver};
 ghost use Rattle.entailment.specs.Probes.{signed_at};
 ghost use Rattle.dossier.specs.Checked.{Task, awaited_for};
@@ -22,7 +23,7 @@ use crate::cut::{Field, FieldIter, first_word};
 use crate::error::DossierError;
 use crate::past::Past;
 use crate::words::{is_same, is_undecided, mark_named, size_of};
-use censors::{Findings, decide, guard_with};
+use censors::{Findings, decide};
 use cqe_base::laws::{law_amended_limits, law_limits, law_reading, law_sizes};
 use cqe_base::sentence::Sentence;
 use cqe_base::user::{Item, Mark, Method, Purpose};
@@ -164,8 +165,8 @@ fn read_implied(
     if !is_refusal(past.user.method) {
         return Ok(None);
     }
-    let yes = read_goal(alloc, past, (query, true), lines)?;
-    let no = read_goal(alloc, past, (query, false), lines)?;
+    let yes = read_goal(alloc, past, (query, true), Reason::Asking, lines)?;
+    let no = read_goal(alloc, past, (query, false), Reason::Asking, lines)?;
     Ok(implied_answer(yes, no))
 }
 
@@ -197,15 +198,17 @@ fn read_goal(
     alloc: Global,
     past: &mut Past<'_>,
     goal: (&GroundSentence, bool),
+    reason: Reason,
     lines: &mut FieldIter<'_>,
 ) -> Result<bool, DossierError>
     requires kept { IsKept past.old }
     requires sentence { is_sentence_of (past_schema past.old) (signed_at goal).0 ≡ true }
     requires grounded { IsGroundOver (past_schema past.old) goal.0.now }
-    requires fits { FitsLog (past_schema past.old) (past_user past.old)
-        (past_history past.old) (signed_at goal).0 }
+    requires all_nodes { log_nodes (past_schema past.old)
+        (log (past_user past.old) (past_history past.old))
+        + nodes (past_schema past.old) (signed_at goal).0 ≤ 100000 }
     ensures reads { (world : FactSet) (name : Text) (task : Task) (more : List Probed)
-        (shown : List Bool) → reason_of task ≡ Reason.Asking
+        (shown : List Bool) → reason_of task ≡ reason
         → ReadsOn (past_schema past.old) world name (past_user past.old)
         (awaited_for (past_schema past.old) world name (past_user past.old)
         (past_history past.old) task (goal_probe (log (past_user past.old)
@@ -226,7 +229,7 @@ fn read_goal(
         premise: None,
         goal,
     };
-    read_block(alloc, told, &mut past.view, &probe, Reason::Asking, lines)
+    read_block(alloc, told, &mut past.view, &probe, reason, lines)
 }
 
 /// Reads the blocks of the log with a query, or with its negation, against each guarded sentence.
@@ -294,7 +297,6 @@ pub(crate) fn read_protect(
 {
     law_reading();
     law_limits();
-    law_sizes();
     law_amended_limits();
     let text = field.rest;
     if text.is_empty() {
@@ -303,18 +305,8 @@ pub(crate) fn read_protect(
     let Some(secret) = past.sentence_in(alloc, Purpose::Protecting, text)? else {
         return Err(DossierError::Text(field.line));
     };
-    let guarded = guard_with(alloc, &past.current, &secret)?;
-    let goal = GroundSentence::new(alloc, past.schema, guarded)?;
-    let told = Told {
-        schema: past.schema,
-        user: past.user,
-        entries: past.entries.as_slice(),
-    };
-    let probe = Probe {
-        premise: None,
-        goal: (&goal, true),
-    };
-    read_block(alloc, told, &mut past.view, &probe, Reason::Adding, lines)?;
+    let goal = past.guarded_with(alloc, &secret)?;
+    read_goal(alloc, past, (&goal, true), Reason::Adding, lines)?;
     let length = size_of(text);
     past.add_secret(
         alloc,

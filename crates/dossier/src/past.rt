@@ -5,23 +5,24 @@ ghost use Rattle.std.specs.List.{list_all};
 ghost use Rattle.cqe_base.specs.Truth.{true_in, same_truth};
 ghost use Rattle.cqe_base.specs.Entailment.{all_hold_in};
 ghost use Rattle.cqe_base.specs.History.{profile_of, answered_query_of, known, told, told_by};
-ghost use Rattle.cqe_base.specs.History.{is_added, is_user_of, is_history_of};
-ghost use Rattle.cqe_base.specs.Limits.{KeepsLimits, KeepsSizesAt};
+ghost use Rattle.cqe_base.specs.History.{is_added, is_user_of, is_history_of, user_at};
+ghost use Rattle.cqe_base.specs.Limits.{KeepsLimits, KeepsSizesAt, FitsAddition};
 ghost use Rattle.cqe_base.specs.Run.{is_full, is_too_large, is_too_large_secret, has_all_secrets};
+ghost use Rattle.entailment.specs.GroundSentences.{sentence_of, IsGroundOver};
 ghost use Rattle.user_desk.specs.Causes.{is_beyond};
-ghost use Rattle.dossier.specs.Checked.{sentence_in};
+ghost use Rattle.dossier.specs.Checked.{sentence_in, addition_probe};
 ghost use Rattle.dossier.specs.Logs.{past_schema, past_user, past_history, IsKept, HasAdded};
 ghost use Rattle.dossier.specs.Told.{sign_told};
 ghost use Rattle.dossier.specs.Logs.{IsPastOfSame};
 
 use crate::words::{is_long, size_of};
-use censors::Guards;
+use censors::{Guards, guard_with};
 use cqe_base::laws::{law_added_secrets, law_amended_limits, law_limits, law_logs};
 use cqe_base::schema::Schema;
 use cqe_base::sentence::{Sentence, nodes};
 use cqe_base::user::{Item, Mark, Purpose, User};
 use cqe_base::world::World;
-use entailment::View;
+use entailment::{GroundSentence, View};
 use sentence_text::{ReadError, read_sentence};
 use std::alloc::{AllocError, Global};
 use truth_eval::holds;
@@ -189,6 +190,24 @@ impl<'w> Past<'w> {
         let count = 1 + nodes(secret, self.schema);
         self.current.secret_nodes(self.schema) + count > SECRET_NODES
             || self.view_nodes.saturating_add(count) > VIEW_NODES
+    }
+
+    /// What is guarded with a sentence that is added to the secrets, with its ground formula.
+    pub(crate) fn guarded_with(
+        &self,
+        alloc: Global,
+        secret: &Sentence,
+    ) -> Result<GroundSentence, AllocError>
+        requires kept { IsKept self.now }
+        requires addition { FitsAddition (past_schema self.now)
+            (user_at (past_user self.now) (past_history self.now)) (formula_of secret.now) }
+        ensures goal { IfOk result (λ goal. sentence_of goal ≡ (addition_probe
+            (past_user self.now) (past_history self.now) (formula_of secret.now)).goal.0) }
+        ensures grounded { IfOk result (IsGroundOver (past_schema self.now)) }
+    {
+        let guarded = guard_with(alloc, &self.current, secret)?;
+        let goal = GroundSentence::new(alloc, self.schema, guarded)?;
+        Ok(goal)
     }
 
     /// Adds an ask that came within the limits. Want of memory may leave anything.

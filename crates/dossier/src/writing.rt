@@ -32,7 +32,7 @@ use crate::past::Past;
 use crate::printed::push_block;
 use crate::words::{is_undecided, size_of};
 use audit_print::AuditError;
-use censors::{ADMISSION_BUDGET, guard_with};
+use censors::ADMISSION_BUDGET;
 use cqe_base::laws::{law_added_secrets, law_amended_limits, law_limits, law_logs, law_reading};
 use cqe_base::schema::Schema;
 use cqe_base::sentence::Sentence;
@@ -545,8 +545,7 @@ fn push_addition(
     ensures kept { IsKept past.new }
     ensures same { IsSamePast past.old past.new }
 {
-    let guarded = guard_with(alloc, &past.current, secret)?;
-    let goal = GroundSentence::new(alloc, past.schema, guarded)?;
+    let goal = past.guarded_with(alloc, secret)?;
     push_goal(alloc, text, past, (&goal, true), ADMISSION_BUDGET)?;
     Ok(())
 }

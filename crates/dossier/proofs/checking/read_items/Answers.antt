@@ -3,7 +3,7 @@ use Rattle.std.proofs.lemmas.Result.{err_from_is_err_and}
 use Rattle.dossier.specs.Checked.{item, nothing}
 use Rattle.dossier.specs.Reading.{field_said}
 use Rattle.dossier.specs.Logs.{past_schema, past_user, past_history}
-use Rattle.dossier.proofs.ReadLines.{reads-refused}
+use Rattle.dossier.proofs.ReadLines.{refused-on}
 use Rattle.dossier.proofs.ItemLines.{item-at, line-missing, items-more, items-refused, items-done}
 use Rattle.dossier.proofs.checking.read_items.Goals as goal
 
@@ -22,8 +22,8 @@ returns-in_err-field-clause-reads c name =
     let user = past_user c.args.past.now in
     let so_far = past_history c.loop-field.past in
     rw (p.1, p.2)
-    (reads-refused schema c.args.world.now name user {X = Unit {0}} (Ok (item (past_history c.args.past.now))) c.args.lines.now c.take_line.new.self
-    (λ _. Ok (nothing so_far)) {Y = Unit {0}} c.loop-field.lines (Ok (item so_far)) (λ _. Ok (nothing so_far)) _ (c.loop-field.invariant.reads name)
+    (refused-on schema c.args.world.now name user (Ok (item (past_history c.args.past.now))) (Ok (item so_far)) c.args.lines.now c.loop-field.lines _
+    (c.loop-field.invariant.reads name)
     (line-missing schema c.args.world.now name user {X = Unit {0}} (item so_far) c.loop-field.lines c.take_line.new.self (λ _. Ok (nothing so_far)) _ refl
     c.in_err-field.ensures.takes))
 

@@ -3,9 +3,11 @@ use Rattle.std.proofs.lemmas.Result.{err_from_is_err_and}
 use Rattle.cqe_base.specs.Formula.{is_sentence_of}
 use Rattle.cqe_base.specs.History.{log, user_at}
 use Rattle.cqe_base.specs.Censor.{guarded, probes_against}
+use Rattle.cqe_base.specs.Limits.{FitsLog}
 use Rattle.entailment.specs.GroundSentences.{sentence_of, IsGroundOver}
 use Rattle.dossier.specs.Logs.{past_schema, past_user, past_history}
-use Rattle.dossier.proofs.Probing.{findings-read, first-refused, second-refused, third-refused, harm-at, fits-at}
+use Rattle.dossier.proofs.Probing.{findings-read, first-refused, second-refused, third-refused, harm-at}
+use Rattle.dossier.proofs.SamePasts.{same-then, at-same}
 use Rattle.dossier.proofs.items.read_findings.Goals as goal
 
 -- ---- all blocks are read behind the same items
@@ -19,9 +21,7 @@ read_harm-requires-clause-grounded c = subst (λ s. IsGroundOver s c.args.query.
 
 pub read_harm-requires-clause-fits : goal.read_harm-requires-clause-fits
 read_harm-requires-clause-fits c =
-    fits-at (past_schema c.args.past.now) _ (past_user c.args.past.now) _ (past_history c.args.past.now) _ (sentence_of c.args.query.now)
-    c.read_implied.ensures.same.0.schema c.read_implied.ensures.same.0.user
-    c.read_implied.ensures.same.1 c.requires.fits
+    at-same (λ s u h. FitsLog s u h (sentence_of c.args.query.now)) c.args.past.now c.read_implied.new.past c.read_implied.ensures.same c.requires.fits
 
 pub read_harm-requires-2-clause-sentence : goal.read_harm-requires-2-clause-sentence
 read_harm-requires-2-clause-sentence c =
@@ -34,9 +34,8 @@ read_harm-requires-2-clause-grounded c =
 
 pub read_harm-requires-2-clause-fits : goal.read_harm-requires-2-clause-fits
 read_harm-requires-2-clause-fits c =
-    fits-at (past_schema c.args.past.now) _ (past_user c.args.past.now) _ (past_history c.args.past.now) _ (sentence_of c.args.query.now)
-    (c.read_harm.ensures.same.0.schema ∙ c.read_implied.ensures.same.0.schema) (c.read_harm.ensures.same.0.user ∙ c.read_implied.ensures.same.0.user)
-    (c.read_harm.ensures.same.1 ∙ c.read_implied.ensures.same.1) c.requires.fits
+    at-same (λ s u h. FitsLog s u h (sentence_of c.args.query.now)) c.args.past.now c.read_harm.new.past
+    (same-then c.args.past.now c.read_implied.new.past c.read_harm.new.past c.read_implied.ensures.same c.read_harm.ensures.same) c.requires.fits
 
 -- ---- what is read
 

@@ -1,5 +1,4 @@
-use Rattle.std.proofs.Common.{◌≡◌, ◌≤◌, ◌+◌, [], ◌++◌, map, false, sym, ap, ◌∙◌, arith, append-nil}
-use Rattle.cqe_base.specs.Formula.{nodes}
+use Rattle.std.proofs.Common.{◌≡◌, [], ◌++◌, map, sym, ap, ◌∙◌, arith, append-nil}
 use Rattle.cqe_base.specs.History.{answered_query_of, log, is_history_of}
 use Rattle.entailment.specs.Logs.{log_nodes}
 use Rattle.entailment.specs.Probes.{signed_at}
@@ -26,12 +25,9 @@ read_block-requires-clause-view c = (
 
 pub read_block-requires-clause-all_nodes : goal.read_block-requires-clause-all_nodes
 read_block-requires-clause-all_nodes c =
-    let schema = past_schema c.args.past.now in
-    let user = past_user c.args.past.now in
-    let query = (signed_at c.args.goal).0 in
-    let same : log_nodes schema (log user (map answered_query_of c.as_slice.result.now)) ≡ log_nodes schema (log user (past_history c.args.past.now)) =
-    ap (λ es. log_nodes schema (log user (map answered_query_of es))) c.as_slice.ensures.value in
-    let small : log_nodes schema (log user (past_history c.args.past.now)) + (1 + nodes schema query) ≤ 60000 = c.requires.fits.log_nodes false in
+    let past = c.args.past.now in
+    let same = ap (λ es. log_nodes (past_schema past) (log (past_user past) (map answered_query_of es))) c.as_slice.ensures.value in
+    let small = c.requires.all_nodes in
     omega arith
 
 -- ---- what is read

@@ -2,14 +2,19 @@ use Rattle.std.proofs.Common.{◌≡◌, Bool, true, false, [], ◌∷◌, Ok, E
 use Rattle.std.proofs.lemmas.Result.{err_from_is_err_and}
 use Rattle.cqe_base.specs.Formula.{is_sentence_of}
 use Rattle.cqe_base.specs.History.{log}
+use Rattle.cqe_base.specs.Limits.{FitsLog}
 use Rattle.entailment.specs.GroundSentences.{sentence_of, IsGroundOver}
 use Rattle.dossier.specs.Logs.{past_schema, past_user, past_history}
 use Rattle.dossier.specs.Checked.{awaited_for}
 use Rattle.dossier.specs.Items.{goal_probe}
 use Rattle.dossier.specs.declared.error.DossierError.TheVariants as refused
 use Rattle.dossier.proofs.Verdicts.{refusal-is, none-implied}
-use Rattle.dossier.proofs.Probing.{implied-read, implied-none, implied-refused, goal-at, fits-at}
+use Rattle.dossier.proofs.Probing.{implied-read, implied-none, implied-refused, goal-at, fits-nodes}
+use Rattle.dossier.proofs.SamePasts.{at-same}
 use Rattle.dossier.proofs.items.read_implied.Goals as goal
+
+pub read_goal-requires-clause-all_nodes : goal.read_goal-requires-clause-all_nodes
+read_goal-requires-clause-all_nodes c = fits-nodes c.requires.fits
 
 -- ---- the second block is read behind the same items
 
@@ -21,11 +26,9 @@ pub read_goal-requires-2-clause-grounded : goal.read_goal-requires-2-clause-grou
 read_goal-requires-2-clause-grounded c =
     subst (λ s. IsGroundOver s c.args.query.now) (sym c.read_goal.ensures.same.0.schema) c.requires.grounded
 
-pub read_goal-requires-2-clause-fits : goal.read_goal-requires-2-clause-fits
-read_goal-requires-2-clause-fits c =
-    let same = c.read_goal.ensures.same in
-    fits-at (past_schema c.args.past.now) _ (past_user c.args.past.now) _ (past_history c.args.past.now) _ (sentence_of c.args.query.now)
-    same.0.schema same.0.user same.1 c.requires.fits
+pub read_goal-requires-2-clause-all_nodes : goal.read_goal-requires-2-clause-all_nodes
+read_goal-requires-2-clause-all_nodes c =
+    fits-nodes (at-same (λ s u h. FitsLog s u h (sentence_of c.args.query.now)) c.args.past.now c.read_goal.new.past c.read_goal.ensures.same c.requires.fits)
 
 -- ---- refusal
 

@@ -35,9 +35,7 @@ add_answered-requires-clause-fits c =
     let query = formula_of c.in_ok-asked.asked in
     let sizes = read-within (past_schema past) (past_user past) (past_history past) _ c.args.mark c.args.said.now c.requires.within
     query c.in_ok-asked.ensures in
-    fits-at (past_schema past) _ (past_user past) _ (past_history past) _
-    (record { query = query; mark = c.args.mark; length = length c.args.said.now }) _
-    c.push_probes.ensures.same.0.schema c.push_probes.ensures.same.0.user c.push_probes.ensures.same.1
+    fits-at past c.push_probes.new.past (record { query = query; mark = c.args.mark; length = length c.args.said.now }) c.push_probes.ensures.same
     (λ i. record { query = formula_of (c.in_ok-query.ensures.query i); mark = c.args.mark; length = c.size_of-length.ensures i }) sizes
 
 pub returns-clause-item : goal.returns-clause-item

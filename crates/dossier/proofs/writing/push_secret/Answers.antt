@@ -47,9 +47,7 @@ add_secret-requires-clause-fits c =
     let secret = formula_of c.in_ok-secret.secret in
     let sizes = read-within (past_schema past) (past_user past) (past_history past) _ Protected c.args.said.now c.requires.within
     secret c.in_ok-secret.ensures in
-    fits-at (past_schema past) _ (past_user past) _ (past_history past) _
-    (record { query = secret; mark = Protected; length = length c.args.said.now }) _
-    c.push_addition.ensures.same.0.schema c.push_addition.ensures.same.0.user c.push_addition.ensures.same.1
+    fits-at past c.push_addition.new.past (record { query = secret; mark = Protected; length = length c.args.said.now }) c.push_addition.ensures.same
     (λ i. record { query = secret; mark = Protected; length = c.size_of-length.ensures i }) sizes
 
 pub returns-clause-item : goal.returns-clause-item
