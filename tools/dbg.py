@@ -12,7 +12,7 @@ import fcntl, time
 if not os.environ.get("LEAD"):
     # one helper's check at a time, and none while the lead has the machine
     print("dbg: waiting for the other helpers' checks to end", flush=True)
-    LOCKS = [open(f"/work/helpers/M/helper.lock.{i}", "w") for i in range(7)]
+    LOCKS = [open(f"/work/helpers/M/helper.lock.{i}", "w") for i in range(3)]
     got = False
     while not got:
         for l in LOCKS:

@@ -17,7 +17,7 @@ while todo or running:
         at = next((c for c in todo if c in done), None)
         if at:
             todo.remove(at)
-            p = subprocess.Popen(["setsid", "nice", "-n", "19", "/work/helpers/tools/wb.sh", f"/work/helpers/M/wb-{at}.out", at], stdin=subprocess.DEVNULL)
+            p = subprocess.Popen(["setsid", "nice", "-n", "19", "/work/helpers/tools/wb.sh", f"/work/helpers/M/wb-{at}.out", at, *(open(f"/work/helpers/M/wbnames/{at}").read().split() if os.path.exists(f"/work/helpers/M/wbnames/{at}") else [])], stdin=subprocess.DEVNULL)
             try: open(f"/proc/{p.pid}/autogroup", "w").write("19")
             except OSError as e: print(e)
             running[at] = p; print(time.strftime("%T"), at, "begun", flush=True)
