@@ -24,10 +24,11 @@ use Rattle.cqe_top.specs.Mirrored.{with_exchange_faults}
 use Rattle.cqe_top.specs.Promise.{OfReading, Does, Always}
 use Rattle.cqe_top.specs.Reports.{FaultsHaveCauses}
 use Rattle.cqe_top.specs.Scene.{Scene, LinksScene}
-use Rattle.cqe_top.specs.Steps.{reading_over}
+use Rattle.cqe_top.specs.Steps.{reading_over, reading_for_user}
 use Rattle.cqe_top.specs.declared.over_files.Task.{Task}
 use Rattle.cqe_top.specs.declared.over_files.Task.TheVariants as task
-use Rattle.cqe_top.specs.declared.over_files.UserTask.TheVariants as user_task
+use Rattle.cqe_top.specs.declared.for_user.UserTask.{UserTask}
+use Rattle.cqe_top.specs.declared.for_user.UserTask.TheVariants as user_task
 
 -- ---- exchanges that are counted
 
@@ -46,12 +47,16 @@ counted_same s reading same = by (has_standby reading)
 pub counted_over : (s : Scene) (files : FileNames) (what : Task) → with_exchange_faults s (Some (reading_over files what)) ≡ s
 counted_over s files task.Init = refl
 counted_over s files (task.Batch workers) = refl
-counted_over s files (task.OfUser user (user_task.Audit json)) = refl
-counted_over s files (task.OfUser user user_task.Dossier) = refl
-counted_over s files (task.OfUser user user_task.Check) = refl
 counted_over s files (task.Migrate to) = refl
 counted_over s files (task.Serve listening) = refl
 counted_over s files (task.Standby copying) = refl
+
+-- nor are they for one user
+pub counted_for_user : (s : Scene) (files : FileNames) (user : Text) (what : UserTask)
+    → with_exchange_faults s (Some (reading_for_user files user what)) ≡ s
+counted_for_user s files user (user_task.Audit json) = refl
+counted_for_user s files user user_task.Dossier = refl
+counted_for_user s files user user_task.Check = refl
 
 -- those that are counted are the faults of the dials that were hung up
 counted_is : (s : Scene) (reading : Option Reading) (failed : Text → ℕ) → has_standby reading ≡ true

@@ -60,13 +60,13 @@ use Rattle.cqe_top.specs.Promise.{OfReading}
 use Rattle.cqe_top.specs.Ready.{CanBeMade, CanBeMoved, CanBeOpened, CanBeMirrored}
 use Rattle.cqe_top.specs.Reports.{answers_report, copies_report, has_refusal, IsDoneUnlessMemory, FaultsHaveCauses}
 use Rattle.cqe_top.specs.Scene.{Scene, ShelfScene, IsUntouched, HasRisen, SameInput, SameOutput, SameLinks, CallsNobody, links_of}
-use Rattle.cqe_top.specs.Steps.{reading_over, reading_mirrored}
+use Rattle.cqe_top.specs.Steps.{reading_over, reading_for_user, reading_mirrored}
 use Rattle.cqe_top.specs.declared.mirrored.MirroredTask.{MirroredTask}
 use Rattle.cqe_top.specs.declared.mirrored.MirroredTask.TheVariants as copied
 use Rattle.cqe_top.specs.declared.over_files.Task.{Task}
 use Rattle.cqe_top.specs.declared.over_files.Task.TheVariants as task
-use Rattle.cqe_top.specs.declared.over_files.UserTask.{UserTask}
-use Rattle.cqe_top.specs.declared.over_files.UserTask.TheVariants as user_task
+use Rattle.cqe_top.specs.declared.for_user.UserTask.{UserTask}
+use Rattle.cqe_top.specs.declared.for_user.UserTask.TheVariants as user_task
 use Rattle.cqe_top.proofs.Failing.{CanOpen, none_refused, none_broken}
 use Rattle.cqe_top.specs.Files.{FindsNobody, NamesNobody}
 use Rattle.cqe_top.specs.Ready.{CanBeAudited}
@@ -424,16 +424,15 @@ unread_of s files end is = record { refused = λ told. why_of s files end (is.re
 -- ---- a user who isn't there
 
 -- whatever was to be done for him
-pub nobody_there : (s : Scene) (files : FileNames) (user : Bor (List ℕ)) (what : UserTask) → FindsNobody s.shelf s.output files user.now
-    → SameInput s.input → SameLinks s.links
-    → OfReading s (Some (reading_over files (task.OfUser user what))) ends.Nobody
+pub nobody_there : (s : Scene) (files : FileNames) (user : Text) (what : UserTask) → FindsNobody s.shelf s.output files user
+    → SameInput s.input → SameLinks s.links → OfReading s (Some (reading_for_user files user what)) ends.Nobody
 nobody_there s files user (user_task.Audit json) finds input links =
-    record { ends = finds; succeeds = nobody_succeeds s files user.now json finds; reads_nothing = input; listens_nowhere = links }
+    record { ends = finds; succeeds = nobody_succeeds s files user json finds; reads_nothing = input; listens_nowhere = links }
 nobody_there s files user user_task.Dossier finds input links =
-    record { ends = finds; succeeds = no_dossier s files user.now finds; reads_nothing = input; listens_nowhere = links }
+    record { ends = finds; succeeds = no_dossier s files user finds; reads_nothing = input; listens_nowhere = links }
 nobody_there s files user user_task.Check finds input links =
-    let found = nobody_of s files user.now finds in
-    record { ends = (found, input); succeeds = no_check s (two_files files.policy files.facts) user.now found; listens_nowhere = links }
+    let found = nobody_of s files user finds in
+    record { ends = (found, input); succeeds = no_check s (two_files files.policy files.facts) user found; listens_nowhere = links }
 
 -- ---- files that weren't read
 
@@ -455,27 +454,6 @@ unread s files (task.Batch workers) end is cause input output links nobody = rec
       read_succeeds s files (CanBeOpened (journals_of s.shelf files)) end (is.refused told) cause says shelf;
   listens_nowhere = links;
 }
-unread s files (task.OfUser name (user_task.Audit json)) end is cause input output links nobody = record {
-  ends = (is, output);
-  succeeds = λ told says shelf write. read_succeeds s files (CanBeAudited (journals_of s.shelf files) name.now) end (is.refused told) cause says shelf;
-  reads_nothing = input;
-  listens_nowhere = links;
-}
-unread s files (task.OfUser name user_task.Dossier) end is cause input output links nobody = record {
-  ends = (is, output);
-  succeeds = λ told says shelf write. read_succeeds s files (CanBeAudited (journals_of s.shelf files) name.now) end (is.refused told) cause says shelf;
-  reads_nothing = input;
-  listens_nowhere = links;
-}
-unread s files (task.OfUser name user_task.Check) end is cause input output links nobody =
-    let two = two_files files.policy files.facts in
-    let unread_two = unread_of s files end is in
-    record {
-      ends = (unread_two, input, output);
-      succeeds = λ told in_told says shelf read write.
-          read_succeeds s two (CanBeChecked s.input.left name.now) end (unread_two.refused told) cause says shelf;
-      listens_nowhere = links;
-    }
 unread s files (task.Migrate to) end is cause input output links nobody = record {
   ends = is;
   succeeds = λ told says shelf. read_succeeds s files (CanMove s files to.now) end (is.refused told) cause says shelf;
@@ -497,6 +475,32 @@ unread s files (task.Standby copying) end is cause input output links nobody = r
   writes_nothing = output;
   calls_nobody = nobody;
 }
+
+-- whatever was to be done for a user
+pub unread_for_user : (s : Scene) (files : FileNames) (user : Text) (what : UserTask) (end : FilesEnd) → IsUnread s.shelf files end
+    → FaultsHaveCauses s (ends.Files end) → SameInput s.input → SameOutput s.output → SameLinks s.links
+    → OfReading s (Some (reading_for_user files user what)) (ends.Files end)
+unread_for_user s files user (user_task.Audit json) end is cause input output links = record {
+  ends = (is, output);
+  succeeds = λ told says shelf write. read_succeeds s files (CanBeAudited (journals_of s.shelf files) user) end (is.refused told) cause says shelf;
+  reads_nothing = input;
+  listens_nowhere = links;
+}
+unread_for_user s files user user_task.Dossier end is cause input output links = record {
+  ends = (is, output);
+  succeeds = λ told says shelf write. read_succeeds s files (CanBeAudited (journals_of s.shelf files) user) end (is.refused told) cause says shelf;
+  reads_nothing = input;
+  listens_nowhere = links;
+}
+unread_for_user s files user user_task.Check end is cause input output links =
+    let two = two_files files.policy files.facts in
+    let unread_two = unread_of s files end is in
+    record {
+      ends = (unread_two, input, output);
+      succeeds = λ told in_told says shelf read write.
+          read_succeeds s two (CanBeChecked s.input.left user) end (unread_two.refused told) cause says shelf;
+      listens_nowhere = links;
+    }
 
 -- so it is where they were to be done with a standby
 pub unread_mirrored : (s : Scene) (files : FileNames) (task : MirroredTask) (standby : Text) (end : FilesEnd) → IsUnread s.shelf files end

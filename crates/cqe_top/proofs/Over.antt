@@ -169,34 +169,35 @@ module _ {F D : Type 0} (Shelf : ShelfGhosts F D) (Disk : DiskGhosts D) (old mid
 
   -- ---- the look at one disk
 
-  pub others_over : (directory name owner : Text) → owner ≡ name → SameOthers (journal_name directory owner) (Shelf.disk mid) (Shelf.disk new)
-      → SameOthers (journal_name directory name) (Shelf.disk old) (Shelf.disk new)
-  others_over directory name owner same others other apart =
-      subst (λ n. SameOthers (journal_name directory n) (Shelf.disk mid) (Shelf.disk new)) same others other apart ∙ disks other
+  -- of the journal of one user, who has the name that was asked for
+  module _ (directory name owner : Text) (is : owner ≡ name) where
+    pub record OneOver : Type 0 where
+      pub others : SameOthers (journal_name directory owner) (Shelf.disk mid) (Shelf.disk new)
+          → SameOthers (journal_name directory name) (Shelf.disk old) (Shelf.disk new)
+      pub other_counts : SameOthers (journal_name directory owner) (Shelf.disk_faults mid) (Shelf.disk_faults new)
+          → SameOthers (journal_name directory name) (Shelf.disk_faults old) (Shelf.disk_faults new)
+      pub bytes : SameBytes Disk.reads (Shelf.disk mid) (Shelf.disk new) → SameBytes Disk.reads (Shelf.disk old) (Shelf.disk new)
+      pub images : NoNewImages Disk.image (Shelf.disk mid) (Shelf.disk new) → NoNewImages Disk.image (Shelf.disk old) (Shelf.disk new)
+      pub moments : NoNewMoments Disk.moment Disk.image_since Disk.image (Shelf.disk mid) (Shelf.disk new)
+          → NoNewMoments Disk.moment Disk.image_since Disk.image (Shelf.disk old) (Shelf.disk new)
+      pub durable : Only (bytes_on Disk.reads (Shelf.disk mid (journal_name directory owner)))
+          (image_on Disk.image (Shelf.disk new (journal_name directory owner)))
+          → Only (bytes_on Disk.reads (Shelf.disk old (journal_name directory name))) (image_on Disk.image (Shelf.disk new (journal_name directory name)))
 
-  pub counted_over : (directory name owner : Text) → owner ≡ name
-      → SameOthers (journal_name directory owner) (Shelf.disk_faults mid) (Shelf.disk_faults new)
-      → SameOthers (journal_name directory name) (Shelf.disk_faults old) (Shelf.disk_faults new)
-  counted_over directory name owner same others other apart =
-      subst (λ n. SameOthers (journal_name directory n) (Shelf.disk_faults mid) (Shelf.disk_faults new)) same others other apart ∙ counts other
-
-  pub bytes_over : SameBytes Disk.reads (Shelf.disk mid) (Shelf.disk new) → SameBytes Disk.reads (Shelf.disk old) (Shelf.disk new)
-  bytes_over bytes other = bytes other ∙ ap (bytes_on Disk.reads) (disks other)
-
-  pub images_over : NoNewImages Disk.image (Shelf.disk mid) (Shelf.disk new) → NoNewImages Disk.image (Shelf.disk old) (Shelf.disk new)
-  images_over images other c left = subst (λ d. image_on Disk.image d c) (disks other) (images other c left)
-
-  pub durable_over : (directory name owner : Text) → owner ≡ name
-      → Only (bytes_on Disk.reads (Shelf.disk mid (journal_name directory owner))) (image_on Disk.image (Shelf.disk new (journal_name directory owner)))
-      → Only (bytes_on Disk.reads (Shelf.disk old (journal_name directory name))) (image_on Disk.image (Shelf.disk new (journal_name directory name)))
-  durable_over directory name owner same only =
-      subst (λ o. Only (bytes_on Disk.reads o) (image_on Disk.image (Shelf.disk new (journal_name directory name)))) (disks (journal_name directory name))
-      (subst (λ n. Only (bytes_on Disk.reads (Shelf.disk mid (journal_name directory n))) (image_on Disk.image (Shelf.disk new (journal_name directory n))))
-      same only)
-
-  pub moments_over : NoNewMoments Disk.moment Disk.image_since Disk.image (Shelf.disk mid) (Shelf.disk new)
-      → NoNewMoments Disk.moment Disk.image_since Disk.image (Shelf.disk old) (Shelf.disk new)
-  moments_over moments other = subst (λ d. Rests Disk d (Shelf.disk new other)) (disks other) (moments other)
+    pub one_over : OneOver
+    one_over = record {
+      others = λ others other apart.
+          subst (λ n. SameOthers (journal_name directory n) (Shelf.disk mid) (Shelf.disk new)) is others other apart ∙ disks other;
+      other_counts = λ others other apart.
+          subst (λ n. SameOthers (journal_name directory n) (Shelf.disk_faults mid) (Shelf.disk_faults new)) is others other apart ∙ counts other;
+      bytes = λ bytes other. bytes other ∙ ap (bytes_on Disk.reads) (disks other);
+      images = λ images other c left. subst (λ d. image_on Disk.image d c) (disks other) (images other c left);
+      moments = λ moments other. subst (λ d. Rests Disk d (Shelf.disk new other)) (disks other) (moments other);
+      durable = λ only.
+          subst (λ o. Only (bytes_on Disk.reads o) (image_on Disk.image (Shelf.disk new (journal_name directory name)))) (disks (journal_name directory name))
+          (subst (λ n. Only (bytes_on Disk.reads (Shelf.disk mid (journal_name directory n))) (image_on Disk.image (Shelf.disk new (journal_name directory n))))
+          is only);
+    }
 
 -- what holds behind a fault of the shelf and where memory was wanting holds of each audit of which nothing was written
 pub silent_end : {S : Type 0} (end : AuditEnd) → (end ≡ audit_end.ShelfFault → S) → (end ≡ audit_end.Memory → S) → IsSilent end → S

@@ -22,11 +22,13 @@ use Rattle.cqe_top.specs.declared.end.FilesEnd.TheVariants.{Facts, Memory}
 use Rattle.cqe_top.specs.declared.over_files.Task.{Task}
 use Rattle.cqe_top.specs.declared.mirrored.MirroredTask.{MirroredTask}
 use Rattle.cqe_top.specs.declared.mirrored.MirroredTask.TheVariants as copied
-use Rattle.cqe_top.specs.declared.over_files.Task.TheVariants.{Init, Batch, OfUser, Migrate, Serve}
+use Rattle.cqe_top.specs.declared.over_files.Task.TheVariants.{Init, Batch, Migrate, Serve}
 use Rattle.cqe_top.specs.declared.over_files.Task.TheVariants.{Standby}
-use Rattle.cqe_top.specs.declared.over_files.UserTask.TheVariants.{Audit, Dossier, Check}
+use Rattle.cqe_top.specs.declared.for_user.UserTask.{UserTask}
+use Rattle.cqe_top.specs.declared.for_user.UserTask.TheVariants.{Audit, Dossier, Check}
 use Rattle.cqe_top.specs.declared.part.Part.{Part}
-use Rattle.cqe_top.specs.declared.part.Part.TheVariants.{Case, Selfrun, OverFiles, Mirrored}
+use Rattle.cqe_top.specs.declared.part.Part.TheVariants.{Case, Selfrun, OverFiles, ForUser}
+use Rattle.cqe_top.specs.declared.part.Part.TheVariants.{Mirrored}
 
 -- ---- why one file wasn't read
 
@@ -60,13 +62,16 @@ IsShelfFault end = ⊥
 abbrev pub reading_over : FileNames → Task → Reading
 reading_over files Init = runs_init files
 reading_over files (Batch workers) = runs_batch files workers
-reading_over files (OfUser user (Audit json)) = runs_audit files user.now json
-reading_over files (OfUser user Dossier) = runs_dossier files user.now
-reading_over files (OfUser user Check) = runs_check files.policy files.facts user.now
 reading_over files (Migrate to) = runs_migrate files to.now
 reading_over files (Serve listening) =
     runs_serve files listening.address.now listening.workers listening.sessions
 reading_over files (Standby copying) = runs_standby files copying.address.now copying.sessions
+
+-- the reading that a task for the user of this name stands for
+abbrev pub reading_for_user : FileNames → Text → UserTask → Reading
+reading_for_user files user (Audit json) = runs_audit files user json
+reading_for_user files user Dossier = runs_dossier files user
+reading_for_user files user Check = runs_check files.policy files.facts user
 
 -- the reading that a task with a standby at an address stands for
 abbrev pub reading_mirrored : FileNames → MirroredTask → Text → Reading
@@ -79,6 +84,8 @@ abbrev pub reading_of_part : Part → Reading
 reading_of_part Case = runs_case
 reading_of_part (Selfrun words) = runs_selfrun words.seed words.users words.asks
 reading_of_part (OverFiles files task) = reading_over (names_of_files files) task
+reading_of_part (ForUser files user task) =
+    reading_for_user (names_of_files files) user.now task
 reading_of_part (Mirrored files task standby) =
     reading_mirrored (names_of_files files) task standby.now
 
@@ -99,7 +106,6 @@ pub record ServesBounds (workers sessions : ℕ) : Type 0 where
 abbrev pub KeepsBounds : FileNames → Task → Type 0
 KeepsBounds files Init = Unit {0}
 KeepsBounds files (Batch workers) = WorkersBounds workers
-KeepsBounds files (OfUser user task) = Unit {0}
 KeepsBounds files (Migrate to) = bytes_eq files.directory to.now ≡ false
 KeepsBounds files (Serve listening) = ServesBounds listening.workers listening.sessions
 KeepsBounds files (Standby copying) = copying.sessions ≤ 2 ^ 30

@@ -9,6 +9,7 @@ ghost use Rattle.cqe_top.specs.Scene.{scene_of, shelf_of, input_of, output_of, l
 
 use crate::complaint::complain;
 use crate::end::CommandEnd;
+use crate::for_user::run_for_user;
 use crate::laws::{
     law_any_batches_join, law_any_calls_join, law_calls_are_parts, law_calls_join,
     law_dossiers_are_found_sound, law_standbys_keep, law_takeovers_join,
@@ -131,6 +132,9 @@ where
         }
         Part::OverFiles(files, task) => {
             run_over_files(rt, alloc, files, task, shelf, source, sink, links, gate)
+        }
+        Part::ForUser(files, user, task) => {
+            run_for_user::<F, S, K, L>(alloc, files, user, task, shelf, source, sink)
         }
         Part::Mirrored(files, task, standby) => run_mirrored(
             rt, alloc, files, task, standby, shelf, source, sink, links, gate,

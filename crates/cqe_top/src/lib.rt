@@ -16,6 +16,7 @@ mod command;
 mod complaint;
 mod end;
 mod files;
+mod for_user;
 pub mod laws;
 mod mirrored;
 mod over_files;

@@ -81,53 +81,34 @@ where
         Ok(inputs) => inputs,
         Err(end) => return CommandEnd::Files(end),
     };
+    let users = inputs.policy.users.as_slice();
+    let header = &inputs.header;
+    let directory = files.journals;
     let registry = Registry {
         schema: &inputs.policy.schema,
         world: &inputs.world,
-        users: inputs.policy.users.as_slice(),
-        header: &inputs.header,
-        directory: files.journals,
+        users,
+        header,
+        directory,
     };
-    let mut mirrors = match mirrors_for(
-        alloc,
-        links,
-        standby,
-        registry.header,
-        registry.directory,
-        registry.users,
-    ) {
+    let mut dials = match mirrors_for(alloc, links, standby, header, directory, users) {
         Ok(mirrors) => mirrors,
         Err(AllocError) => return CommandEnd::Files(FilesEnd::Memory),
     };
     match task {
         MirroredTask::Batch(workers) => {
             let end = mirrored_batch(
-                rt,
-                alloc,
-                &registry,
-                workers,
-                shelf,
-                &mut mirrors,
-                source,
-                sink,
-                gate,
+                rt, alloc, &registry, workers, shelf, &mut dials, source, sink, gate,
             );
-            hang_up_all(links, mirrors);
+            hang_up_all(links, dials);
             CommandEnd::Batch(inputs.policy.users, end)
         }
         MirroredTask::Serve(listening) => {
             law_openings();
             let end = mirrored_serve(
-                rt,
-                alloc,
-                &registry,
-                shelf,
-                &mut mirrors,
-                links,
-                listening,
-                gate,
+                rt, alloc, &registry, shelf, &mut dials, links, listening, gate,
             );
-            hang_up_all(links, mirrors);
+            hang_up_all(links, dials);
             CommandEnd::Serve(inputs.policy.users, end)
         }
     }

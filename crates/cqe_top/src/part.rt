@@ -4,8 +4,9 @@ ghost use Rattle.command_words.specs.Readings.{reading_in};
 ghost use Rattle.command_words.specs.declared.command.Command.{Command};
 ghost use Rattle.cqe_top.specs.Steps.{reading_of_part};
 
+use crate::for_user::UserTask;
 use crate::mirrored::MirroredTask;
-use crate::over_files::{Task, UserTask};
+use crate::over_files::Task;
 use command_words::{BatchWords, Command, Files, SelfrunWords, ServeWords};
 use serve_engine::Listening;
 use standby_engine::Copying;
@@ -19,7 +20,9 @@ pub(crate) enum Part<'w> {
     Selfrun(SelfrunWords),
     /// Something is done over the files of these names.
     OverFiles(Files<'w>, Task<'w>),
-    /// The same with a standby at this address, which copies the journals.
+    /// Something is done over them for the user of this name.
+    ForUser(Files<'w>, &'w str, UserTask),
+    /// Something is done over files with a standby at this address, which copies the journals.
     Mirrored(Files<'w>, MirroredTask<'w>, &'w str),
 }
 
@@ -32,15 +35,12 @@ pub(crate) fn part_of<'w>(command: Command<'w>) -> Part<'w>
         Command::Init(files) => Part::OverFiles(files, Task::Init),
         Command::Batch(words) => batch_part(words),
         Command::Audit(words) => {
-            let task = Task::OfUser(words.user, UserTask::Audit(words.json));
-            Part::OverFiles(words.files, task)
+            Part::ForUser(words.files, words.user, UserTask::Audit(words.json))
         }
         Command::Selfrun(words) => Part::Selfrun(words),
         Command::Serve(words) => serve_part(words),
         Command::Migrate(words) => Part::OverFiles(words.files, Task::Migrate(words.to)),
-        Command::Dossier(words) => {
-            Part::OverFiles(words.files, Task::OfUser(words.user, UserTask::Dossier))
-        }
+        Command::Dossier(words) => Part::ForUser(words.files, words.user, UserTask::Dossier),
         Command::Check(words) => {
             // no journal is taken
             let files = Files {
@@ -48,7 +48,7 @@ pub(crate) fn part_of<'w>(command: Command<'w>) -> Part<'w>
                 facts: words.facts,
                 journals: "",
             };
-            Part::OverFiles(files, Task::OfUser(words.user, UserTask::Check))
+            Part::ForUser(files, words.user, UserTask::Check)
         }
         Command::Standby(words) => {
             let copying = Copying {

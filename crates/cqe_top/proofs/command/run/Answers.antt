@@ -13,15 +13,15 @@ use Rattle.cqe_top.specs.Case.{RunsCase}
 use Rattle.cqe_top.specs.Promise.{Always}
 use Rattle.cqe_top.specs.Scene.{scene_of, shelf_of, input_of, output_of, links_of}
 use Rattle.cqe_top.specs.Selfrun.{RunsSelfrun}
-use Rattle.cqe_top.specs.Steps.{reading_over, reading_mirrored, KeepsBounds, KeepsMirroredBounds}
+use Rattle.cqe_top.specs.Steps.{reading_over, reading_for_user, reading_mirrored, KeepsBounds, KeepsMirroredBounds}
 use Rattle.cqe_top.specs.declared.end.CommandEnd.TheVariants as ends
 use Rattle.cqe_top.specs.declared.over_files.Task.{Task}
-use Rattle.cqe_top.specs.declared.over_files.Task.TheVariants.{Init, Batch, OfUser, Migrate, Serve, Standby}
+use Rattle.cqe_top.specs.declared.over_files.Task.TheVariants.{Init, Batch, Migrate, Serve, Standby}
 use Rattle.cqe_top.specs.declared.mirrored.MirroredTask.{MirroredTask}
 use Rattle.cqe_top.specs.declared.mirrored.MirroredTask.TheVariants as copied
 use Rattle.cqe_top.proofs.Causes.{case_cause, selfrun_cause, has_cause, plainly}
 use Rattle.cqe_top.proofs.Good.{case_succeeds, selfrun_succeeds, nothing_begun, nobody_called}
-use Rattle.cqe_top.proofs.Dialling.{counted_same, counted_over}
+use Rattle.cqe_top.proofs.Dialling.{counted_same, counted_over, counted_for_user}
 use Rattle.cqe_top.proofs.Numbers.{Keeps, kept}
 use Rattle.cqe_top.proofs.command.run.Goals as goal
 
@@ -29,7 +29,6 @@ use Rattle.cqe_top.proofs.command.run.Goals as goal
 bounds_of : (files : FileNames) (task : Task) → Keeps (reading_over files task) → KeepsBounds files task
 bounds_of files Init keeps = tt
 bounds_of files (Batch workers) keeps = keeps
-bounds_of files (OfUser user task) keeps = tt
 bounds_of files (Migrate to) keeps = keeps
 bounds_of files (Serve listening) keeps = keeps
 bounds_of files (Standby copying) keeps = keeps
@@ -183,6 +182,24 @@ returns-in-OverFiles g c =
         sym c.in-Ok-Some.ensures ∙ ap (option_map reading_in) c.in-Ok-Some.field-0-is ∙ ap Some (sym c.in-OverFiles.ensures),
         plainly scene read c.run_over_files.result (counted_over scene (names_of_files c.in-OverFiles.files) c.in-OverFiles.task) ran.command ran.cause
             ran.always,
+      );
+    }
+
+pub returns-in-ForUser : goal.returns-in-ForUser
+returns-in-ForUser g c =
+    let scene = scene_of (shelf_of g.F.Shelf g.F.D.Disk c.args.shelf.now c.run_for_user.new.shelf)
+    (input_of g.S.Source c.args.source.now c.run_for_user.new.source)
+    (output_of g.K.Sink c.args.sink.now c.run_for_user.new.sink) (links_of g.L.Links c.args.links.now c.args.links.now) in
+    let ran = c.run_for_user.ensures in
+    let files = names_of_files c.in-ForUser.files in
+    let user = c.in-ForUser.user.now in
+    let read = Some (reading_for_user files user c.in-ForUser.task) in
+    record {
+      command = (
+        read,
+        sym c.in-Ok-Some.ensures ∙ ap (option_map reading_in) c.in-Ok-Some.field-0-is ∙ ap Some (sym c.in-ForUser.ensures),
+        plainly scene read c.run_for_user.result (counted_for_user scene files user c.in-ForUser.task) (ran.command c.args.links.now)
+            (ran.cause c.args.links.now) (ran.always c.args.links.now),
       );
     }
 

@@ -1,22 +1,13 @@
-use Rattle.std.proofs.Common.{◌≡◌, ◌<◌, refl, sym, ap, subst, ◌∙◌, map, length, string_bytes}
-use Rattle.std.specs.Prelude.{position, Some}
+use Rattle.std.proofs.Common.{refl, sym, ap, subst, ◌∙◌, map}
+use Rattle.std.specs.Prelude.{Some}
 use Rattle.outside.proofs.Rises.{rose_since}
-use Rattle.audit_engine.specs.Ends.{EndsAudit, JudgesJournal}
-use Rattle.dossier_engine.specs.Ends.{EndsDossier, JudgesDossier}
-use Rattle.cqe_base.specs.History.{profile_of}
-use Rattle.cqe_base.specs.Limits.{KeepsLimits}
 use Rattle.cqe_base.specs.Schema.{has_duplicate}
-use Rattle.cqe_base.specs.declared.user.User.{User}
 use Rattle.command_words.specs.Readings.{names_of_files}
 use Rattle.desk_crew.specs.Crew.{named_user}
-use Rattle.desk_crew.specs.Shelved.{Journals}
 use Rattle.log_journal.specs.Opening.{header_bytes}
 use Rattle.policy_files.specs.Memory.{policy_user_of, policy_value_of}
 use Rattle.policy_files.specs.Users.{names_of}
-use Rattle.cqe_top.specs.Audit.{OfAudit, RunsAudit}
 use Rattle.cqe_top.specs.Batch.{OfBatch, RunsBatch}
-use Rattle.cqe_top.specs.Check.{OfCheck, RunsCheck, two_files}
-use Rattle.cqe_top.specs.Dossier.{OfDossier, RunsDossier}
 use Rattle.cqe_top.specs.Init.{OfInit, RunsInit}
 use Rattle.cqe_top.specs.Migrate.{OfMigrate, RunsMigrate}
 use Rattle.cqe_top.specs.Scene.{Scene, scene_of, shelf_of, input_of, output_of, links_of}
@@ -25,24 +16,21 @@ use Rattle.cqe_top.specs.Serve.{OfServe, RunsServe}
 use Rattle.cqe_top.specs.Standby.{OfStandby, RunsStandby}
 use Rattle.cqe_top.specs.Steps.{reading_over}
 use Rattle.cqe_top.specs.declared.end.CommandEnd.TheVariants as ends
-use Rattle.cqe_top.specs.declared.over_files.Task.TheVariants.{OfUser}
-use Rattle.cqe_top.proofs.Causes.{files_cause, init_cause, batch_cause, audit_cause, dossier_cause, check_cause, migrate_cause, serve_cause, standby_cause}
-use Rattle.cqe_top.proofs.Finding.{is_named, one_named, named_at, nobody_named}
-use Rattle.cqe_top.proofs.Good.{unread, nobody_called, init_succeeds, batch_succeeds, audit_succeeds, dossier_succeeds, check_succeeds, migrate_succeeds}
-use Rattle.cqe_top.proofs.Good.{nobody_there}
+use Rattle.cqe_top.proofs.Causes.{files_cause, init_cause, batch_cause, migrate_cause, serve_cause, standby_cause}
+use Rattle.cqe_top.proofs.Good.{unread, nobody_called, init_succeeds, batch_succeeds, migrate_succeeds}
 use Rattle.cqe_top.proofs.Over.{init_refused, migrate_refused}
-use Rattle.cqe_top.proofs.Over.{serve_over, init_caused, some_rose, same_journals, touches_over, init_over, others_over, bytes_over, images_over, batch_over}
-use Rattle.cqe_top.proofs.Over.{batch_left, serve_left, one_of, silent_end, silent_dossier, counts_over, counted_over, moments_over}
-use Rattle.cqe_top.proofs.Over.{copies_left, copies_served, durable_over, migrate_over, migrate_caused, counts_both, at_one_of}
+use Rattle.cqe_top.proofs.Over.{serve_over, init_caused, some_rose, same_journals, touches_over, init_over, batch_over}
+use Rattle.cqe_top.proofs.Over.{batch_left, serve_left, one_of, counts_over}
+use Rattle.cqe_top.proofs.Over.{copies_left, copies_served, migrate_over, migrate_caused, counts_both, at_one_of}
 use Rattle.cqe_top.proofs.Serving.{serve_succeeds, served_out}
 use Rattle.cqe_top.proofs.Standing.{standby_succeeds}
-use Rattle.cqe_top.proofs.Users.{batch_names_are, name_proper}
+use Rattle.cqe_top.proofs.Users.{batch_names_are}
 use Rattle.cqe_top.proofs.over_files.run_over_files.Given.{Over}
 use Rattle.cqe_top.proofs.over_files.run_over_files.Goals as goal
 use Rattle.cqe_top.proofs.over_files.run_over_files.Goals.{After-drop-inputs-5, After-drop-inputs-in-Batch-4}
 use Rattle.cqe_top.proofs.over_files.run_over_files.Goals.{After-drop-inputs-in-Init-3, After-drop-inputs-in-Migrate-4, After-drop-inputs-in-Serve-4}
 use Rattle.cqe_top.proofs.over_files.run_over_files.Goals.{In-Err}
-use Rattle.cqe_top.specs.Files.{FindsNobody, change_on}
+use Rattle.cqe_top.specs.Files.{change_on}
 
 pub run_batch-end-requires-clause-names : goal.run_batch-end-requires-clause-names
 run_batch-end-requires-clause-names g c κs within =
@@ -195,246 +183,6 @@ returns-in-Batch-clause-command g c =
       listens_nowhere = refl;
     } in
     subst (λ task. OfReading scene (Some (reading_over files task)) (ends.Batch inputs.policy.users c.run_batch-end.result)) (sym c.in-Batch.is) does
-
--- ---- a user who isn't there
-
-pub returns-in_default-clause-command : goal.returns-in_default-clause-command
-returns-in_default-clause-command g c =
-    let scene : Scene = scene_of (shelf_of g.F.Shelf g.F.D.Disk c.args.shelf.now c.read_files.new.shelf)
-    (input_of g.S.Source c.args.source.now c.args.source.now)
-    (output_of g.K.Sink c.args.sink.now c.args.sink.now) (links_of g.L.Links c.args.links.now c.args.links.now) in
-    let read = c.in-Ok.ensures in
-    let files = names_of_files c.args.files in
-    let inputs = c.in-Ok.inputs in
-    let name = c.in-OfUser.name in
-    let finds : FindsNobody scene.shelf scene.output files name.now = record {
-      over_files = λ told. (
-        policy_value_of inputs.policy,
-        inputs.world,
-        header_bytes inputs.header,
-        read.read told,
-        nobody_named name.now inputs.policy.users.items (c.in_default.ensures.place ∙ ap (position (is_named name.now)) c.as_slice.ensures.value),
-      );
-      looks = read.both;
-      disks = (read.disks, read.counts);
-      writes_nothing = refl;
-    } in
-    subst (λ task. OfReading scene (Some (reading_over files task)) (ends.Nobody)) (sym c.in-OfUser.is)
-    (nobody_there scene files name c.in-OfUser.task finds refl refl)
-
--- ---- an audit
-
-pub returns-in-Audit-clause-cause : goal.returns-in-Audit-clause-cause
-returns-in-Audit-clause-cause g c =
-    let read = c.in-Ok.ensures in
-    let ran = c.run_audit.ensures in
-    let scene : Scene = scene_of (shelf_of g.F.Shelf g.F.D.Disk c.args.shelf.now c.run_audit.new.shelf)
-    (input_of g.S.Source c.args.source.now c.args.source.now)
-    (output_of g.K.Sink c.args.sink.now c.run_audit.new.sink) (links_of g.L.Links c.args.links.now c.args.links.now) in
-    audit_cause scene c.in-OfUser.name c.run_audit.result ran.write_cause
-    (λ is. rose_since (g.F.Shelf.faults c.args.shelf.now) (g.F.Shelf.faults c.read_files.new.shelf) (g.F.Shelf.faults c.run_audit.new.shelf) read.later
-    (ran.shelf_cause is))
-    (λ is. some_rose g.F.Shelf g.F.D.Disk c.args.shelf.now c.read_files.new.shelf c.run_audit.new.shelf read.disks read.counts (_, ran.journal_cause is))
-
-pub returns-in-Audit-clause-command : goal.returns-in-Audit-clause-command
-returns-in-Audit-clause-command g c =
-    let scene : Scene = scene_of (shelf_of g.F.Shelf g.F.D.Disk c.args.shelf.now c.run_audit.new.shelf)
-    (input_of g.S.Source c.args.source.now c.args.source.now)
-    (output_of g.K.Sink c.args.sink.now c.run_audit.new.sink) (links_of g.L.Links c.args.links.now c.args.links.now) in
-    let read = c.in-Ok.ensures in
-    let ran = c.run_audit.ensures in
-    let files = names_of_files c.args.files in
-    let inputs = c.in-Ok.inputs in
-    let name = c.in-OfUser.name.now in
-    let user = c.index-user.result.now in
-    let found = c.in-Some.ensures.place ∙ ap (position (is_named name)) c.as_slice.ensures.value in
-    let within : c.in-Some.place < length inputs.policy.users.items =
-    subst (λ users. c.in-Some.place < length users) c.as_slice.ensures.value c.in-Some.ensures.within in
-    let is : string_bytes user.name ≡ name = named_at name inputs.policy.users.items c.in-Some.place user found within c.index-user.ensures in
-    let runs : RunsAudit scene.shelf scene.output files name c.in-Audit.json name c.run_audit.result = record {
-      name_is = refl;
-      over_files = λ told. (
-        policy_value_of inputs.policy,
-        inputs.world,
-        header_bytes inputs.header,
-        read.read told,
-        (
-          policy_user_of user,
-          one_named name inputs.policy.users.items c.in-Some.place user user found c.index-user.ensures within,
-          subst (λ (journals : Journals).
-              JudgesJournal inputs.policy.schema inputs.world (header_bytes inputs.header) (string_bytes user.name) (profile_of user)
-              (journals.bytes (string_bytes user.name))
-              (journals.before (string_bytes user.name)) (journals.now (string_bytes user.name)) c.run_audit.result)
-              (same_journals g.F.Shelf g.F.D.Disk c.args.shelf.now c.read_files.new.shelf c.run_audit.new.shelf read.disks read.counts files)
-              (ran.judged told),
-          λ out_told. subst (λ (journals : Journals).
-              EndsAudit inputs.policy.schema inputs.world (header_bytes inputs.header) (string_bytes user.name) (profile_of user)
-              (journals.bytes (string_bytes user.name))
-              (journals.before (string_bytes user.name)) (journals.now (string_bytes user.name)) c.in-Audit.json c.run_audit.result
-              (g.K.Sink.written c.args.sink.now) (g.K.Sink.written c.run_audit.new.sink))
-              (same_journals g.F.Shelf g.F.D.Disk c.args.shelf.now c.read_files.new.shelf c.run_audit.new.shelf read.disks read.counts files)
-              (ran.ends told out_told),
-        ),
-      );
-      looks = λ told. ran.looked ∙ read.both told;
-      others = λ told.
-          others_over g.F.Shelf g.F.D.Disk c.args.shelf.now c.read_files.new.shelf c.run_audit.new.shelf read.disks read.counts files.directory name
-          (string_bytes user.name) is ran.disks;
-      other_counts =
-          counted_over g.F.Shelf g.F.D.Disk c.args.shelf.now c.read_files.new.shelf c.run_audit.new.shelf read.disks read.counts files.directory name
-          (string_bytes user.name) is ran.other_counts;
-      bytes = λ told. bytes_over g.F.Shelf g.F.D.Disk c.args.shelf.now c.read_files.new.shelf c.run_audit.new.shelf read.disks read.counts (ran.bytes told);
-      images = λ told. images_over g.F.Shelf g.F.D.Disk c.args.shelf.now c.read_files.new.shelf c.run_audit.new.shelf read.disks read.counts (ran.images told);
-      moments = λ told. moments_over g.F.Shelf g.F.D.Disk c.args.shelf.now c.read_files.new.shelf c.run_audit.new.shelf read.disks read.counts
-          (ran.moments told);
-      durable = λ told done.
-          durable_over g.F.Shelf g.F.D.Disk c.args.shelf.now c.read_files.new.shelf c.run_audit.new.shelf read.disks read.counts files.directory name
-          (string_bytes user.name) is (ran.durable told done);
-      silent = silent_end c.run_audit.result ran.silent_fault ran.silent_memory;
-    } in
-    let does : OfAudit scene files name c.in-Audit.json (ends.Audit c.in-OfUser.name c.run_audit.result) = record {
-      ends = runs;
-      succeeds = audit_succeeds scene files name c.in-Audit.json c.in-OfUser.name c.run_audit.result runs (returns-in-Audit-clause-cause g c);
-      reads_nothing = refl;
-      listens_nowhere = refl;
-    } in
-    subst (λ task. OfReading scene (Some (reading_over files task)) (ends.Audit c.in-OfUser.name c.run_audit.result))
-    (sym (c.in-OfUser.is ∙ ap (OfUser c.in-OfUser.name) c.in-Audit.is)) does
-
--- ---- a dossier
-
-pub returns-in-Dossier-clause-cause : goal.returns-in-Dossier-clause-cause
-returns-in-Dossier-clause-cause g c =
-    let read = c.in-Ok.ensures in
-    let ran = c.run_dossier.ensures in
-    let scene : Scene = scene_of (shelf_of g.F.Shelf g.F.D.Disk c.args.shelf.now c.run_dossier.new.shelf)
-    (input_of g.S.Source c.args.source.now c.args.source.now)
-    (output_of g.K.Sink c.args.sink.now c.run_dossier.new.sink) (links_of g.L.Links c.args.links.now c.args.links.now) in
-    dossier_cause scene c.in-OfUser.name c.run_dossier.result ran.write_cause
-    (λ is. rose_since (g.F.Shelf.faults c.args.shelf.now) (g.F.Shelf.faults c.read_files.new.shelf) (g.F.Shelf.faults c.run_dossier.new.shelf) read.later
-    (ran.shelf_cause is))
-    (λ is. some_rose g.F.Shelf g.F.D.Disk c.args.shelf.now c.read_files.new.shelf c.run_dossier.new.shelf read.disks read.counts (_, ran.journal_cause is))
-
-pub returns-in-Dossier-clause-command : goal.returns-in-Dossier-clause-command
-returns-in-Dossier-clause-command g c =
-    let scene : Scene = scene_of (shelf_of g.F.Shelf g.F.D.Disk c.args.shelf.now c.run_dossier.new.shelf)
-    (input_of g.S.Source c.args.source.now c.args.source.now)
-    (output_of g.K.Sink c.args.sink.now c.run_dossier.new.sink) (links_of g.L.Links c.args.links.now c.args.links.now) in
-    let read = c.in-Ok.ensures in
-    let ran = c.run_dossier.ensures in
-    let files = names_of_files c.args.files in
-    let inputs = c.in-Ok.inputs in
-    let name = c.in-OfUser.name.now in
-    let user = c.index-user.result.now in
-    let found = c.in-Some.ensures.place ∙ ap (position (is_named name)) c.as_slice.ensures.value in
-    let within : c.in-Some.place < length inputs.policy.users.items =
-    subst (λ users. c.in-Some.place < length users) c.as_slice.ensures.value c.in-Some.ensures.within in
-    let is : string_bytes user.name ≡ name = named_at name inputs.policy.users.items c.in-Some.place user found within c.index-user.ensures in
-    let runs : RunsDossier scene.shelf scene.output files name name c.run_dossier.result = record {
-      name_is = refl;
-      over_files = λ told. (
-        policy_value_of inputs.policy,
-        inputs.world,
-        header_bytes inputs.header,
-        read.read told,
-        (
-          policy_user_of user,
-          one_named name inputs.policy.users.items c.in-Some.place user user found c.index-user.ensures within,
-          subst (λ (journals : Journals).
-              JudgesDossier inputs.policy.schema inputs.world (header_bytes inputs.header) (string_bytes user.name) (profile_of user)
-              (journals.bytes (string_bytes user.name))
-              (journals.before (string_bytes user.name)) (journals.now (string_bytes user.name)) c.run_dossier.result)
-              (same_journals g.F.Shelf g.F.D.Disk c.args.shelf.now c.read_files.new.shelf c.run_dossier.new.shelf read.disks read.counts files)
-              (ran.judged told),
-          λ out_told. subst (λ (journals : Journals).
-              EndsDossier inputs.policy.schema inputs.world (header_bytes inputs.header) (string_bytes user.name) (profile_of user)
-              (journals.bytes (string_bytes user.name))
-              (journals.before (string_bytes user.name)) (journals.now (string_bytes user.name)) c.run_dossier.result
-              (g.K.Sink.written c.args.sink.now) (g.K.Sink.written c.run_dossier.new.sink))
-              (same_journals g.F.Shelf g.F.D.Disk c.args.shelf.now c.read_files.new.shelf c.run_dossier.new.shelf read.disks read.counts files)
-              (ran.ends told out_told),
-          λ text shown few. c.law_written_are_accepted.ensures inputs.policy.schema inputs.world (header_bytes inputs.header) (string_bytes user.name)
-              (profile_of user) _ _ _ text c.known.ensures
-              (name_proper inputs.policy.users.items c.in-Some.place user read.proper c.index-user.ensures within)
-              (subst (λ (u : User). KeepsLimits inputs.policy.schema (profile_of u)) (sym c.index-user.ensures) (read.limits c.in-Some.place user within))
-              shown few,
-        ),
-      );
-      looks = λ told. ran.looked ∙ read.both told;
-      others = λ told.
-          others_over g.F.Shelf g.F.D.Disk c.args.shelf.now c.read_files.new.shelf c.run_dossier.new.shelf read.disks read.counts files.directory name
-          (string_bytes user.name) is ran.disks;
-      other_counts =
-          counted_over g.F.Shelf g.F.D.Disk c.args.shelf.now c.read_files.new.shelf c.run_dossier.new.shelf read.disks read.counts files.directory name
-          (string_bytes user.name) is ran.other_counts;
-      bytes = λ told. bytes_over g.F.Shelf g.F.D.Disk c.args.shelf.now c.read_files.new.shelf c.run_dossier.new.shelf read.disks read.counts (ran.bytes told);
-      images = λ told.
-          images_over g.F.Shelf g.F.D.Disk c.args.shelf.now c.read_files.new.shelf c.run_dossier.new.shelf read.disks read.counts (ran.images told);
-      moments = λ told. moments_over g.F.Shelf g.F.D.Disk c.args.shelf.now c.read_files.new.shelf c.run_dossier.new.shelf read.disks read.counts
-          (ran.moments told);
-      durable = λ told done.
-          durable_over g.F.Shelf g.F.D.Disk c.args.shelf.now c.read_files.new.shelf c.run_dossier.new.shelf read.disks read.counts files.directory name
-          (string_bytes user.name) is (ran.durable told done);
-      silent = silent_dossier c.run_dossier.result ran.silent_fault ran.silent_memory;
-    } in
-    let does : OfDossier scene files name (ends.Dossier c.in-OfUser.name c.run_dossier.result) = record {
-      ends = runs;
-      succeeds = dossier_succeeds scene files name c.in-OfUser.name c.run_dossier.result runs (returns-in-Dossier-clause-cause g c);
-      reads_nothing = refl;
-      listens_nowhere = refl;
-    } in
-    subst (λ task. OfReading scene (Some (reading_over files task)) (ends.Dossier c.in-OfUser.name c.run_dossier.result))
-    (sym (c.in-OfUser.is ∙ ap (OfUser c.in-OfUser.name) c.in-Dossier.is)) does
-
--- ---- the check of a dossier
-
-pub returns-in-OfUser-clause-cause : goal.returns-in-OfUser-clause-cause
-returns-in-OfUser-clause-cause g c =
-    let ran = c.run_check.ensures in
-    let scene : Scene = scene_of (shelf_of g.F.Shelf g.F.D.Disk c.args.shelf.now c.read_files.new.shelf)
-    (input_of g.S.Source c.args.source.now c.run_check.new.source)
-    (output_of g.K.Sink c.args.sink.now c.run_check.new.sink) (links_of g.L.Links c.args.links.now c.args.links.now) in
-    check_cause scene c.run_check.result ran.read_cause ran.write_cause
-
-pub returns-in-OfUser-clause-command : goal.returns-in-OfUser-clause-command
-returns-in-OfUser-clause-command g c =
-    let scene : Scene = scene_of (shelf_of g.F.Shelf g.F.D.Disk c.args.shelf.now c.read_files.new.shelf)
-    (input_of g.S.Source c.args.source.now c.run_check.new.source)
-    (output_of g.K.Sink c.args.sink.now c.run_check.new.sink) (links_of g.L.Links c.args.links.now c.args.links.now) in
-    let read = c.in-Ok.ensures in
-    let ran = c.run_check.ensures in
-    let files = names_of_files c.args.files in
-    let two = two_files files.policy files.facts in
-    let inputs = c.in-Ok.inputs in
-    let name = c.in-OfUser.name.now in
-    let user = c.index-user.result.now in
-    let found = c.in-Some.ensures.place ∙ ap (position (is_named name)) c.as_slice.ensures.value in
-    let within : c.in-Some.place < length inputs.policy.users.items =
-    subst (λ users. c.in-Some.place < length users) c.as_slice.ensures.value c.in-Some.ensures.within in
-    let runs : RunsCheck scene.shelf scene.input scene.output two name c.run_check.result = record {
-      over_files = λ told. (
-        policy_value_of inputs.policy,
-        inputs.world,
-        header_bytes inputs.header,
-        read.read told,
-        (
-          policy_user_of user,
-          one_named name inputs.policy.users.items c.in-Some.place user user found c.index-user.ensures within,
-          ran.judged,
-          ran.ends,
-        ),
-      );
-      looks = read.both;
-      disks = (read.disks, read.counts);
-      silent = ran.silent;
-    } in
-    let does : OfCheck scene files.policy files.facts name (ends.Check c.run_check.result) = record {
-      ends = runs;
-      succeeds = check_succeeds scene two name c.run_check.result runs (returns-in-OfUser-clause-cause g c);
-      listens_nowhere = refl;
-    } in
-    subst (λ task. OfReading scene (Some (reading_over files task)) (ends.Check c.run_check.result))
-    (sym (c.in-OfUser.is ∙ ap (OfUser c.in-OfUser.name) c.in-Check.is)) does
 
 -- ---- the moving of journals
 
