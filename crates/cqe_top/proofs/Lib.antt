@@ -9,6 +9,7 @@ mod Good
 mod Serving
 mod Standing
 mod Copying
+mod Lending
 mod Dialling
 mod Lives
 mod Calls

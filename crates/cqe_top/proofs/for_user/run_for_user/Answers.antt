@@ -37,7 +37,8 @@ pub returns-in-Err-clause-command : goal.returns-in-Err-clause-command
 returns-in-Err-clause-command g c links =
     unread_for_user
     (scene_of (shelf_of g.F.Shelf g.F.D.Disk c.args.shelf.now c.read_files.new.shelf) (input_of g.S.Source c.args.source.now c.args.source.now)
-    (output_of g.K.Sink c.args.sink.now c.args.sink.now) (links_of g.L.Links links links)) (names_of_files c.args.files) c.args.name.now c.args.task c.in-Err.end
+    (output_of g.K.Sink c.args.sink.now c.args.sink.now) (links_of g.L.Links links links))
+    (names_of_files c.args.files) c.args.name.now c.args.task c.in-Err.end
     (record { refused = c.in-Err.ensures.refused; looks = c.in-Err.ensures.looks; disks = (c.in-Err.ensures.disks, c.in-Err.ensures.counts) })
     (returns-in-Err-clause-cause g c links) refl refl refl
 

@@ -1,174 +1,90 @@
-use Rattle.std.proofs.Common.{◌≡◌, ◌≤◌, ◌+◌, false, sym, ap, subst, ◌∙◌, length, map, rules}
-use Rattle.outside.specs.Faults.{Rose}
-use Rattle.outside.specs.Shelf.{SameNames, SameBeside, NoneOut, NoneFell, SomeRose, Lent, bytes_on}
+use Rattle.std.proofs.Common.{◌≡◌, ◌+◌, false, sym, ap, subst, ◌∙◌, length, map, rules}
+use Rattle.outside.specs.Shelf.{NoneOut, Lent, bytes_on}
 use Rattle.batch_engine.specs.Batch as batch
 use Rattle.desk_crew.specs.Crew.{named_user}
 use Rattle.desk_crew.specs.Registered.{registered_journals}
 use Rattle.log_journal.specs.Opening.{header_bytes}
 use Rattle.standby_core.specs.Places.{faults_in, is_away}
-use Rattle.standby_core.specs.MirrorSets.{slots_of, dial_faults, dial_marks, DialsLie}
-use Rattle.standby_core.specs.Slots.{place_at, slot_texts, there_among}
+use Rattle.standby_core.specs.MirrorSets.{slots_of, DialsLie}
+use Rattle.standby_core.specs.Slots.{place_at, mirrored_at, slot_texts, there_among}
 use Rattle.standby_core.proofs.There.{all_there}
-use Rattle.cqe_top.specs.Steps.{mirrored_counts, mirrored_journals}
-use Rattle.cqe_top.proofs.Copying.{same_mirrored, dials_lie, disks_under, counts_under, all_counts_under, some_rose_under, none_fell_under}
-use Rattle.cqe_top.proofs.Copying.{shelf_back, mirrors_back, lent_one, lent_two}
+use Rattle.cqe_top.proofs.Copying.{dials_lie, shelf_back, mirrors_back, lent_two}
+use Rattle.cqe_top.proofs.Lending.{GivenBack, given_back}
+use Rattle.cqe_top.proofs.mirrored.mirrored_batch.Given.{Over}
 use Rattle.cqe_top.proofs.mirrored.mirrored_batch.Goals as goal
+use Rattle.cqe_top.proofs.mirrored.mirrored_batch.Goals.{After-mirrors-1}
 
 pub run_batch-requires-clause-inside : goal.run_batch-requires-clause-inside
 run_batch-requires-clause-inside g c κs within =
     subst (λ shelf. NoneOut (g.F.Shelf.is_out shelf)) (sym c.new-mirrored.ensures.shelf) c.requires.inside
 
+-- what was lent is back
+back : (g : Over) (c : After-mirrors-1 g)
+    → GivenBack g.F.Shelf g.F.D.Disk g.C.Dial.faults c.new-mirrored.result.shelf.now c.args.shelf.now c.run_batch.new.shelf.shelf.now c.shelf-1.given.0
+    c.new-mirrored.result.mirrors.now c.args.mirrors.now c.run_batch.new.shelf.mirrors.now c.mirrors-1.given.0
+back g c =
+    given_back g.F.Shelf g.F.D.Disk g.C.Dial.faults c.new-mirrored.result.shelf.now c.args.shelf.now c.run_batch.new.shelf.shelf.now c.shelf-1.given.0
+    c.new-mirrored.result.mirrors.now c.args.mirrors.now c.run_batch.new.shelf.mirrors.now c.mirrors-1.given.0
+    c.new-mirrored.ensures.shelf c.new-mirrored.ensures.mirrors c.requires.fresh
+    (shelf_back _ c.run_batch.new.shelf.shelf.now _ _ c.run_batch.ensures.lent (search rules))
+    (mirrors_back c.mirrors-1.given.0 c.run_batch.new.shelf.mirrors.now _ _ c.run_batch.ensures.lent (search rules))
+
 -- ---- the journals, where the exchanges that failed are counted
 
 pub returns-clause-ends : goal.returns-clause-ends
 returns-clause-ends g c = λ told in_told out_told.
-    lent_two (λ shelf mirrors. batch.EndsBatch c.args.registry.now.schema.now c.args.registry.now.world.now (header_bytes c.args.registry.now.header.now)
-    (mirrored_journals g.F.Shelf g.F.D.Disk c.args.registry.now.directory.now c.args.shelf.now shelf (dial_faults g.C.Dial.faults mirrors)
-    (dial_marks g.C.Dial.answered (g.F.Shelf.disk shelf) mirrors))
+    (back g c).journals g.C.Dial.answered c.args.registry.now.directory.now
+    (λ journals. batch.EndsBatch c.args.registry.now.schema.now c.args.registry.now.world.now (header_bytes c.args.registry.now.header.now) journals
     (map named_user c.args.registry.now.users.now) c.run_batch.result (g.S.Source.left c.args.source.now) (g.S.Source.left c.run_batch.new.source)
     (g.K.Sink.written c.args.sink.now) (g.K.Sink.written c.run_batch.new.sink))
-    _ c.run_batch.new.shelf.shelf.now c.mirrors-1.given.0 c.run_batch.new.shelf.mirrors.now
-    (shelf_back _ c.run_batch.new.shelf.shelf.now _ _ c.run_batch.ensures.lent (search rules))
-    (mirrors_back c.mirrors-1.given.0 c.run_batch.new.shelf.mirrors.now _ _ c.run_batch.ensures.lent (search rules))
-    (subst (λ journals. batch.EndsBatch c.args.registry.now.schema.now c.args.registry.now.world.now (header_bytes c.args.registry.now.header.now)
-    journals
-    (map named_user c.args.registry.now.users.now) c.run_batch.result (g.S.Source.left c.args.source.now) (g.S.Source.left c.run_batch.new.source)
-    (g.K.Sink.written c.args.sink.now) (g.K.Sink.written c.run_batch.new.sink))
-    (same_mirrored g.F.Shelf g.F.D.Disk g.C.Dial.faults c.new-mirrored.result.shelf.now c.args.shelf.now c.run_batch.new.shelf.shelf.now
-    c.new-mirrored.ensures.shelf
-    (slots_of c.new-mirrored.result.mirrors.now) (slots_of c.args.mirrors.now) (slots_of c.run_batch.new.shelf.mirrors.now)
-    (ap slots_of c.new-mirrored.ensures.mirrors) c.requires.fresh g.C.Dial.answered c.args.registry.now.directory.now)
-    (c.run_batch.ensures.ends told in_told out_told))
+    (c.run_batch.ensures.ends told in_told out_told)
 
 pub returns-clause-journals : goal.returns-clause-journals
 returns-clause-journals g c = λ told.
-    lent_two (λ shelf mirrors. batch.LeavesJournals c.args.registry.now.schema.now c.args.registry.now.world.now (header_bytes c.args.registry.now.header.now)
-    (mirrored_journals g.F.Shelf g.F.D.Disk c.args.registry.now.directory.now c.args.shelf.now shelf (dial_faults g.C.Dial.faults mirrors)
-    (dial_marks g.C.Dial.answered (g.F.Shelf.disk shelf) mirrors))
+    (back g c).journals g.C.Dial.answered c.args.registry.now.directory.now
+    (λ journals. batch.LeavesJournals c.args.registry.now.schema.now c.args.registry.now.world.now (header_bytes c.args.registry.now.header.now) journals
     (map named_user c.args.registry.now.users.now) c.run_batch.result)
-    _ c.run_batch.new.shelf.shelf.now c.mirrors-1.given.0 c.run_batch.new.shelf.mirrors.now
-    (shelf_back _ c.run_batch.new.shelf.shelf.now _ _ c.run_batch.ensures.lent (search rules))
-    (mirrors_back c.mirrors-1.given.0 c.run_batch.new.shelf.mirrors.now _ _ c.run_batch.ensures.lent (search rules))
-    (subst (λ journals. batch.LeavesJournals c.args.registry.now.schema.now c.args.registry.now.world.now (header_bytes c.args.registry.now.header.now)
-    journals
-    (map named_user c.args.registry.now.users.now) c.run_batch.result)
-    (same_mirrored g.F.Shelf g.F.D.Disk g.C.Dial.faults c.new-mirrored.result.shelf.now c.args.shelf.now c.run_batch.new.shelf.shelf.now
-    c.new-mirrored.ensures.shelf
-    (slots_of c.new-mirrored.result.mirrors.now) (slots_of c.args.mirrors.now) (slots_of c.run_batch.new.shelf.mirrors.now)
-    (ap slots_of c.new-mirrored.ensures.mirrors) c.requires.fresh g.C.Dial.answered c.args.registry.now.directory.now)
-    (c.run_batch.ensures.journals told))
+    (c.run_batch.ensures.journals told)
 
 -- ---- the disks and their counts
 
 pub returns-clause-disks : goal.returns-clause-disks
-returns-clause-disks g c =
-    lent_one (λ shelf. SameBeside (registered_journals c.args.registry.now.directory.now c.args.registry.now.users.now)
-    (g.F.Shelf.disk c.args.shelf.now) (g.F.Shelf.disk shelf)) _ c.run_batch.new.shelf.shelf.now
-    (shelf_back _ c.run_batch.new.shelf.shelf.now _ _ c.run_batch.ensures.lent (search rules))
-    (disks_under g.F.Shelf g.F.D.Disk g.C.Dial.faults c.new-mirrored.result.shelf.now c.args.shelf.now c.run_batch.new.shelf.shelf.now
-    c.new-mirrored.ensures.shelf
-    (slots_of c.new-mirrored.result.mirrors.now) (slots_of c.args.mirrors.now) (slots_of c.run_batch.new.shelf.mirrors.now)
-    (ap slots_of c.new-mirrored.ensures.mirrors) c.requires.fresh
-    (registered_journals c.args.registry.now.directory.now c.args.registry.now.users.now) c.run_batch.ensures.disks)
+returns-clause-disks g c = (back g c).disks (registered_journals c.args.registry.now.directory.now c.args.registry.now.users.now) c.run_batch.ensures.disks
 
 pub returns-clause-inside : goal.returns-clause-inside
-returns-clause-inside g c =
-    lent_one (λ shelf. NoneOut (g.F.Shelf.is_out shelf)) _ c.run_batch.new.shelf.shelf.now
-    (shelf_back _ c.run_batch.new.shelf.shelf.now _ _ c.run_batch.ensures.lent (search rules)) c.run_batch.ensures.inside
+returns-clause-inside g c = (back g c).inside c.run_batch.ensures.inside
 
 pub returns-clause-files : goal.returns-clause-files
-returns-clause-files g c =
-    lent_one (λ shelf. SameNames (g.F.Shelf.file c.args.shelf.now) (g.F.Shelf.file shelf)) _ c.run_batch.new.shelf.shelf.now
-    (shelf_back _ c.run_batch.new.shelf.shelf.now _ _ c.run_batch.ensures.lent (search rules))
-    (subst (λ shelf. SameNames (g.F.Shelf.file shelf) (g.F.Shelf.file c.run_batch.new.shelf.shelf.now)) c.new-mirrored.ensures.shelf c.run_batch.ensures.files)
+returns-clause-files g c = (back g c).files c.run_batch.ensures.files
 
 pub returns-clause-looked : goal.returns-clause-looked
-returns-clause-looked g c =
-    lent_one (λ shelf. g.F.Shelf.looked shelf ≡ g.F.Shelf.looked c.args.shelf.now) _ c.run_batch.new.shelf.shelf.now
-    (shelf_back _ c.run_batch.new.shelf.shelf.now _ _ c.run_batch.ensures.lent (search rules))
-    (c.run_batch.ensures.looked ∙ ap g.F.Shelf.looked c.new-mirrored.ensures.shelf)
+returns-clause-looked g c = (back g c).looked c.run_batch.ensures.looked
 
 pub returns-clause-counts : goal.returns-clause-counts
-returns-clause-counts g c =
-    lent_two (λ shelf mirrors. NoneFell (g.F.Shelf.disk_faults c.args.shelf.now)
-    (mirrored_counts (g.F.Shelf.disk_faults shelf) (dial_faults g.C.Dial.faults mirrors)))
-    _ c.run_batch.new.shelf.shelf.now c.mirrors-1.given.0 c.run_batch.new.shelf.mirrors.now
-    (shelf_back _ c.run_batch.new.shelf.shelf.now _ _ c.run_batch.ensures.lent (search rules))
-    (mirrors_back c.mirrors-1.given.0 c.run_batch.new.shelf.mirrors.now _ _ c.run_batch.ensures.lent (search rules))
-    (none_fell_under g.F.Shelf g.F.D.Disk g.C.Dial.faults c.new-mirrored.result.shelf.now c.args.shelf.now c.run_batch.new.shelf.shelf.now
-    c.new-mirrored.ensures.shelf
-    (slots_of c.new-mirrored.result.mirrors.now) (slots_of c.args.mirrors.now) (slots_of c.run_batch.new.shelf.mirrors.now)
-    (ap slots_of c.new-mirrored.ensures.mirrors) c.requires.fresh
-    c.run_batch.ensures.counts)
+returns-clause-counts g c = (back g c).counts c.run_batch.ensures.counts
 
 pub returns-clause-other_counts : goal.returns-clause-other_counts
 returns-clause-other_counts g c =
-    lent_two (λ shelf mirrors. SameBeside (registered_journals c.args.registry.now.directory.now c.args.registry.now.users.now)
-    (g.F.Shelf.disk_faults c.args.shelf.now) (mirrored_counts (g.F.Shelf.disk_faults shelf) (dial_faults g.C.Dial.faults mirrors)))
-    _ c.run_batch.new.shelf.shelf.now c.mirrors-1.given.0 c.run_batch.new.shelf.mirrors.now
-    (shelf_back _ c.run_batch.new.shelf.shelf.now _ _ c.run_batch.ensures.lent (search rules))
-    (mirrors_back c.mirrors-1.given.0 c.run_batch.new.shelf.mirrors.now _ _ c.run_batch.ensures.lent (search rules))
-    (counts_under g.F.Shelf g.F.D.Disk g.C.Dial.faults c.new-mirrored.result.shelf.now c.args.shelf.now c.run_batch.new.shelf.shelf.now
-    c.new-mirrored.ensures.shelf
-    (slots_of c.new-mirrored.result.mirrors.now) (slots_of c.args.mirrors.now) (slots_of c.run_batch.new.shelf.mirrors.now)
-    (ap slots_of c.new-mirrored.ensures.mirrors) c.requires.fresh
-    (registered_journals c.args.registry.now.directory.now c.args.registry.now.users.now) c.run_batch.ensures.other_counts)
+    (back g c).other_counts (registered_journals c.args.registry.now.directory.now c.args.registry.now.users.now) c.run_batch.ensures.other_counts
 
 pub returns-clause-disk_cause : goal.returns-clause-disk_cause
-returns-clause-disk_cause g c broken =
-    lent_two (λ shelf mirrors. SomeRose (g.F.Shelf.disk_faults c.args.shelf.now)
-    (mirrored_counts (g.F.Shelf.disk_faults shelf) (dial_faults g.C.Dial.faults mirrors)))
-    _ c.run_batch.new.shelf.shelf.now c.mirrors-1.given.0 c.run_batch.new.shelf.mirrors.now
-    (shelf_back _ c.run_batch.new.shelf.shelf.now _ _ c.run_batch.ensures.lent (search rules))
-    (mirrors_back c.mirrors-1.given.0 c.run_batch.new.shelf.mirrors.now _ _ c.run_batch.ensures.lent (search rules))
-    (some_rose_under g.F.Shelf g.F.D.Disk g.C.Dial.faults c.new-mirrored.result.shelf.now c.args.shelf.now c.run_batch.new.shelf.shelf.now
-    c.new-mirrored.ensures.shelf
-    (slots_of c.new-mirrored.result.mirrors.now) (slots_of c.args.mirrors.now) (slots_of c.run_batch.new.shelf.mirrors.now)
-    (ap slots_of c.new-mirrored.ensures.mirrors) c.requires.fresh
-    (c.run_batch.ensures.disk_cause broken))
+returns-clause-disk_cause g c broken = (back g c).rose (c.run_batch.ensures.disk_cause broken)
 
 pub returns-clause-journal_cause : goal.returns-clause-journal_cause
-returns-clause-journal_cause g c refused =
-    lent_two (λ shelf mirrors. SomeRose (g.F.Shelf.disk_faults c.args.shelf.now)
-    (mirrored_counts (g.F.Shelf.disk_faults shelf) (dial_faults g.C.Dial.faults mirrors)))
-    _ c.run_batch.new.shelf.shelf.now c.mirrors-1.given.0 c.run_batch.new.shelf.mirrors.now
-    (shelf_back _ c.run_batch.new.shelf.shelf.now _ _ c.run_batch.ensures.lent (search rules))
-    (mirrors_back c.mirrors-1.given.0 c.run_batch.new.shelf.mirrors.now _ _ c.run_batch.ensures.lent (search rules))
-    (some_rose_under g.F.Shelf g.F.D.Disk g.C.Dial.faults c.new-mirrored.result.shelf.now c.args.shelf.now c.run_batch.new.shelf.shelf.now
-    c.new-mirrored.ensures.shelf
-    (slots_of c.new-mirrored.result.mirrors.now) (slots_of c.args.mirrors.now) (slots_of c.run_batch.new.shelf.mirrors.now)
-    (ap slots_of c.new-mirrored.ensures.mirrors) c.requires.fresh
-    (c.run_batch.ensures.journal_cause refused))
+returns-clause-journal_cause g c refused = (back g c).rose (c.run_batch.ensures.journal_cause refused)
 
 pub returns-clause-shelf_later : goal.returns-clause-shelf_later
-returns-clause-shelf_later g c =
-    lent_one (λ shelf. g.F.Shelf.faults c.args.shelf.now ≤ g.F.Shelf.faults shelf) _ c.run_batch.new.shelf.shelf.now
-    (shelf_back _ c.run_batch.new.shelf.shelf.now _ _ c.run_batch.ensures.lent (search rules))
-    (subst (λ shelf. g.F.Shelf.faults shelf ≤ g.F.Shelf.faults c.run_batch.new.shelf.shelf.now) c.new-mirrored.ensures.shelf c.run_batch.ensures.shelf_later)
+returns-clause-shelf_later g c = (back g c).later c.run_batch.ensures.shelf_later
 
 pub returns-clause-shelf_cause : goal.returns-clause-shelf_cause
-returns-clause-shelf_cause g c failed =
-    lent_one (λ shelf. Rose (g.F.Shelf.faults c.args.shelf.now) (g.F.Shelf.faults shelf)) _ c.run_batch.new.shelf.shelf.now
-    (shelf_back _ c.run_batch.new.shelf.shelf.now _ _ c.run_batch.ensures.lent (search rules))
-    (subst (λ shelf. Rose (g.F.Shelf.faults shelf) (g.F.Shelf.faults c.run_batch.new.shelf.shelf.now)) c.new-mirrored.ensures.shelf
-    (c.run_batch.ensures.shelf_cause failed))
+returns-clause-shelf_cause g c failed = (back g c).cause (c.run_batch.ensures.shelf_cause failed)
 
 pub returns-clause-unopened : goal.returns-clause-unopened
 returns-clause-unopened g c is =
     let same = c.run_batch.ensures.unopened is in (
-      lent_one (λ shelf. SameNames (g.F.Shelf.disk c.args.shelf.now) (g.F.Shelf.disk shelf)) _ c.run_batch.new.shelf.shelf.now
-          (shelf_back _ c.run_batch.new.shelf.shelf.now _ _ c.run_batch.ensures.lent (search rules))
-          (λ name. (λ i. g.F.Shelf.disk (same i).shelf.now name) ∙ ap (λ shelf. g.F.Shelf.disk shelf name) c.new-mirrored.ensures.shelf),
-      lent_two (λ shelf mirrors. SameNames (g.F.Shelf.disk_faults c.args.shelf.now)
-          (mirrored_counts (g.F.Shelf.disk_faults shelf) (dial_faults g.C.Dial.faults mirrors)))
-          _ c.run_batch.new.shelf.shelf.now c.mirrors-1.given.0 c.run_batch.new.shelf.mirrors.now
-          (shelf_back _ c.run_batch.new.shelf.shelf.now _ _ c.run_batch.ensures.lent (search rules))
-          (mirrors_back c.mirrors-1.given.0 c.run_batch.new.shelf.mirrors.now _ _ c.run_batch.ensures.lent (search rules))
-          (all_counts_under g.F.Shelf g.F.D.Disk g.C.Dial.faults c.new-mirrored.result.shelf.now c.args.shelf.now c.run_batch.new.shelf.shelf.now
-          c.new-mirrored.ensures.shelf
-          (slots_of c.new-mirrored.result.mirrors.now) (slots_of c.args.mirrors.now) (slots_of c.run_batch.new.shelf.mirrors.now)
-          (ap slots_of c.new-mirrored.ensures.mirrors) c.requires.fresh
-          (λ name. (λ i. g.F.Shelf.disk_faults (same i).shelf.now name + faults_in g.C.Dial.faults (place_at (slots_of (same i).mirrors.now) name)))),
+      (back g c).same_disks (λ name. (λ i. mirrored_at (g.F.Shelf.disk (same i).shelf.now name) (place_at (slots_of (same i).mirrors.now) name))),
+      (back g c).same_counts
+          (λ name. (λ i. g.F.Shelf.disk_faults (same i).shelf.now name + faults_in g.C.Dial.faults (place_at (slots_of (same i).mirrors.now) name))),
     )
 
 -- ---- the mirrors
@@ -177,21 +93,21 @@ pub returns-clause-made : goal.returns-clause-made
 returns-clause-made g c =
     subst (λ mirrors. map (slot_texts g.C.Dial.name g.C.Dial.address) (slots_of mirrors)
     ≡ map (slot_texts g.C.Dial.name g.C.Dial.address) (slots_of c.args.mirrors.now))
-    (sym (mirrors_back c.mirrors-1.given.0 c.run_batch.new.shelf.mirrors.now _ _ c.run_batch.ensures.lent (search rules)))
+    (sym (back g c).mirrors)
     (ap (λ (l : Lent). l.origins) c.run_batch.ensures.lent
     ∙ ap (λ mirrors. map (slot_texts g.C.Dial.name g.C.Dial.address) (slots_of mirrors)) c.new-mirrored.ensures.mirrors)
 
 pub returns-clause-all_there : goal.returns-clause-all_there
 returns-clause-all_there g c =
     subst (λ mirrors. there_among (slots_of mirrors) ≡ length (slots_of mirrors))
-    (sym (mirrors_back c.mirrors-1.given.0 c.run_batch.new.shelf.mirrors.now _ _ c.run_batch.ensures.lent (search rules)))
+    (sym (back g c).mirrors)
     (all_there (slots_of c.run_batch.new.shelf.mirrors.now) c.run_batch.new.shelf.mirrors.now.distinct
     (λ name. c.run_batch.new.shelf.back name (c.run_batch.ensures.inside name)))
 
 pub returns-clause-none_away : goal.returns-clause-none_away
 returns-clause-none_away g c name =
     subst (λ mirrors. is_away (place_at (slots_of mirrors) name) ≡ false)
-    (sym (mirrors_back c.mirrors-1.given.0 c.run_batch.new.shelf.mirrors.now _ _ c.run_batch.ensures.lent (search rules)))
+    (sym (back g c).mirrors)
     (c.run_batch.new.shelf.back name (c.run_batch.ensures.inside name))
 
 -- ---- what was told of
@@ -199,9 +115,7 @@ returns-clause-none_away g c name =
 pub returns-clause-lie : goal.returns-clause-lie
 returns-clause-lie g c = λ told.
     lent_two (λ shelf mirrors. DialsLie g.C.Dial.tells g.C.Dial.exchanged mirrors (λ name. bytes_on g.F.D.Disk.reads (g.F.Shelf.disk shelf name)))
-    _ c.run_batch.new.shelf.shelf.now c.mirrors-1.given.0 c.run_batch.new.shelf.mirrors.now
-    (shelf_back _ c.run_batch.new.shelf.shelf.now _ _ c.run_batch.ensures.lent (search rules))
-    (mirrors_back c.mirrors-1.given.0 c.run_batch.new.shelf.mirrors.now _ _ c.run_batch.ensures.lent (search rules))
+    c.shelf-1.given.0 c.run_batch.new.shelf.shelf.now c.mirrors-1.given.0 c.run_batch.new.shelf.mirrors.now (back g c).shelf (back g c).mirrors
     (dials_lie g.F.Shelf g.F.D.Disk g.C.Dial.faults c.new-mirrored.result.shelf.now c.args.shelf.now c.run_batch.new.shelf.shelf.now
     c.new-mirrored.ensures.shelf
     (slots_of c.new-mirrored.result.mirrors.now) (slots_of c.args.mirrors.now) (slots_of c.run_batch.new.shelf.mirrors.now)

@@ -35,17 +35,19 @@ use Rattle.cqe_top.proofs.mirrored.run_mirrored.Goals.{In-Err, After-drop-inputs
 
 pub mirrored_batch-end-requires-clause-names : goal.mirrored_batch-end-requires-clause-names
 mirrored_batch-end-requires-clause-names g c κs within =
-    ap has_duplicate (ap (λ users. map (λ user. user.name) (map named_user users)) c.as_slice.ensures.value ∙ batch_names_are c.in-Ok.inputs.policy.users.items)
+    ap has_duplicate
+    (ap (λ users. map (λ user. user.name) (map named_user users)) c.as_slice-users.ensures.value ∙ batch_names_are c.in-Ok.inputs.policy.users.items)
     ∙ c.in-Ok.ensures.names
 
 pub mirrored_serve-end-requires-clause-names : goal.mirrored_serve-end-requires-clause-names
 mirrored_serve-end-requires-clause-names g c κs within =
-    ap has_duplicate (ap (λ users. map (λ user. user.name) (map named_user users)) c.as_slice.ensures.value ∙ batch_names_are c.in-Ok.inputs.policy.users.items)
+    ap has_duplicate
+    (ap (λ users. map (λ user. user.name) (map named_user users)) c.as_slice-users.ensures.value ∙ batch_names_are c.in-Ok.inputs.policy.users.items)
     ∙ c.in-Ok.ensures.names
 
 pub mirrors_for-requires-after_bounds : goal.mirrors_for-requires-after_bounds
 mirrors_for-requires-after_bounds g c κs within =
-    ap has_duplicate (ap (λ users. map (λ user. string_bytes user.name) users) c.as_slice.ensures.value) ∙ c.in-Ok.ensures.names
+    ap has_duplicate (ap (λ users. map (λ user. string_bytes user.name) users) c.as_slice-users.ensures.value) ∙ c.in-Ok.ensures.names
 
 pub mirrored_batch-end-requires-clause-silent : goal.mirrored_batch-end-requires-clause-silent
 mirrored_batch-end-requires-clause-silent g c κs within = c.in-Ok-mirrors_for.ensures.silent
@@ -192,14 +194,14 @@ returns-in-Batch g c = record {
           read.read told,
           record {
             of_policy = refl;
-            touches = touches_counted g.F.Shelf g.F.D.Disk old mid new read.disks read.counts failed files inputs.policy c.as_slice.result.now
-                c.as_slice.ensures.value ran.disks ran.other_counts;
-            journals = batch_left inputs.policy inputs.world (header_bytes inputs.header) c.as_slice.result.now _ _ c.mirrored_batch-end.result
-                (same_counted g.F.Shelf g.F.D.Disk old mid new read.disks read.counts failed files marks) c.as_slice.ensures.value (ran.journals told);
+            touches = touches_counted g.F.Shelf g.F.D.Disk old mid new read.disks read.counts failed files inputs.policy c.as_slice-users.result.now
+                c.as_slice-users.ensures.value ran.disks ran.other_counts;
+            journals = batch_left inputs.policy inputs.world (header_bytes inputs.header) c.as_slice-users.result.now _ _ c.mirrored_batch-end.result
+                (same_counted g.F.Shelf g.F.D.Disk old mid new read.disks read.counts failed files marks) c.as_slice-users.ensures.value (ran.journals told);
             answers =
                 λ in_told out_told.
-                batch_over inputs.policy inputs.world (header_bytes inputs.header) c.as_slice.result.now _ _ c.mirrored_batch-end.result _ _ _ _
-                (same_counted g.F.Shelf g.F.D.Disk old mid new read.disks read.counts failed files marks) c.as_slice.ensures.value
+                batch_over inputs.policy inputs.world (header_bytes inputs.header) c.as_slice-users.result.now _ _ c.mirrored_batch-end.result _ _ _ _
+                (same_counted g.F.Shelf g.F.D.Disk old mid new read.disks read.counts failed files marks) c.as_slice-users.ensures.value
                 (ran.ends told in_told out_told);
           },
         );
@@ -218,8 +220,9 @@ returns-in-Batch g c = record {
         inputs.world,
         header_bytes inputs.header,
         read.read told,
-        calls_from inputs.header c.args.standby.now files.directory (policy_value_of inputs.policy) c.as_slice.result.now
-            (ap (map policy_user_of) c.as_slice.ensures.value) scene.links inputs.world marks (λ name. bytes_on g.F.D.Disk.reads (g.F.Shelf.disk new name)) _ _
+        calls_from inputs.header c.args.standby.now files.directory (policy_value_of inputs.policy) c.as_slice-users.result.now
+            (ap (map policy_user_of) c.as_slice-users.ensures.value) scene.links inputs.world marks
+            (λ name. bytes_on g.F.D.Disk.reads (g.F.Shelf.disk new name)) _ _
             _
             (g.L.Links.exchanged c.mirrors_for.new.links) (ran.lie told)
             (ran.made ∙ c.in-Ok-mirrors_for.ensures.made) (made.calls.exchanged links_told) (hung.exchanged links_told)
@@ -317,16 +320,17 @@ returns g c = record {
           read.read told,
           record {
             of_policy = refl;
-            touches = touches_counted g.F.Shelf g.F.D.Disk old mid new read.disks read.counts failed files inputs.policy c.as_slice.result.now
-                c.as_slice.ensures.value ran.disks ran.other_counts;
-            journals = serve_left inputs.policy inputs.world (header_bytes inputs.header) c.as_slice.result.now _ _ c.mirrored_serve-end.result
-                (same_counted g.F.Shelf g.F.D.Disk old mid new read.disks read.counts failed files marks) c.as_slice.ensures.value (ran.journals told);
+            touches = touches_counted g.F.Shelf g.F.D.Disk old mid new read.disks read.counts failed files inputs.policy c.as_slice-users.result.now
+                c.as_slice-users.ensures.value ran.disks ran.other_counts;
+            journals = serve_left inputs.policy inputs.world (header_bytes inputs.header) c.as_slice-users.result.now _ _ c.mirrored_serve-end.result
+                (same_counted g.F.Shelf g.F.D.Disk old mid new read.disks read.counts failed files marks) c.as_slice-users.ensures.value (ran.journals told);
             serves = λ links_told.
                 doors.served links_told (λ given given' back back'.
                 serving.EndsServing inputs.policy.schema inputs.world (header_bytes inputs.header) (journals_of marked.shelf files) inputs.policy.users.items
                 given given' back back' c.mirrored_serve-end.result)
-                (serve_over inputs.policy inputs.world (header_bytes inputs.header) c.as_slice.result.now _ _ c.mirrored_serve-end.result _ _ _ _
-                (same_counted g.F.Shelf g.F.D.Disk old mid new read.disks read.counts failed files marks) c.as_slice.ensures.value (ran.ends told links_told));
+                (serve_over inputs.policy inputs.world (header_bytes inputs.header) c.as_slice-users.result.now _ _ c.mirrored_serve-end.result _ _ _ _
+                (same_counted g.F.Shelf g.F.D.Disk old mid new read.disks read.counts failed files marks) c.as_slice-users.ensures.value
+                (ran.ends told links_told));
           },
         );
         looks = λ told. ran.looked ∙ read.both told;
@@ -365,8 +369,9 @@ returns g c = record {
         inputs.world,
         header_bytes inputs.header,
         read.read told,
-        calls_from inputs.header c.args.standby.now files.directory (policy_value_of inputs.policy) c.as_slice.result.now
-            (ap (map policy_user_of) c.as_slice.ensures.value) scene.links inputs.world marks (λ name. bytes_on g.F.D.Disk.reads (g.F.Shelf.disk new name)) _ _
+        calls_from inputs.header c.args.standby.now files.directory (policy_value_of inputs.policy) c.as_slice-users.result.now
+            (ap (map policy_user_of) c.as_slice-users.ensures.value) scene.links inputs.world marks
+            (λ name. bytes_on g.F.D.Disk.reads (g.F.Shelf.disk new name)) _ _
             _
             (g.L.Links.exchanged links) (ran.lie told)
             (ran.made ∙ c.in-Ok-mirrors_for.ensures.made) (ran.exchanged links_told ∙ made.calls.exchanged links_told) (hung.exchanged links_told)

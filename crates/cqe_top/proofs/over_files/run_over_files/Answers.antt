@@ -34,17 +34,20 @@ use Rattle.cqe_top.specs.Files.{change_on}
 
 pub run_batch-end-requires-clause-names : goal.run_batch-end-requires-clause-names
 run_batch-end-requires-clause-names g c κs within =
-    ap has_duplicate (ap (λ users. map (λ user. user.name) (map named_user users)) c.as_slice.ensures.value ∙ batch_names_are c.in-Ok.inputs.policy.users.items)
+    ap has_duplicate
+    (ap (λ users. map (λ user. user.name) (map named_user users)) c.as_slice-users.ensures.value ∙ batch_names_are c.in-Ok.inputs.policy.users.items)
     ∙ c.in-Ok.ensures.names
 
 pub run_serve-end-requires-clause-names : goal.run_serve-end-requires-clause-names
 run_serve-end-requires-clause-names g c κs within =
-    ap has_duplicate (ap (λ users. map (λ user. user.name) (map named_user users)) c.as_slice.ensures.value ∙ batch_names_are c.in-Ok.inputs.policy.users.items)
+    ap has_duplicate
+    (ap (λ users. map (λ user. user.name) (map named_user users)) c.as_slice-users.ensures.value ∙ batch_names_are c.in-Ok.inputs.policy.users.items)
     ∙ c.in-Ok.ensures.names
 
 pub run_standby-end-requires-clause-names : goal.run_standby-end-requires-clause-names
 run_standby-end-requires-clause-names g c κs within =
-    ap has_duplicate (ap (λ users. map (λ user. user.name) (map named_user users)) c.as_slice.ensures.value ∙ batch_names_are c.in-Ok.inputs.policy.users.items)
+    ap has_duplicate
+    (ap (λ users. map (λ user. user.name) (map named_user users)) c.as_slice-users.ensures.value ∙ batch_names_are c.in-Ok.inputs.policy.users.items)
     ∙ c.in-Ok.ensures.names
 
 -- ---- files that weren't read
@@ -79,7 +82,7 @@ returns-in-Init-clause-cause g c =
     let inputs = c.in-Ok.inputs in
     let made = init_over g.F.Shelf g.F.D.Disk c.args.shelf.now c.read_files.new.shelf c.run_init-end.new.shelf read.disks read.counts files
     (header_bytes inputs.header)
-    inputs.policy c.as_slice.result.now c.run_init-end.result c.as_slice.ensures.value read.later ran.ends in
+    inputs.policy c.as_slice-users.result.now c.run_init-end.result c.as_slice-users.ensures.value read.later ran.ends in
     let caused = init_caused g.F.Shelf.tells g.F.D.Disk (header_bytes inputs.header) files.directory
     (names_of (map policy_user_of inputs.policy.users.items))
     (change_on scene.shelf) c.run_init-end.result made in
@@ -96,7 +99,7 @@ returns-in-Init-clause-command g c =
     let inputs = c.in-Ok.inputs in
     let made = init_over g.F.Shelf g.F.D.Disk c.args.shelf.now c.read_files.new.shelf c.run_init-end.new.shelf read.disks read.counts files
     (header_bytes inputs.header)
-    inputs.policy c.as_slice.result.now c.run_init-end.result c.as_slice.ensures.value read.later ran.ends in
+    inputs.policy c.as_slice-users.result.now c.run_init-end.result c.as_slice-users.ensures.value read.later ran.ends in
     let runs : RunsInit scene.shelf files inputs.policy.users c.run_init-end.result = record {
       over_files = λ told. (
         policy_value_of inputs.policy,
@@ -107,13 +110,13 @@ returns-in-Init-clause-command g c =
           of_policy = refl;
           makes = made;
           counts = counts_over g.F.Shelf g.F.D.Disk c.args.shelf.now c.read_files.new.shelf c.run_init-end.new.shelf read.disks read.counts files
-              inputs.policy c.as_slice.result.now c.as_slice.ensures.value ran.other_counts;
+              inputs.policy c.as_slice-users.result.now c.as_slice-users.ensures.value ran.other_counts;
         },
       );
       looks = λ told. ran.looked ∙ read.both told;
       within =
-          one_of g.F.Shelf.tells g.F.D.Disk (header_bytes inputs.header) files.directory c.as_slice.result.now inputs.policy.users.items
-          _ c.run_init-end.result c.as_slice.ensures.value ran.ends;
+          one_of g.F.Shelf.tells g.F.D.Disk (header_bytes inputs.header) files.directory c.as_slice-users.result.now inputs.policy.users.items
+          _ c.run_init-end.result c.as_slice-users.ensures.value ran.ends;
     } in
     let does : OfInit scene files (ends.Init inputs.policy.users c.run_init-end.result) = record {
       ends = runs;
@@ -157,16 +160,17 @@ returns-in-Batch-clause-command g c =
         record {
           of_policy = refl;
           touches = touches_over g.F.Shelf g.F.D.Disk c.args.shelf.now c.read_files.new.shelf c.run_batch-end.new.shelf read.disks read.counts files
-              inputs.policy c.as_slice.result.now
-              c.as_slice.ensures.value ran.disks ran.other_counts;
-          journals = batch_left inputs.policy inputs.world (header_bytes inputs.header) c.as_slice.result.now _ _ c.run_batch-end.result
+              inputs.policy c.as_slice-users.result.now
+              c.as_slice-users.ensures.value ran.disks ran.other_counts;
+          journals = batch_left inputs.policy inputs.world (header_bytes inputs.header) c.as_slice-users.result.now _ _ c.run_batch-end.result
               (same_journals g.F.Shelf g.F.D.Disk c.args.shelf.now c.read_files.new.shelf c.run_batch-end.new.shelf read.disks read.counts files)
-              c.as_slice.ensures.value
+              c.as_slice-users.ensures.value
               (ran.journals told);
           answers =
-              λ in_told out_told. batch_over inputs.policy inputs.world (header_bytes inputs.header) c.as_slice.result.now _ _ c.run_batch-end.result _ _ _ _
+              λ in_told out_told. batch_over inputs.policy inputs.world (header_bytes inputs.header) c.as_slice-users.result.now _ _ c.run_batch-end.result
+              _ _ _ _
               (same_journals g.F.Shelf g.F.D.Disk c.args.shelf.now c.read_files.new.shelf c.run_batch-end.new.shelf read.disks read.counts files)
-              c.as_slice.ensures.value
+              c.as_slice-users.ensures.value
               (ran.ends told in_told out_told);
         },
       );
@@ -201,7 +205,7 @@ returns-in-Migrate-clause-cause g c =
     let to = c.in-Migrate.to.now in
     let moved = migrate_over g.F.Shelf g.F.D.Disk c.args.shelf.now c.read_files.new.shelf c.run_migrate-end.new.shelf read.disks read.counts files
     (header_bytes inputs.header)
-    to inputs.policy c.as_slice.result.now c.run_migrate-end.result c.as_slice.ensures.value read.later ran.ends in
+    to inputs.policy c.as_slice-users.result.now c.run_migrate-end.result c.as_slice-users.ensures.value read.later ran.ends in
     let caused = migrate_caused g.F.Shelf.tells g.F.D.Disk (header_bytes inputs.header) files.directory to
     (names_of (map policy_user_of inputs.policy.users.items))
     (change_on scene.shelf) c.run_migrate-end.result moved in
@@ -219,7 +223,7 @@ returns-in-Migrate-clause-command g c =
     let to = c.in-Migrate.to.now in
     let moved = migrate_over g.F.Shelf g.F.D.Disk c.args.shelf.now c.read_files.new.shelf c.run_migrate-end.new.shelf read.disks read.counts files
     (header_bytes inputs.header)
-    to inputs.policy c.as_slice.result.now c.run_migrate-end.result c.as_slice.ensures.value read.later ran.ends in
+    to inputs.policy c.as_slice-users.result.now c.run_migrate-end.result c.as_slice-users.ensures.value read.later ran.ends in
     let runs : RunsMigrate scene.shelf files to inputs.policy.users c.run_migrate-end.result = record {
       over_files = λ told. (
         policy_value_of inputs.policy,
@@ -230,13 +234,13 @@ returns-in-Migrate-clause-command g c =
           of_policy = refl;
           moves = moved;
           counts = counts_both g.F.Shelf g.F.D.Disk c.args.shelf.now c.read_files.new.shelf c.run_migrate-end.new.shelf read.disks read.counts files
-              to inputs.policy c.as_slice.result.now c.as_slice.ensures.value ran.other_counts;
+              to inputs.policy c.as_slice-users.result.now c.as_slice-users.ensures.value ran.other_counts;
         },
       );
       looks = λ told. ran.looked ∙ read.both told;
       within =
-          at_one_of g.F.Shelf.tells g.F.D.Disk (header_bytes inputs.header) files.directory to c.as_slice.result.now inputs.policy.users.items
-          _ c.run_migrate-end.result c.as_slice.ensures.value ran.ends;
+          at_one_of g.F.Shelf.tells g.F.D.Disk (header_bytes inputs.header) files.directory to c.as_slice-users.result.now inputs.policy.users.items
+          _ c.run_migrate-end.result c.as_slice-users.ensures.value ran.ends;
     } in
     let does : OfMigrate scene files to (ends.Migrate inputs.policy.users c.run_migrate-end.result) = record {
       ends = runs;
@@ -282,15 +286,16 @@ returns-in-Serve-clause-command g c =
         record {
           of_policy = refl;
           touches = touches_over g.F.Shelf g.F.D.Disk c.args.shelf.now c.read_files.new.shelf c.run_serve-end.new.shelf read.disks read.counts files
-              inputs.policy c.as_slice.result.now
-              c.as_slice.ensures.value ran.disks ran.other_counts;
-          journals = serve_left inputs.policy inputs.world (header_bytes inputs.header) c.as_slice.result.now _ _ c.run_serve-end.result
+              inputs.policy c.as_slice-users.result.now
+              c.as_slice-users.ensures.value ran.disks ran.other_counts;
+          journals = serve_left inputs.policy inputs.world (header_bytes inputs.header) c.as_slice-users.result.now _ _ c.run_serve-end.result
               (same_journals g.F.Shelf g.F.D.Disk c.args.shelf.now c.read_files.new.shelf c.run_serve-end.new.shelf read.disks read.counts files)
-              c.as_slice.ensures.value
+              c.as_slice-users.ensures.value
               (ran.journals told);
-          serves = λ links_told. serve_over inputs.policy inputs.world (header_bytes inputs.header) c.as_slice.result.now _ _ c.run_serve-end.result _ _ _ _
+          serves = λ links_told. serve_over inputs.policy inputs.world (header_bytes inputs.header) c.as_slice-users.result.now _ _ c.run_serve-end.result
+              _ _ _ _
               (same_journals g.F.Shelf g.F.D.Disk c.args.shelf.now c.read_files.new.shelf c.run_serve-end.new.shelf read.disks read.counts files)
-              c.as_slice.ensures.value
+              c.as_slice-users.ensures.value
               (ran.ends told links_told);
         },
       );
@@ -351,20 +356,20 @@ returns-clause-command g c =
         record {
           of_policy = refl;
           touches = touches_over g.F.Shelf g.F.D.Disk c.args.shelf.now c.read_files.new.shelf c.run_standby-end.new.shelf read.disks read.counts files
-              inputs.policy c.as_slice.result.now
-              c.as_slice.ensures.value ran.disks ran.other_counts;
-          journals = copies_left inputs.policy (header_bytes inputs.header) c.as_slice.result.now _ _ c.run_standby-end.result
+              inputs.policy c.as_slice-users.result.now
+              c.as_slice-users.ensures.value ran.disks ran.other_counts;
+          journals = copies_left inputs.policy (header_bytes inputs.header) c.as_slice-users.result.now _ _ c.run_standby-end.result
               (same_journals g.F.Shelf g.F.D.Disk c.args.shelf.now c.read_files.new.shelf c.run_standby-end.new.shelf read.disks read.counts files)
-              c.as_slice.ensures.value
+              c.as_slice-users.ensures.value
               (ran.journals told);
           serves = λ links_told. (
             inputs.header,
             refl,
-            copies_served inputs.policy inputs.header c.as_slice.result.now _ _ (g.L.Links.given c.args.links.now)
+            copies_served inputs.policy inputs.header c.as_slice-users.result.now _ _ (g.L.Links.given c.args.links.now)
                 (g.L.Links.given c.run_standby-end.new.links) (g.L.Links.back c.args.links.now) (g.L.Links.back c.run_standby-end.new.links)
                 c.run_standby-end.result
                 (same_journals g.F.Shelf g.F.D.Disk c.args.shelf.now c.read_files.new.shelf c.run_standby-end.new.shelf read.disks read.counts files)
-                c.as_slice.ensures.value (ran.serves told links_told),
+                c.as_slice-users.ensures.value (ran.serves told links_told),
           );
         },
       );
