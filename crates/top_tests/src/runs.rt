@@ -17,6 +17,7 @@ mod batch;
 mod case;
 mod dossiers;
 mod failing;
+mod failing_calls;
 mod failing_files;
 mod failing_moves;
 mod failing_servers;
@@ -80,28 +81,6 @@ impl Stage {
         self.complaints = complaints;
     }
 
-    /// Calls the program with these words.
-    fn call(
-        &mut self,
-        rt: &(impl Threads + Wait + Sync),
-        alloc: Global,
-        words: &[String],
-        gate: &(impl Gate + Sync),
-    ) {
-        let status = status_of(
-            rt,
-            alloc,
-            words,
-            &mut self.shelf,
-            &mut self.source,
-            &mut self.sink,
-            &mut self.complaints,
-            &mut self.links,
-            gate,
-        );
-        self.status = status;
-    }
-
     /// The program with these words, where each ask passes this gate.
     fn run_gated(
         &mut self,
@@ -111,7 +90,18 @@ impl Stage {
         gate: &(impl Gate + Sync),
     ) -> Result<(), AllocError> {
         let texts = texts_of(alloc, words)?;
-        self.call(rt, alloc, &texts, gate);
+        let status = status_of(
+            rt,
+            alloc,
+            &texts,
+            &mut self.shelf,
+            &mut self.source,
+            &mut self.sink,
+            &mut self.complaints,
+            &mut self.links,
+            gate,
+        );
+        self.status = status;
         Ok(())
     }
 
@@ -184,7 +174,22 @@ impl Stage {
     fn check(&self, rt: &impl Abort, status: u8, output: &str, complaint: &str, what: &str) {
         same(rt, self.complaints.bytes(), complaint.as_bytes(), what);
         same(rt, self.sink.bytes(), output.as_bytes(), what);
-        assert_eq!(rt; self.status, status, "{what}");
+        counted(rt, self.status as usize, status as usize, what);
+    }
+
+    /// The status with which the last run ended.
+    fn check_status(&self, rt: &impl Abort, status: u8) {
+        counted(rt, self.status as usize, status as usize, "the status");
+    }
+
+    /// So many clients are left.
+    fn check_left(&self, rt: &impl Abort, count: usize) {
+        counted(rt, self.links.left(), count, "clients that are left");
+    }
+
+    /// There is no disk of this name.
+    fn check_no_disk(&self, rt: &impl Abort, name: &str) {
+        holds(rt, !self.has_disk(name), name);
     }
 
     /// A disk reads these bytes, where this call failed.
@@ -230,6 +235,21 @@ fn texts_of(alloc: Global, words: &[&str]) -> Result<Vec<String>, AllocError> {
 // These bytes are the same.
 fn same(rt: &impl Abort, found: &[u8], wanted: &[u8], what: &str) {
     assert_eq!(rt; found, wanted, "{what}");
+}
+
+// This holds.
+fn holds(rt: &impl Abort, is_so: bool, what: &str) {
+    assert!(rt; is_so, "{what}");
+}
+
+// As many were found as are wanted.
+fn counted(rt: &impl Abort, found: usize, wanted: usize, what: &str) {
+    assert_eq!(rt; found, wanted, "{what}");
+}
+
+// The same, where this call failed.
+fn counted_at(rt: &impl Abort, found: usize, wanted: usize, what: &str, call: u64) {
+    assert_eq!(rt; found, wanted, "{what}, call {call}");
 }
 
 // A source of this text that never fails.

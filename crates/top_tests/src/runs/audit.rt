@@ -1,6 +1,6 @@
 //! Audits that are cut, and the worlds that they print.
-use super::Stage;
 use super::ward::{AUDIT, FACTS, batch, init, stage_of, ward};
+use super::{Stage, counted};
 use outside::{MemorySink, Pieces, Plan};
 use std::alloc::{AllocError, Global};
 use std::process::Abort;
@@ -220,7 +220,7 @@ fn check_worlds(
     stage.run(rt, alloc, &words, "not read")?;
     let wanted = lines_of(alloc, REPLIES, user)?;
     let worlds = same_worlds(rt, alloc, text_of(stage), user, wanted.as_str())?;
-    assert_eq!(rt; worlds, secrets, "{user}");
+    counted(rt, worlds as usize, secrets as usize, user);
     Ok(())
 }
 

@@ -1,3 +1,5 @@
+//! Runs of `init` and `batch` without journals, over a shelf that fails, and one of `batch` whose
+//! output fails.
 use super::failing_at;
 use super::ward::{BATCH, INIT, files_by, ward};
 use outside::{MemorySink, Pieces, Plan};

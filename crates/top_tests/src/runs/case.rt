@@ -1,5 +1,6 @@
+//! Runs of `case` in each of which one call of the source, the output or the complaints fails.
 use super::failing::CALLS;
-use super::{Stage, failing_sink, failing_source, front};
+use super::{Stage, failing_sink, failing_source, front, holds};
 use outside::{MemorySink, Pieces, Plan};
 use std::alloc::{AllocError, Global};
 use std::process::Abort;
@@ -50,7 +51,7 @@ fn a_read_fails(
     } else {
         stage.check(rt, 6, "", "cqe: read fault\n", "a read failed");
     }
-    assert!(rt; call > 0 || stage.status == 6);
+    holds(rt, call > 0 || stage.status == 6, "the first read fails");
     Ok(())
 }
 

@@ -1,10 +1,9 @@
 //! Runs of `dossier` and `check` in each of which one call of one object fails, the dossiers of a
 //! workload, and one that is too long.
 use super::failing::CALLS;
-use super::ward::{
-    BATCH, JOURNALS, check_empty, check_told, init, stage_of, told, ward_by, ward_with,
-};
-use super::{Stage, failing_at, failing_sink, failing_source, front};
+use super::failing_calls::{a_disk_fails, a_shelf_fails, a_write_fails};
+use super::ward::{BATCH, init, stage_of, ward_by};
+use super::{Stage, counted, failing_source};
 use outside::{MemorySource, Plan};
 use std::alloc::{AllocError, Global};
 use std::process::Abort;
@@ -13,6 +12,7 @@ use std::test::Fail;
 use std::thread::Threads;
 use workload::make;
 
+/// The words of eve's `dossier`; the last one is the user.
 pub(super) const DOSSIER: [&str; 9] = [
     "dossier",
     "--policy",
@@ -25,6 +25,7 @@ pub(super) const DOSSIER: [&str; 9] = [
     "eve",
 ];
 
+/// The words of eve's `check`, of which her dossier is the input; the last one is the user.
 pub(super) const CHECK: [&str; 7] = ["check", "--policy", "p", "--facts", "f", "--user", "eve"];
 
 // The dossier of eve before she asks, and behind an ask that was told no, worked out by hand.
@@ -38,89 +39,30 @@ const TOLD: &str =
 fn a_shelf_that_fails_shows_nothing(rt: HostRuntime) -> Result<(), Fail> {
     let alloc = rt.alloc();
     for call in 0..CALLS {
-        a_shelf_fails(&rt, alloc, &DOSSIER, call, 3, EMPTY)?;
-        a_shelf_fails(&rt, alloc, &CHECK, call, 2, "sound 0\n")?;
+        a_shelf_fails(&rt, alloc, &DOSSIER, call, 3, EMPTY, EMPTY)?;
+        a_shelf_fails(&rt, alloc, &CHECK, call, 2, EMPTY, "sound 0\n")?;
     }
     Ok(())
 }
 
-// So many calls are made of the shelf.
-fn a_shelf_fails(
-    rt: &(impl Threads + Wait + Sync + Abort),
-    alloc: Global,
-    words: &[&str],
-    call: u64,
-    calls: u64,
-    output: &str,
-) -> Result<(), AllocError> {
-    let mut stage = ward_by(alloc, failing_at(alloc, call)?)?;
-    stage.run(rt, alloc, words, EMPTY)?;
-    if call < calls {
-        let what = "a shelf that fails";
-        stage.check(rt, 9, "", "cqe: shelf fault\n", what);
-        super::same(rt, stage.source.left(), EMPTY.as_bytes(), what);
-    } else {
-        stage.check(rt, 0, output, "", "a shelf that doesn't fail");
-    }
-    check_empty(rt, alloc, &stage, &JOURNALS, call)
-}
-
-// The calls of eve's disk are those of an opening with one record.
 #[test]
 fn a_dossier_of_a_disk_that_fails_says_so(rt: HostRuntime) -> Result<(), Fail> {
     let alloc = rt.alloc();
+    let sealed = "dossier 1 eve lying sealed\n";
     for call in 0..CALLS {
-        a_disk_fails(&rt, alloc, call)?;
+        a_disk_fails(&rt, alloc, &DOSSIER, call, sealed, TOLD)?;
     }
     Ok(())
 }
 
-fn a_disk_fails(
-    rt: &(impl Threads + Wait + Sync + Abort),
-    alloc: Global,
-    call: u64,
-) -> Result<(), AllocError> {
-    let plan = failing_at(alloc, call)?;
-    let mut stage = ward_with(alloc, "d/eve.log", told(alloc, 1)?, plan)?;
-    stage.run(rt, alloc, &DOSSIER, "")?;
-    if call < 5 {
-        let complaint = "cqe: journal eve disk fault\n";
-        let output = "dossier 1 eve lying sealed\n";
-        stage.check(rt, 10, output, complaint, "a disk that fails");
-    } else {
-        stage.check(rt, 0, TOLD, "", "a disk that doesn't fail");
-    }
-    check_told(rt, alloc, &stage, "d/eve.log", 1, call)
-}
-
-// Each byte is written by a call of its own.
 #[test]
 fn a_beginning_of_a_dossier_is_written(rt: HostRuntime) -> Result<(), Fail> {
     let alloc = rt.alloc();
     for call in 0..CALLS {
-        a_write_fails(&rt, alloc, &DOSSIER, call, EMPTY)?;
-        a_write_fails(&rt, alloc, &CHECK, call, "sound 0\n")?;
+        a_write_fails(&rt, alloc, &DOSSIER, call, EMPTY, EMPTY)?;
+        a_write_fails(&rt, alloc, &CHECK, call, EMPTY, "sound 0\n")?;
     }
     Ok(())
-}
-
-fn a_write_fails(
-    rt: &(impl Threads + Wait + Sync + Abort),
-    alloc: Global,
-    words: &[&str],
-    call: u64,
-    whole: &str,
-) -> Result<(), AllocError> {
-    let sink = failing_sink(alloc, call)?;
-    let mut stage = ward_by(alloc, Plan::Never)?;
-    stage.run_into(rt, alloc, words, EMPTY, sink)?;
-    if (call as usize) < whole.len() {
-        let part = front(whole, call);
-        stage.check(rt, 7, part, "cqe: write fault\n", "a write failed");
-    } else {
-        stage.check(rt, 0, whole, "", "no write failed");
-    }
-    check_empty(rt, alloc, &stage, &JOURNALS, call)
 }
 
 // The text comes in pieces of two bytes. Where one of the reads fails nothing is said of it.
@@ -170,7 +112,7 @@ fn a_long_text(
     let mut stage = ward_by(alloc, Plan::Never)?;
     stage.run_from(rt, alloc, &CHECK, source)?;
     stage.check(rt, 14, "", complaint, "a long text");
-    assert_eq!(rt; stage.source.left().len(), left);
+    counted(rt, stage.source.left().len(), left, "bytes that are left");
     Ok(())
 }
 
@@ -202,7 +144,7 @@ fn asked(rt: &(impl Threads + Wait + Sync + Abort), alloc: Global) -> Result<Sta
     init(rt, alloc, &mut stage)?;
     let source = MemorySource::new(made.script.clone()?);
     stage.run_from(rt, alloc, &BATCH, source)?;
-    assert_eq!(rt; stage.status, 0);
+    stage.check_status(rt, 0);
     Ok(stage)
 }
 
@@ -216,7 +158,7 @@ fn shown_of(
     let mut words = DOSSIER;
     words[8] = user;
     stage.run(rt, alloc, &words, "")?;
-    assert_eq!(rt; stage.status, 0);
+    stage.check_status(rt, 0);
     stage.sink.bytes().to_vec(alloc)
 }
 

@@ -1,11 +1,11 @@
 //! Runs of `batch` in each of which one call of one object fails: of the source, the output or a
 //! disk. What was told and what the journals read as was worked out by hand. `failing_files` has
 //! `init` and `audit`, `failing_moves` those of `migrate`, `failing_servers` those of `serve`, and
-//! `dossier` those of `dossier` and `check`.
+//! `dossiers` those of `dossier` and `check`; the first and the last share `failing_calls`.
 use super::ward::{
     BATCH, batch, check_empty, check_told, check_told_first, journal, ward_by, ward_with,
 };
-use super::{Stage, failing_at, failing_sink, failing_source, front};
+use super::{Stage, counted, failing_at, failing_sink, failing_source, front, holds};
 use outside::Plan;
 use std::alloc::{AllocError, Global};
 use std::process::Abort;
@@ -81,14 +81,13 @@ fn a_read_fails(
     let mut stage = ward_by(alloc, Plan::Never)?;
     stage.run_from(rt, alloc, &BATCH, source)?;
     if stage.source.faults() == 0 {
-        // the 58 bytes take 20 reads
-        assert!(rt; call >= 20);
+        holds(rt, call >= 20, "the 58 bytes take 20 reads");
         let replies = "eve 1 no\neve 1 no\nkim 1 no\n";
         stage.check(rt, 0, replies, "", "no read failed");
     } else {
         stage.check(rt, 6, "", "cqe: read fault\n", "a read failed");
-        assert_eq!(rt; calls_of(&stage, "d/eve.log"), 0);
-        assert_eq!(rt; calls_of(&stage, "d/kim.log"), 0);
+        counted(rt, calls_of(&stage, "d/eve.log"), 0, "calls of eve's disk");
+        counted(rt, calls_of(&stage, "d/kim.log"), 0, "calls of kim's disk");
     }
     Ok(())
 }
@@ -160,7 +159,7 @@ fn a_stretch_fails(
     check_told(rt, alloc, &stage, "d/eve.log", asked, call)
 }
 
-// A ward where this call of eve's disk fails.
+/// A ward with empty journals, of which eve's disk fails at this call; its first call is 0.
 pub(super) fn ward_failing(alloc: Global, call: u64) -> Result<Stage, AllocError> {
     let plan = failing_at(alloc, call)?;
     ward_with(alloc, "d/eve.log", journal(alloc, &[0])?, plan)

@@ -2,10 +2,9 @@
 //! over files where the complaints fail.
 use super::dossiers::{CHECK, DOSSIER};
 use super::failing::CALLS;
+use super::failing_calls::{a_disk_fails, a_shelf_fails, a_write_fails};
 use super::serve::SERVE;
-use super::ward::{
-    AUDIT, BATCH, INIT, JOURNALS, check_empty, check_told, files_by, init, told, ward_by, ward_with,
-};
+use super::ward::{AUDIT, BATCH, INIT, JOURNALS, check_empty, check_told, files_by, init, told};
 use super::{Stage, failing_at, failing_sink, front};
 use outside::Plan;
 use std::alloc::{AllocError, Global};
@@ -38,6 +37,9 @@ const STANDBY: [&str; 9] = [
     "127.0.0.1:9",
 ];
 
+// Eve's audit before she asks, worked out by hand.
+const AUDITED: &str = "user eve lying open\nsecret hiv(ann) world -\n";
+
 // A shelf with the ward's files, and a disk with these bytes of which this call fails.
 fn files_with(alloc: Global, name: &str, bytes: Vec<u8>, call: u64) -> Result<Stage, AllocError> {
     let plan = failing_at(alloc, call)?;
@@ -66,8 +68,8 @@ fn a_journal_is_made_by_the_next_init(rt: HostRuntime) -> Result<(), Fail> {
 fn check_made(rt: &impl Abort, alloc: Global, stage: &Stage, call: u64) -> Result<(), AllocError> {
     if call < 4 {
         stage.check(rt, 11, "", "cqe: disk fault\n", "kim's disk");
-        assert!(rt; !stage.has_disk("d/lou.log"));
-        assert!(rt; !stage.has_disk("d/tom.log"));
+        stage.check_no_disk(rt, "d/lou.log");
+        stage.check_no_disk(rt, "d/tom.log");
     } else {
         stage.check(rt, 0, "", "", "no call failed");
     }
@@ -110,7 +112,9 @@ fn check_kept(rt: &impl Abort, stage: &Stage, call: u64) {
         _ => (0, ""),
     };
     stage.check(rt, status, "", complaint, complaint);
-    assert!(rt; call >= 6 || !stage.has_disk("d/ron.log"));
+    if call < 6 {
+        stage.check_no_disk(rt, "d/ron.log");
+    }
 }
 
 // The calls of the shelf are the reading of both files, and the taking of each disk. What wasn't
@@ -118,86 +122,32 @@ fn check_kept(rt: &impl Abort, stage: &Stage, call: u64) {
 #[test]
 fn a_shelf_that_fails_keeps_the_journals(rt: HostRuntime) -> Result<(), Fail> {
     let alloc = rt.alloc();
-    let audit = "user eve lying open\nsecret hiv(ann) world -\n";
     for call in 0..CALLS {
-        a_shelf_fails(&rt, alloc, &INIT, call, 8, "")?;
-        a_shelf_fails(&rt, alloc, &BATCH, call, 8, "")?;
-        a_shelf_fails(&rt, alloc, &AUDIT, call, 3, audit)?;
+        a_shelf_fails(&rt, alloc, &INIT, call, 8, "", "")?;
+        a_shelf_fails(&rt, alloc, &BATCH, call, 8, "", "")?;
+        a_shelf_fails(&rt, alloc, &AUDIT, call, 3, "", AUDITED)?;
     }
     Ok(())
 }
 
-// So many calls are made of the shelf.
-fn a_shelf_fails(
-    rt: &(impl Threads + Wait + Sync + Abort),
-    alloc: Global,
-    words: &[&str],
-    call: u64,
-    calls: u64,
-    output: &str,
-) -> Result<(), AllocError> {
-    let mut stage = ward_by(alloc, failing_at(alloc, call)?)?;
-    stage.run(rt, alloc, words, "")?;
-    if call < calls {
-        stage.check(rt, 9, "", "cqe: shelf fault\n", "a shelf that fails");
-    } else {
-        stage.check(rt, 0, output, "", "a shelf that doesn't fail");
-    }
-    check_empty(rt, alloc, &stage, &JOURNALS, call)
-}
-
-// The calls of eve's disk at an audit are a sync, the length, and the reads of the header, of her
-// record and of the closed gate.
 #[test]
 fn an_audit_of_a_disk_that_fails_says_so(rt: HostRuntime) -> Result<(), Fail> {
     let alloc = rt.alloc();
+    let sealed = "user eve lying sealed\n";
+    let whole = "user eve lying open\n1 no drug(ann)\nsecret hiv(ann) world -\n";
     for call in 0..CALLS {
-        a_disk_fails(&rt, alloc, call)?;
+        a_disk_fails(&rt, alloc, &AUDIT, call, sealed, whole)?;
     }
     Ok(())
 }
 
-fn a_disk_fails(
-    rt: &(impl Threads + Wait + Sync + Abort),
-    alloc: Global,
-    call: u64,
-) -> Result<(), AllocError> {
-    let plan = failing_at(alloc, call)?;
-    let mut stage = ward_with(alloc, "d/eve.log", told(alloc, 1)?, plan)?;
-    stage.run(rt, alloc, &AUDIT, "")?;
-    if call < 5 {
-        let complaint = "cqe: journal eve disk fault\n";
-        let output = "user eve lying sealed\n";
-        stage.check(rt, 10, output, complaint, "a disk that fails");
-    } else {
-        let audit = "user eve lying open\n1 no drug(ann)\nsecret hiv(ann) world -\n";
-        stage.check(rt, 0, audit, "", "a disk that doesn't fail");
-    }
-    check_told(rt, alloc, &stage, "d/eve.log", 1, call)
-}
-
-// Each byte is written by a call of its own.
 #[test]
 fn a_beginning_of_an_audit_is_written(rt: HostRuntime) -> Result<(), Fail> {
     let alloc = rt.alloc();
     for call in 0..CALLS {
-        a_write_fails(&rt, alloc, call)?;
+        a_write_fails(&rt, alloc, &AUDIT, call, "", AUDITED)?;
     }
     Ok(())
-}
-
-fn a_write_fails(
-    rt: &(impl Threads + Wait + Sync + Abort),
-    alloc: Global,
-    call: u64,
-) -> Result<(), AllocError> {
-    let whole = "user eve lying open\nsecret hiv(ann) world -\n";
-    let sink = failing_sink(alloc, call)?;
-    let mut stage = ward_by(alloc, Plan::Never)?;
-    stage.run_into(rt, alloc, &AUDIT, "", sink)?;
-    let part = front(whole, call);
-    stage.check(rt, 7, part, "cqe: write fault\n", "a write failed");
-    check_empty(rt, alloc, &stage, &JOURNALS, call)
 }
 
 // There is no file. Of the complaint a beginning is told, and the status is the same.

@@ -96,7 +96,7 @@ fn a_new_disk_fails(
     migrate(rt, alloc, stage, "e")?;
     stage.check(rt, 11, "", "cqe: disk fault\n", "a new disk fails");
     check_old(rt, alloc, stage, 15, call)?;
-    assert!(rt; !stage.has_disk("e/ron.log"));
+    stage.check_no_disk(rt, "e/ron.log");
     Ok(())
 }
 
@@ -136,7 +136,7 @@ fn an_old_disk_fails(
     let complaint = "cqe: journal eve disk fault\n";
     stage.check(rt, 10, "", complaint, "an old disk fails");
     check_old(rt, alloc, &stage, 36, call)?;
-    assert!(rt; !stage.has_disk("e/eve.log"));
+    stage.check_no_disk(rt, "e/eve.log");
     Ok(())
 }
 
@@ -159,7 +159,7 @@ fn a_shelf_fails(
     migrate(rt, alloc, &mut stage, "e")?;
     if call < 14 {
         stage.check(rt, 9, "", "cqe: shelf fault\n", "a shelf that fails");
-        assert!(rt; !stage.has_disk("e/tom.log"));
+        stage.check_no_disk(rt, "e/tom.log");
     } else {
         stage.check(rt, 0, "", "", "a shelf that doesn't fail");
         check_told(rt, alloc, &stage, "e/eve.log", 1, call)?;

@@ -3,7 +3,7 @@
 use super::failing::{CALLS, OPENING, lines, marks_before, records_at, ward_failing};
 use super::serve::{CLIENTS, check_served, door_links, links_of, one_client, serve, served};
 use super::ward::{JOURNALS, check_empty, check_told, check_told_first, journal, ward_by};
-use super::{Stage, failing_at, front};
+use super::{Stage, counted_at, failing_at, front};
 use outside::{Connection, MemorySink, MemorySource, Pieces, Plan};
 use std::alloc::{AllocError, Global};
 use std::process::Abort;
@@ -66,8 +66,9 @@ fn check_clients(
     call: u64,
 ) -> Result<(), AllocError> {
     let given = (call as usize).min(5);
-    assert_eq!(rt; served(rt, stage, &CLIENTS), given, "call {call}");
-    assert_eq!(rt; stage.links.left().saturating_add(given), 5, "call {call}");
+    counted_at(rt, served(rt, stage, &CLIENTS), given, "served", call);
+    let all = stage.links.left().saturating_add(given);
+    counted_at(rt, all, 5, "served or left", call);
     let kept = after_clients(alloc, given)?;
     stage.check_disk(rt, "d/eve.log", &kept, call);
     Ok(())
@@ -212,10 +213,10 @@ fn a_shelf_fails(
     serve(rt, alloc, &["--workers=1"], &mut stage)?;
     if call < 8 {
         stage.check(rt, 9, "", "cqe: shelf fault\n", "a shelf that fails");
-        assert_eq!(rt; stage.links.left(), 1);
+        stage.check_left(rt, 1);
     } else {
         stage.check(rt, 0, "", "", "a shelf that doesn't fail");
-        assert_eq!(rt; stage.links.left(), 0);
+        stage.check_left(rt, 0);
     }
     check_empty(rt, alloc, &stage, &JOURNALS, call)
 }

@@ -1,5 +1,5 @@
 //! Journals over lives: disks that fail, and what a crash leaves.
-use super::ward::{batch, files_by, init, journal, ward, ward_of_eve, ward_with};
+use super::ward::{batch, files_by, init, journal, ward, ward_of_eve};
 use super::{Fails, Stage, failing_at};
 use outside::Plan;
 use std::alloc::{AllocError, Global};
@@ -22,7 +22,7 @@ fn init_stops_at_the_first_disk_that_fails(rt: HostRuntime) -> Result<(), Fail> 
         )?;
         init(&rt, alloc, &mut stage)?;
         stage.check(&rt, 11, "", "cqe: disk fault\n", "kim's disk");
-        assert!(rt; !stage.has_disk("d/lou.log"));
+        stage.check_no_disk(&rt, "d/lou.log");
     }
     Ok(())
 }
@@ -113,242 +113,250 @@ fn check_found(rt: &impl Abort, found: bool, from: u64, until: u64, stop: u64, p
     );
 }
 
-// A stop at each call of two asks: the disk fails every call from that one on. Each of its crash
-// images begins a new life, which finds the entries whose gates stand open.
+// A run that writes two records into a user's journal, of which a stop of his disk leaves none, the
+// first or both; and a new life, whose reply and whose own record show which of them it found.
+struct Trial {
+    disk: &'static str,
+    /// The script of the run.
+    script: &'static str,
+    /// The status, the output and the complaint where the disk stops at the opening, at the first
+    /// record, at the second, and behind both.
+    ends: [(u8, &'static str, &'static str); 4],
+    /// The place of the second record's gate in an image. The first record's is 72.
+    second: usize,
+    /// The script of the new life.
+    ask: &'static str,
+    /// What the new life is told, and what its journal then has behind the header, where it found
+    /// no record, the first, and both.
+    lives: [(&'static str, &'static [u8]); 3],
+}
+
+impl Trial {
+    /// How the run ends where every call of the disk fails from this one on. An opening makes four
+    /// calls, a sync, the length and two reads, and each record four more, a write, a sync, a write
+    /// and a sync.
+    fn end_at(&self, stop: u64) -> (u8, &'static str, &'static str) {
+        match stop {
+            0..4 => self.ends[0],
+            4..8 => self.ends[1],
+            8..12 => self.ends[2],
+            _ => self.ends[3],
+        }
+    }
+
+    /// What a new life that found these records is told, and what its journal then has.
+    fn life_with(&self, first: bool, second: bool) -> (&'static str, &'static [u8]) {
+        if second {
+            self.lives[2]
+        } else if first {
+            self.lives[1]
+        } else {
+            self.lives[0]
+        }
+    }
+}
+
+// The ward behind this script, where this disk has these bytes and fails by plan.
+fn ward_behind(
+    rt: &(impl Threads + Wait + Sync),
+    alloc: Global,
+    disk: &str,
+    bytes: Vec<u8>,
+    plan: Plan,
+    script: &str,
+) -> Result<Stage, AllocError> {
+    let mut stage = ward(rt, alloc)?;
+    stage.put_disk(alloc, disk, bytes, plan)?;
+    batch(rt, alloc, &mut stage, script)?;
+    Ok(stage)
+}
+
+// The run, whose disk fails every call from this one on.
+fn stopped_run(
+    rt: &(impl Threads + Wait + Sync + Abort),
+    alloc: Global,
+    trial: &Trial,
+    stop: u64,
+) -> Result<Stage, AllocError> {
+    let empty = journal(alloc, &[0])?;
+    let plan = Plan::From(stop);
+    let stage = ward_behind(rt, alloc, trial.disk, empty, plan, trial.script)?;
+    let (status, output, complaint) = trial.end_at(stop);
+    stage.check(rt, status, output, complaint, output);
+    Ok(stage)
+}
+
+// Which of both records an image has. The third call of a record opens its gate, so an image may
+// have it from there on, and each has it behind the fourth, a sync.
+fn records_in(
+    rt: &impl Abort,
+    trial: &Trial,
+    image: &[u8],
+    stop: u64,
+    picked: u64,
+) -> (bool, bool) {
+    let first = is_open(image, 72);
+    let second = first && is_open(image, trial.second);
+    check_found(rt, first, 6, 8, stop, picked);
+    check_found(rt, second, 10, 12, stop, picked);
+    (first, second)
+}
+
+// A new life on an image of what the run left.
+fn new_life(
+    rt: &(impl Threads + Wait + Sync + Abort),
+    alloc: Global,
+    trial: &Trial,
+    stage: &Stage,
+    stop: u64,
+    picked: u64,
+) -> Result<(), AllocError> {
+    let image = image_of(alloc, stage, trial.disk, picked)?;
+    let (first, second) = records_in(rt, trial, &image, stop, picked);
+    let (told, behind) = trial.life_with(first, second);
+    let life = ward_behind(rt, alloc, trial.disk, image, Plan::Never, trial.ask)?;
+    life.check(rt, 0, told, "", "a new life");
+    let wanted = journal(alloc, behind)?;
+    life.check_front(rt, trial.disk, &wanted, picked);
+    Ok(())
+}
+
+// The run up to one stop, and a new life on each of the images that a crash may leave.
+fn check_stop(
+    rt: &(impl Threads + Wait + Sync + Abort),
+    alloc: Global,
+    trial: &Trial,
+    stop: u64,
+) -> Result<(), AllocError> {
+    let stage = stopped_run(rt, alloc, trial, stop)?;
+    for picked in 0..12 {
+        new_life(rt, alloc, trial, &stage, stop, picked)?;
+    }
+    Ok(())
+}
+
+// A stop at each call of the opening and of both records, and one behind them.
+fn check_stops(
+    rt: &(impl Threads + Wait + Sync + Abort),
+    alloc: Global,
+    trial: &Trial,
+) -> Result<(), AllocError> {
+    for stop in 0..13 {
+        check_stop(rt, alloc, trial, stop)?;
+    }
+    Ok(())
+}
+
+// Eve asks twice, and is told no. The new life asks whether `true` is.
+const ASKED: Trial = Trial {
+    disk: "d/eve.log",
+    script: "eve 1 ask drug(ann)\neve 1 ask hiv(bob)\n",
+    ends: [
+        (
+            10,
+            "eve 1 error 41\neve 1 error 41\n",
+            "cqe: journal eve disk fault\n",
+        ),
+        (11, "eve 1 error 40\neve 1 error 40\n", "cqe: disk fault\n"),
+        (11, "eve 1 no\neve 1 error 40\n", "cqe: disk fault\n"),
+        (0, "eve 1 no\neve 1 no\n", ""),
+    ],
+    second: 85,
+    ask: "eve 1 ask true\n",
+    lives: [
+        ("eve 1 yes\n", b"\x01\x01\x00\x04true\x00"),
+        (
+            "eve 1 yes\n",
+            b"\x01\x02\x00\x09drug(ann)\x01\x01\x00\x04true\x00",
+        ),
+        (
+            "eve 1 yes\n",
+            b"\x01\x02\x00\x09drug(ann)\x01\x02\x00\x08hiv(bob)\x01\x01\x00\x04true\x00",
+        ),
+    ],
+};
+
+// A new life finds the entries whose gates stand open: of each ask that was told its mark, and of
+// none that was never written.
 #[test]
 fn a_crash_leaves_what_was_told(rt: HostRuntime) -> Result<(), Fail> {
     let alloc = rt.alloc();
-    for stop in 0..9 {
-        let stage = stopped_asks(&rt, alloc, stop)?;
-        for picked in 0..12 {
-            asked_life(&rt, alloc, &stage, stop, picked)?;
-        }
-    }
+    check_stops(&rt, alloc, &ASKED)?;
     Ok(())
 }
 
-// Two asks up to the stop.
-fn stopped_asks(
-    rt: &(impl Threads + Wait + Sync + Abort),
-    alloc: Global,
-    stop: u64,
-) -> Result<Stage, AllocError> {
-    let mut stage = ward_of_eve(rt, alloc, Plan::From(stop.saturating_add(4)))?;
-    let script = "eve 1 ask drug(ann)\neve 1 ask hiv(bob)\n";
-    batch(rt, alloc, &mut stage, script)?;
-    let (status, output, complaint) = match stop {
-        0..4 => (11, "eve 1 error 40\neve 1 error 40\n", "cqe: disk fault\n"),
-        4..8 => (11, "eve 1 no\neve 1 error 40\n", "cqe: disk fault\n"),
-        _ => (0, "eve 1 no\neve 1 no\n", ""),
-    };
-    stage.check(rt, status, output, complaint, output);
-    Ok(stage)
-}
+// Eve asks once, and a secret is added. The new life asks for what tells the secret.
+const ADDED: Trial = Trial {
+    disk: "d/eve.log",
+    script: "eve 1 ask true\neve op protect drug(bob)\n",
+    ends: [
+        (
+            10,
+            "eve 1 error 41\neve op error 41\n",
+            "cqe: journal eve disk fault\n",
+        ),
+        (11, "eve 1 error 40\neve op error 40\n", "cqe: disk fault\n"),
+        (11, "eve 1 yes\neve op error 40\n", "cqe: disk fault\n"),
+        (0, "eve 1 yes\neve op protected\n", ""),
+    ],
+    second: 80,
+    ask: "eve 1 ask drug(bob) or drug(ann)\n",
+    lives: [
+        ("eve 1 yes\n", b"\x01\x01\x00\x16drug(bob) or drug(ann)\x00"),
+        (
+            "eve 1 yes\n",
+            b"\x01\x01\x00\x04true\x01\x01\x00\x16drug(bob) or drug(ann)\x00",
+        ),
+        (
+            "eve 1 no\n",
+            b"\x01\x01\x00\x04true\x01\x05\x00\x09drug(bob)\x01\x02\x00\x16drug(bob) or drug(ann)\x00",
+        ),
+    ],
+};
 
-// A new life on an image of eve's disk, which asks whether `true` is.
-fn asked_life(
-    rt: &(impl Threads + Wait + Sync + Abort),
-    alloc: Global,
-    stage: &Stage,
-    stop: u64,
-    picked: u64,
-) -> Result<(), AllocError> {
-    let image = image_of(alloc, stage, "d/eve.log", picked)?;
-    let first = is_open(&image, 72);
-    let second = first && is_open(&image, 85);
-    check_found(rt, first, 2, 4, stop, picked);
-    check_found(rt, second, 6, 8, stop, picked);
-    let life = life_on(rt, alloc, image, "eve 1 ask true\n")?;
-    life.check(rt, 0, "eve 1 yes\n", "", "a new life");
-    let wanted = asked_journal(alloc, first, second)?;
-    life.check_front(rt, "d/eve.log", &wanted, picked);
-    Ok(())
-}
-
-// The ward behind this script, where eve's disk begins with these bytes.
-fn life_on(
-    rt: &(impl Threads + Wait + Sync),
-    alloc: Global,
-    image: Vec<u8>,
-    script: &str,
-) -> Result<Stage, AllocError> {
-    let mut life = ward(rt, alloc)?;
-    life.put_disk(alloc, "d/eve.log", image, Plan::Never)?;
-    batch(rt, alloc, &mut life, script)?;
-    Ok(life)
-}
-
-// Eve's journal behind a new life that asks `true` of an image: with the records of her asks
-// `drug(ann)` and `hiv(bob)`, which are answered no, and with the new one.
-fn asked_journal(alloc: Global, first: bool, second: bool) -> Result<Vec<u8>, AllocError> {
-    let mut bytes = journal(alloc, &[])?;
-    if first {
-        bytes.extend_from_slice(b"\x01\x02\x00\x09drug(ann)")?;
-    }
-    if second {
-        bytes.extend_from_slice(b"\x01\x02\x00\x08hiv(bob)")?;
-    }
-    bytes.extend_from_slice(b"\x01\x01\x00\x04true\x00")?;
-    Ok(bytes)
-}
-
-// A stop at each call of an ask and of an addition. A secret that was told to be added is there in
-// each new life: what tells it then gets a lie, and without it the truth.
+// A secret that was told to be added is there in each new life: what tells it then gets a lie, and
+// without it the truth.
 #[test]
 fn a_crash_leaves_the_secret_that_was_added(rt: HostRuntime) -> Result<(), Fail> {
     let alloc = rt.alloc();
-    for stop in 0..9 {
-        let stage = stopped_addition(&rt, alloc, stop)?;
-        for picked in 0..12 {
-            protected_life(&rt, alloc, &stage, stop, picked)?;
-        }
-    }
+    check_stops(&rt, alloc, &ADDED)?;
     Ok(())
 }
 
-// An ask and an addition up to the stop.
-fn stopped_addition(
-    rt: &(impl Threads + Wait + Sync + Abort),
-    alloc: Global,
-    stop: u64,
-) -> Result<Stage, AllocError> {
-    let mut stage = ward_of_eve(rt, alloc, Plan::From(stop.saturating_add(4)))?;
-    let script = "eve 1 ask true\neve op protect drug(bob)\n";
-    batch(rt, alloc, &mut stage, script)?;
-    let (status, output, complaint) = match stop {
-        0..4 => (11, "eve 1 error 40\neve op error 40\n", "cqe: disk fault\n"),
-        4..8 => (11, "eve 1 yes\neve op error 40\n", "cqe: disk fault\n"),
-        _ => (0, "eve 1 yes\neve op protected\n", ""),
-    };
-    stage.check(rt, status, output, complaint, output);
-    Ok(stage)
-}
-
-// A new life on an image of eve's disk, which asks for what tells the added secret.
-fn protected_life(
-    rt: &(impl Threads + Wait + Sync + Abort),
-    alloc: Global,
-    stage: &Stage,
-    stop: u64,
-    picked: u64,
-) -> Result<(), AllocError> {
-    let image = image_of(alloc, stage, "d/eve.log", picked)?;
-    let first = is_open(&image, 72);
-    let second = first && is_open(&image, 80);
-    check_found(rt, first, 2, 4, stop, picked);
-    check_found(rt, second, 6, 8, stop, picked);
-    let life = life_on(rt, alloc, image, "eve 1 ask drug(bob) or drug(ann)\n")?;
-    let told = if second { "eve 1 no\n" } else { "eve 1 yes\n" };
-    life.check(rt, 0, told, "", "a new life");
-    let wanted = protected_journal(alloc, first, second)?;
-    life.check_front(rt, "d/eve.log", &wanted, picked);
-    Ok(())
-}
-
-// Eve's journal behind a new life that asks `drug(bob) or drug(ann)` of an image: with the record
-// of her ask `true`, with that of the addition, and with the new one.
-fn protected_journal(alloc: Global, first: bool, second: bool) -> Result<Vec<u8>, AllocError> {
-    let mut bytes = journal(alloc, &[])?;
-    if first {
-        bytes.extend_from_slice(b"\x01\x01\x00\x04true")?;
-    }
-    if second {
-        bytes.extend_from_slice(b"\x01\x05\x00\x09drug(bob)")?;
-    }
-    bytes.extend_from_slice(if second {
-        b"\x01\x02\x00\x16"
-    } else {
-        b"\x01\x01\x00\x16"
-    })?;
-    bytes.extend_from_slice(b"drug(bob) or drug(ann)\x00")?;
-    Ok(bytes)
-}
-
-// Kim's journal behind a new life that asks `hiv(ann)` of an image: with the record of her first
-// ask, with that of the second, and with the new one.
-fn kims_journal(alloc: Global, first: bool, second: bool) -> Result<Vec<u8>, AllocError> {
-    let mut bytes = journal(alloc, &[])?;
-    if first {
-        bytes.extend_from_slice(b"\x01\x01\x00\x14hiv(ann) or hiv(bob)")?;
-    }
-    if second {
-        bytes.extend_from_slice(b"\x01\x03\x00\x08hiv(ann)")?;
-    }
-    bytes.extend_from_slice(if first {
-        b"\x01\x03\x00\x08hiv(ann)\x00"
-    } else {
-        b"\x01\x02\x00\x08hiv(ann)\x00"
-    })?;
-    Ok(bytes)
-}
-
-// What kim is told of her two asks where her disk fails every call from this one on, with the
-// status and the complaint.
-fn told_before(stop: u64) -> (u8, &'static str, &'static str) {
-    match stop {
-        0..4 => (
+// Kim asks whether one of both has hiv, and then whether ann has it, which the new life asks too.
+const REFUSED: Trial = Trial {
+    disk: "d/kim.log",
+    script: "kim 1 ask hiv(ann) or hiv(bob)\nkim 1 ask hiv(ann)\n",
+    ends: [
+        (
             10,
             "kim 1 error 41\nkim 1 error 41\n",
             "cqe: journal kim disk fault\n",
         ),
-        4..8 => (11, "kim 1 error 40\nkim 1 error 40\n", "cqe: disk fault\n"),
-        8..12 => (11, "kim 1 yes\nkim 1 error 40\n", "cqe: disk fault\n"),
-        _ => (0, "kim 1 yes\nkim 1 refused\n", ""),
-    }
-}
+        (11, "kim 1 error 40\nkim 1 error 40\n", "cqe: disk fault\n"),
+        (11, "kim 1 yes\nkim 1 error 40\n", "cqe: disk fault\n"),
+        (0, "kim 1 yes\nkim 1 refused\n", ""),
+    ],
+    second: 96,
+    ask: "kim 1 ask hiv(ann)\n",
+    lives: [
+        ("kim 1 no\n", b"\x01\x02\x00\x08hiv(ann)\x00"),
+        (
+            "kim 1 refused\n",
+            b"\x01\x01\x00\x14hiv(ann) or hiv(bob)\x01\x03\x00\x08hiv(ann)\x00",
+        ),
+        (
+            "kim 1 refused\n",
+            b"\x01\x01\x00\x14hiv(ann) or hiv(bob)\x01\x03\x00\x08hiv(ann)\x01\x03\x00\x08hiv(ann)\x00",
+        ),
+    ],
+};
 
-// A stop at each call of an opening and of two asks. Who has been told that one of both has hiv is
-// refused whether it is ann; who hasn't is told no. So a new life shows what it found: behind a
-// reply that was told its entry, and none that was never written.
+// Who has been told that one of both has hiv is refused whether it is ann; who hasn't is told no.
+// So a new life shows what it found.
 #[test]
 fn a_new_life_answers_by_what_it_finds(rt: HostRuntime) -> Result<(), Fail> {
     let alloc = rt.alloc();
-    for stop in 0..13 {
-        let stage = stopped_opening(&rt, alloc, stop)?;
-        for picked in 0..12 {
-            kims_life(&rt, alloc, &stage, stop, picked)?;
-        }
-    }
-    Ok(())
-}
-
-// An opening of kim's disk and two asks up to the stop.
-fn stopped_opening(
-    rt: &(impl Threads + Wait + Sync + Abort),
-    alloc: Global,
-    stop: u64,
-) -> Result<Stage, AllocError> {
-    let empty = journal(alloc, &[0])?;
-    let mut stage = ward_with(alloc, "d/kim.log", empty, Plan::From(stop))?;
-    let script = "kim 1 ask hiv(ann) or hiv(bob)\nkim 1 ask hiv(ann)\n";
-    batch(rt, alloc, &mut stage, script)?;
-    let (status, output, complaint) = told_before(stop);
-    stage.check(rt, status, output, complaint, output);
-    Ok(stage)
-}
-
-// A new life on an image of kim's disk, which asks for ann.
-fn kims_life(
-    rt: &(impl Threads + Wait + Sync + Abort),
-    alloc: Global,
-    stage: &Stage,
-    stop: u64,
-    picked: u64,
-) -> Result<(), AllocError> {
-    let image = image_of(alloc, stage, "d/kim.log", picked)?;
-    let first = is_open(&image, 72);
-    let second = first && is_open(&image, 96);
-    check_found(rt, first, 6, 8, stop, picked);
-    check_found(rt, second, 10, 12, stop, picked);
-    let mut life = ward_with(alloc, "d/kim.log", image, Plan::Never)?;
-    batch(rt, alloc, &mut life, "kim 1 ask hiv(ann)\n")?;
-    let told = if first {
-        "kim 1 refused\n"
-    } else {
-        "kim 1 no\n"
-    };
-    life.check(rt, 0, told, "", "a new life");
-    let wanted = kims_journal(alloc, first, second)?;
-    life.check_front(rt, "d/kim.log", &wanted, picked);
+    check_stops(&rt, alloc, &REFUSED)?;
     Ok(())
 }

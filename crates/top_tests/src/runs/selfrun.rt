@@ -1,6 +1,6 @@
 //! Workloads that the program makes and runs itself.
 use super::failing::CALLS;
-use super::{Stage, failing_sink};
+use super::{Stage, counted, failing_sink, holds, same};
 use outside::{MemorySink, Pieces, Plan};
 use std::alloc::{AllocError, Global};
 use std::process::Abort;
@@ -31,7 +31,7 @@ fn summary(
     words: &[&str],
 ) -> Result<Vec<u8>, AllocError> {
     let stage = selfrun(rt, alloc, words, MemorySink::new(alloc))?;
-    assert_eq!(rt; stage.status, 0);
+    stage.check_status(rt, 0);
     stage.sink.bytes().to_vec(alloc)
 }
 
@@ -48,7 +48,7 @@ fn the_replies_of_a_workload_are_counted(rt: HostRuntime) -> Result<(), Fail> {
     let alloc = rt.alloc();
     let found = summary(&rt, alloc, &WORDS)?;
     let again = summary(&rt, alloc, &WORDS)?;
-    super::same(&rt, &found, &again, "the same workload");
+    same(&rt, &found, &again, "the same workload");
     let Ok(text) = str::from_utf8(&found) else {
         return Err(Fail::from(AllocError));
     };
@@ -57,9 +57,11 @@ fn the_replies_of_a_workload_are_counted(rt: HostRuntime) -> Result<(), Fail> {
 }
 
 fn check_summary(rt: &impl Abort, text: &str) {
-    assert!(rt; text.starts_with("seed 7\nusers 3\nasks 60\nyes "));
-    assert!(rt; text.ends_with("\nerrors 0\n"));
-    assert_eq!(rt; marks_in(text), 60);
+    let first = "seed 7\nusers 3\nasks 60\nyes ";
+    holds(rt, text.starts_with(first), first);
+    let last = "\nerrors 0\n";
+    holds(rt, text.ends_with(last), last);
+    counted(rt, marks_in(text) as usize, 60, "marks");
 }
 
 // How many of the four marks were given.
@@ -87,7 +89,7 @@ fn a_summary_may_be_cut(rt: HostRuntime) -> Result<(), Fail> {
 fn a_summary_may_be_cut_at_any_call(rt: HostRuntime) -> Result<(), Fail> {
     let alloc = rt.alloc();
     let whole = summary(&rt, alloc, &SHORT)?;
-    assert!(rt; whole.len() > 40);
+    holds(&rt, whole.len() > 40, "more bytes than calls");
     for call in 0..CALLS {
         a_write_fails(&rt, alloc, &whole, call)?;
     }
@@ -107,8 +109,8 @@ fn a_write_fails(
 }
 
 fn check_cut(rt: &impl Abort, stage: &Stage, whole: &[u8], call: u64) {
-    assert_eq!(rt; stage.status, 7);
-    super::same(
+    stage.check_status(rt, 7);
+    same(
         rt,
         stage.complaints.bytes(),
         b"cqe: write fault\n",

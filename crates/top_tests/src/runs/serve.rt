@@ -1,6 +1,6 @@
 //! Servers over links in memory.
 use super::ward::{FACTS, JOURNALS, POLICY, files_by, init, journal, stage_of, ward, ward_of_eve};
-use super::{Fails, Stage, failing_at, same};
+use super::{Fails, Stage, counted, counted_at, failing_at, same};
 use outside::{
     Connection, Finished, Gate, MemoryLinks, MemorySink, MemorySource, OpenGate, Plan, Point,
 };
@@ -109,10 +109,20 @@ fn rows_of(rt: &impl Abort, client: &Finished, rows: &[(&str, &str)]) -> usize {
     count
 }
 
+// So many clients were served; each who sent the text of a row has got its answer.
+fn check_count(rt: &impl Abort, stage: &Stage, rows: &[(&str, &str)], count: usize) {
+    counted(
+        rt,
+        served(rt, stage, rows),
+        count,
+        "clients that were served",
+    );
+}
+
 /// One client was served, who sent this text and got this answer, where this call failed.
 pub(super) fn check_served(rt: &impl Abort, stage: &Stage, text: &str, answer: &str, call: u64) {
     let count = served(rt, stage, &[(text, answer)]);
-    assert_eq!(rt; count, 1, "{answer}, call {call}");
+    counted_at(rt, count, 1, answer, call);
 }
 
 /// What clients of the ward send, in any order, and what they get: eve is told no of what is true
@@ -172,11 +182,12 @@ fn each_worker_has_a_door(rt: HostRuntime) -> Result<(), Fail> {
 
 // It listened once, with so many doors.
 fn check_listened(rt: &impl Abort, stage: &Stage, doors: u32) {
-    assert_eq!(rt; stage.links.faults(), 0);
-    assert_eq!(rt; stage.links.listened().len(), 1);
-    for place in stage.links.listened() {
-        assert_eq!(rt; place.address.as_str(), "here");
-        assert_eq!(rt; place.doors, doors);
+    counted(rt, stage.links.faults() as usize, 0, "faults of the links");
+    let places = stage.links.listened();
+    counted(rt, places.len(), 1, "places");
+    for place in places {
+        same(rt, place.address.as_bytes(), b"here", "the address");
+        counted(rt, place.doors as usize, doors as usize, "doors");
     }
 }
 
@@ -193,9 +204,9 @@ fn nobody_listens(rt: HostRuntime) -> Result<(), Fail> {
 
 // No client came, and no journal was taken.
 fn check_untouched(rt: &impl Abort, stage: &Stage) {
-    assert_eq!(rt; stage.links.left(), 5);
+    stage.check_left(rt, 5);
     for name in JOURNALS {
-        assert!(rt; !stage.has_disk(name), "{name}");
+        stage.check_no_disk(rt, name);
     }
 }
 
@@ -214,8 +225,8 @@ fn a_door_fails(rt: HostRuntime) -> Result<(), Fail> {
 
 // The first client alone came.
 fn check_one_visit(rt: &impl Abort, alloc: Global, stage: &Stage) -> Result<(), AllocError> {
-    assert_eq!(rt; served(rt, stage, &CLIENTS), 1);
-    assert_eq!(rt; stage.links.left(), 4);
+    check_count(rt, stage, &CLIENTS, 1);
+    stage.check_left(rt, 4);
     let wanted = journal(
         alloc,
         b"\x01\x02\x00\x09drug(ann)\x01\x02\x00\x08hiv(bob)\x00",
@@ -269,7 +280,7 @@ fn a_shelf_fails(
     stage.set_links(links);
     serve(rt, alloc, &[], &mut stage)?;
     stage.check(rt, status, "", complaint, complaint);
-    assert_eq!(rt; stage.links.left(), 5);
+    stage.check_left(rt, 5);
     Ok(())
 }
 
@@ -355,7 +366,7 @@ fn a_failed_append_is_told_in_later_sessions_too(rt: HostRuntime) -> Result<(), 
     stage.set_links(links_of(alloc, &[asks, asks, asks])?);
     serve(&rt, alloc, &["--workers", "1"], &mut stage)?;
     stage.check(&rt, 11, "", "cqe: disk fault\n", "three sessions");
-    assert_eq!(rt; served(&rt, &stage, &[(asks, "welcome\nerror 40\n")]), 3);
+    check_count(&rt, &stage, &[(asks, "welcome\nerror 40\n")], 3);
     Ok(())
 }
 
@@ -437,7 +448,8 @@ fn users_are_served_side_by_side(rt: HostRuntime) -> Result<(), Fail> {
     };
     serve_by(&rt, alloc, &["--workers=2"], &mut stage, &hold)?;
     stage.check(&rt, 0, "", "", "two users");
-    assert_eq!(rt; served(&rt, &stage, &TWO_CLIENTS), 2);
-    assert_eq!(rt; hold.given_up.load(SeqCst), 0);
+    check_count(&rt, &stage, &TWO_CLIENTS, 2);
+    let given_up = hold.given_up.load(SeqCst);
+    counted(&rt, given_up as usize, 0, "asks that were given up");
     Ok(())
 }

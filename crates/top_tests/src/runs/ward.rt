@@ -6,8 +6,8 @@ use std::process::Abort;
 use std::sync::Wait;
 use std::thread::Threads;
 
-// Two persons, and six users: one is lied to, one refused, one both; and three of whom each knows
-// too much.
+/// Two persons, and six users: one is lied to, one refused, one both; and three of whom each knows
+/// too much.
 pub(super) const POLICY: &str = "version = 1\n
 [domains]
 person = [\"ann\", \"bob\"]\n
@@ -47,7 +47,7 @@ know = [\"hiv(bob)\"]
 secrets = [\"hiv(ann)\"]
 ";
 
-// Ann takes the drug and has hiv.
+/// Ann takes the drug and has hiv.
 pub(super) const FACTS: &str = "hiv(ann)\ndrug(ann)\n";
 
 // The SHA-256 of the policy's and of the facts' bytes, taken by another program.
@@ -61,11 +61,13 @@ const FACTS_DIGEST: [u8; 32] = [
     181, 196, 185, 119, 95, 82, 137, 92, 253, 226, 5,
 ];
 
-/// The words of `init`, of `batch` and of eve's `audit`.
+/// The words of `init`.
 pub(super) const INIT: [&str; 7] = ["init", "--policy", "p", "--facts", "f", "--journals", "d"];
 
+/// The words of `batch`.
 pub(super) const BATCH: [&str; 7] = ["batch", "--policy", "p", "--facts", "f", "--journals", "d"];
 
+/// The words of eve's `audit`; the last one is the user.
 pub(super) const AUDIT: [&str; 9] = [
     "audit",
     "--policy",
