@@ -6,7 +6,7 @@ ghost use Rattle.cqe_base.specs.Entailment.{are_sentences_of};
 ghost use Rattle.entailment.specs.Logs.{log_nodes, sentence_nodes};
 ghost use Rattle.entailment.specs.Views.{schema_of, log_of};
 ghost use Rattle.entailment.specs.GroundSentences.{IsGroundOver};
-ghost use Rattle.entailment.specs.Probes.{premise_list, IsGroundPremise};
+ghost use Rattle.entailment.specs.Probes.{premise_list, premise_of, goal_of, IsGroundPremise};
 
 use clause_store::literal::Lit;
 use clause_store::refutation::{Line, Refutation};
@@ -132,6 +132,19 @@ fn premise_fits(schema: &Schema, premise: Option<(&GroundSentence, bool)>) -> bo
     }
 }
 
+/// Whether the goal of a probe fits, and its further premise where it has one.
+fn probe_fits(schema: &Schema, probe: &Probe<'_>) -> bool
+    ensures goal { IsTrue result → is_sentence_of schema.now (goal_of probe.now).0 ≡ true }
+    ensures small_goal { IsTrue result → nodes schema.now (goal_of probe.now).0 ≤ 10000 }
+    ensures premise { IsTrue result
+        → are_sentences_of schema.now (premise_of probe.now) ≡ true }
+    ensures small_premise { IsTrue result
+        → sentence_nodes schema.now (premise_of probe.now) ≤ 10000 }
+{
+    let (goal, _) = probe.goal;
+    fits(schema, &goal.sentence) && premise_fits(schema, probe.premise)
+}
+
 /// The view of a user who knows the rule.
 #[tactic(auto, unfolding(cqe_base::specs::History::known))]
 fn rule_view<'s>(rt: &impl Abort, alloc: Global, schema: &'s Schema) -> View<'s>
@@ -175,9 +188,7 @@ fn found(
     ensures schema { schema_of view.new ≡ schema_of view.old }
     ensures log { log_of view.new ≡ log_of view.old }
 {
-    let (goal, _) = probe.goal;
-    assert!(rt; fits(schema, &goal.sentence));
-    assert!(rt; premise_fits(schema, probe.premise));
+    assert!(rt; probe_fits(schema, probe));
     assert!(rt; budget <= 4_000_000);
     match test(alloc, view, probe, budget) {
         Ok(verdict) => words(rt, alloc, &verdict),
@@ -449,9 +460,7 @@ fn is_confirmed(
         premise: Some(premise),
         goal,
     };
-    let (sentence, _) = goal;
-    assert!(rt; fits(schema, &sentence.sentence));
-    assert!(rt; premise_fits(schema, probe.premise));
+    assert!(rt; probe_fits(schema, &probe));
     match confirm(alloc, view, &probe, refutation) {
         Ok(confirmed) => confirmed,
         Err(_) => panic!(rt; "no memory to confirm"),
@@ -479,9 +488,7 @@ fn refutation_of(
         premise: Some(premise),
         goal,
     };
-    let (sentence, _) = goal;
-    assert!(rt; fits(schema, &sentence.sentence));
-    assert!(rt; premise_fits(schema, probe.premise));
+    assert!(rt; probe_fits(schema, &probe));
     assert!(rt; budget <= 4_000_000);
     match certify(alloc, view, &probe, budget) {
         Ok(found) => shown_by(found),
