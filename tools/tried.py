@@ -1,7 +1,7 @@
 """tried.py TREE: the table 'What was tried' of docs/GATE.md anew."""
 import re,os,glob,sys
 root=sys.argv[1]; p=f'{root}/docs/GATE.md'; s=open(p).read()
-changed={'outside','log_journal','standby_core','user_desk','desk_counter','desk_crew','audit_engine','dossier_engine','batch_engine','serve_engine','standby_engine','cqe_top','entailment','dossier'}
+changed=set()
 n=lambda d: len(glob.glob(f'{root}/{d}/*.edit'))
 today={}
 for f in glob.glob('/work/helpers/M/wb-*.out'):

@@ -5,7 +5,7 @@ d=/work/helpers/W-$c
 rm -rf $d; git clone -q /work/helpers/m $d && cd $d || exit 1
 rm -rf crates/*/must-fail; mkdir crates/$c/must-fail
 if [ $# = 0 ]; then cp wrong-bodies/$c/*.edit crates/$c/must-fail/; else for n in "$@"; do cp wrong-bodies/$c/$n.edit crates/$c/must-fail/; done; fi
-export RT_JOBS=1
+export RT_JOBS=${WBJ:-1}
 date +%s > $out.t0
 rt ci $c > $out 2>&1
 date +%s > $out.t1
